@@ -7,7 +7,12 @@
 //! for `live_range`, `logs` for `undo_log` and `step_count`, `arenas` for `node_arena` and
 //! `point_order`, `styles` for `node_styles`, `steps` for `edit_steps`, `parts` for `edit_parts`,
 //! `pages` for `page_read` and `page_write`, `acts` for `script_read`, `lines` and `applying` for
-//! `step_text`, `faults` for what the faults of all of them print. `trees` makes the nodes.
+//! `step_text`, `faults` for what the faults of all of them print. `trees` makes the nodes, and
+//! `rows` names the row of a table that is not met.
+//!
+//! The proof that a value is let go is made again on each way out of the function that owns it, and
+//! of points, arenas, lists and texts it takes long. So a function here owns one such value, calls
+//! what is tested by reference, and ends on one way; the tests answer whether all is as it should.
 #![tactic(auto)]
 
 #[cfg(test)]

@@ -8,6 +8,7 @@ mod names;
 mod pages;
 mod parts;
 mod points;
+mod rows;
 mod steps;
 mod streams;
 mod styles;

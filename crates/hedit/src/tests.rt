@@ -1,7 +1,10 @@
-//! Sessions and pages with what they answer.
+//! Sessions and pages with what they answer, and what faults print.
+//!
+//! What a function owns it lets go on as few ways as can be: the proof of that is made again on each.
 mod block;
 mod deletion;
 mod editing;
+mod faults;
 mod formatting;
 mod object;
 mod page_blocks;
@@ -174,23 +177,30 @@ fn answers_sessions(rt: HostRuntime) -> Result<(), Fail> {
     assert_runs(&rt, rt.alloc(), &RUNS)
 }
 
+// Whether a page is refused with this answer.
+fn is_refused(alloc: Global, page: &[u8], answer: &str) -> Result<bool, AllocError> {
+    let (ended, written) = answer_to(alloc, "check", page)?;
+    Ok(ended == Status::PageRefused && written.as_slice() == answer.as_bytes())
+}
+
+fn is_unclosed(alloc: Global, page: &[u8], at: usize) -> Result<bool, AllocError> {
+    let answer = format!(in alloc; "! page {at} unclosed\n")?;
+    is_refused(alloc, page, answer.as_str())
+}
+
 #[test]
 fn answers_bytes_and_beginnings_of_pages(rt: HostRuntime) -> Result<(), Fail> {
-    let (ended, written) = answer_to(rt.alloc(), "check", [255].as_slice())?;
-    assert_eq!(rt; ended, Status::PageRefused);
-    assert_eq!(rt; written.as_slice(), b"! page 0 not-utf8\n".as_slice());
+    assert!(rt; is_refused(rt.alloc(), [255].as_slice(), "! page 0 not-utf8\n")?);
     let page = b"<div><p a=\"1\">x</p></div>";
     for k in 1..25 {
-        let (ended, written) = answer_to(rt.alloc(), "check", &page[..k])?;
-        let wanted = format!(in rt.alloc(); "! page {k} unclosed\n")?;
-        assert_eq!(rt; ended, Status::PageRefused);
-        assert_eq!(rt; written.as_slice(), wanted.as_bytes());
+        let unclosed = is_unclosed(rt.alloc(), &page[..k], k)?;
+        assert!(rt; unclosed, "{k}");
     }
     Ok(())
 }
 
 // A long page.
-#[derive(Clone, Copy, Debug)]
+#[derive(Clone, Copy)]
 enum Long {
     // So many start tags of `b`, and so many end tags.
     Nested(usize),
@@ -238,13 +248,18 @@ static LIMITS: [(Long, Status, &str); 6] = [
     (Long::Letters(8388609), Status::TooLong, ""),
 ];
 
+// Whether the program ends so on a long page, and answers this.
+fn is_met(alloc: Global, long: Long, status: Status, output: &str) -> Result<bool, AllocError> {
+    let page = long_page(alloc, long)?;
+    let (ended, written) = answer_to(alloc, "check", &page)?;
+    Ok(ended == status && written.as_slice() == output.as_bytes())
+}
+
 #[test]
 fn answers_at_the_limits(rt: HostRuntime) -> Result<(), Fail> {
     for (long, status, output) in &LIMITS {
-        let page = long_page(rt.alloc(), *long)?;
-        let (ended, written) = answer_to(rt.alloc(), "check", &page)?;
-        assert_eq!(rt; ended, *status, "{long:?}");
-        assert_eq!(rt; written.as_slice(), output.as_bytes(), "{long:?}");
+        let met = is_met(rt.alloc(), *long, *status, output)?;
+        assert!(rt; met, "{output}");
     }
     Ok(())
 }
@@ -263,47 +278,82 @@ const BOLD: &str =
 const MADE_BOLD: &str =
     "ok\ntrue\n<div contenteditable=\"true\"><p>f<b>oob</b>ar</p></div>\n<div contenteditable=\"true\">\n  <p>\n    \"f\"\n    <b>\n      \"oob\"\n    \"ar\"\nanchor 0/0/1/0:0\nfocus 0/0/1/0:3\nnodes 7 chars 6 next 7 edits 6 undo 1 redo 0\n";
 
-// A session from a source of pieces of seven bytes that fails at one call, into a sink of pieces of
-// five that does so.
+// A session in a source of pieces of seven bytes that fails at one call.
+fn source_of(alloc: Global, session: &str, failing: u64) -> Result<MemorySource, AllocError> {
+    Ok(MemorySource {
+        bytes: session.as_bytes().to_vec(alloc)?,
+        at: 0,
+        piece: 7,
+        failing: [failing].to_vec(alloc)?,
+        calls: 0,
+    })
+}
+
+// A sink of pieces of five bytes that fails at one call.
+fn sink_of(alloc: Global, failing: u64) -> Result<MemorySink, AllocError> {
+    Ok(MemorySink {
+        taken: Vec::new(alloc),
+        piece: 5,
+        failing: [failing].to_vec(alloc)?,
+        calls: 0,
+    })
+}
+
+fn run_into(
+    alloc: Global,
+    source: &mut MemorySource,
+    sink: &mut MemorySink,
+) -> Result<Status, AllocError> {
+    let words = words_of(alloc, "run")?;
+    Ok(run_session(alloc, &words, source, sink))
+}
+
 fn answer_failing(
     alloc: Global,
     session: &str,
     read: u64,
     write: u64,
 ) -> Result<(Status, MemorySource, MemorySink), AllocError> {
-    let words = words_of(alloc, "run")?;
-    let mut source = MemorySource {
-        bytes: session.as_bytes().to_vec(alloc)?,
-        at: 0,
-        piece: 7,
-        failing: [read].to_vec(alloc)?,
-        calls: 0,
-    };
-    let mut sink = MemorySink {
-        taken: Vec::new(alloc),
-        piece: 5,
-        failing: [write].to_vec(alloc)?,
-        calls: 0,
-    };
-    let status = run_session(alloc, &words, &mut source, &mut sink);
+    let mut source = source_of(alloc, session, read)?;
+    let mut sink = sink_of(alloc, write)?;
+    let status = run_into(alloc, &mut source, &mut sink)?;
     Ok((status, source, sink))
+}
+
+// How many reads and writes a session takes whose answer this is.
+fn calls_of(alloc: Global, session: &str, answer: &str) -> Result<Option<(u64, u64)>, AllocError> {
+    let (status, source, sink) = answer_failing(alloc, session, 1000, 1000)?;
+    let is_right = status == Status::Done && sink.taken.as_slice() == answer.as_bytes();
+    let calls = (source.calls, sink.calls);
+    Ok(if is_right { Some(calls) } else { None })
+}
+
+fn fails_reading(alloc: Global, session: &str, call: u64) -> Result<bool, AllocError> {
+    let (status, _, sink) = answer_failing(alloc, session, call, 1000)?;
+    Ok(status == Status::ReadFault && sink.taken.is_empty())
+}
+
+fn fails_writing(
+    alloc: Global,
+    session: &str,
+    answer: &str,
+    call: u64,
+) -> Result<bool, AllocError> {
+    let (status, _, sink) = answer_failing(alloc, session, 1000, call)?;
+    Ok(status == Status::WriteFault && answer.as_bytes().starts_with(&sink.taken))
 }
 
 #[test]
 fn answers_at_each_failing_call(rt: HostRuntime) -> Result<(), Fail> {
     for (session, answer) in [(EDITING, EDITED), (BOLD, MADE_BOLD)] {
-        let (status, source, sink) = answer_failing(rt.alloc(), session, 1000, 1000)?;
-        assert_eq!(rt; status, Status::Done);
-        assert_eq!(rt; sink.taken.as_slice(), answer.as_bytes());
-        for k in 0..source.calls {
-            let (status, _, sink) = answer_failing(rt.alloc(), session, k, 1000)?;
-            assert_eq!(rt; status, Status::ReadFault, "reading {k}");
-            assert_eq!(rt; sink.taken.len(), 0, "reading {k}");
+        let (reads, writes) = calls_of(rt.alloc(), session, answer)?.ok_or("another answer")?;
+        for k in 0..reads {
+            let fails = fails_reading(rt.alloc(), session, k)?;
+            assert!(rt; fails, "reading {k}");
         }
-        for k in 0..sink.calls {
-            let (status, _, failed) = answer_failing(rt.alloc(), session, 1000, k)?;
-            assert_eq!(rt; status, Status::WriteFault, "writing {k}");
-            assert!(rt; answer.as_bytes().starts_with(&failed.taken), "writing {k}");
+        for k in 0..writes {
+            let fails = fails_writing(rt.alloc(), session, answer, k)?;
+            assert!(rt; fails, "writing {k}");
         }
     }
     Ok(())

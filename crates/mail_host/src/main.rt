@@ -17,9 +17,6 @@ use script_read::{Path, Place};
 use std::alloc::{AllocError, Global};
 use std::process::ExitCode;
 
-#[cfg(test)]
-mod tests;
-
 const MAIL: &[u8] = b"<div contenteditable=\"true\"><h1>Plan</h1><p>Call Ann &amp; Bob.</p></div>";
 
 // No node of the page gets a label from here on.

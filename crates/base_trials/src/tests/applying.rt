@@ -3,14 +3,14 @@
 ghost use Rattle.std.specs.Prelude.{◌<◌, IfOk, length};
 ghost use Rattle.step_text.specs.Applying.{made_length, text_length};
 
-use super::trees::{Trial, found, label};
+use super::trees::{Trial, found, label, list_of};
 use node_arena::{Arena, Content};
 use std::alloc::Global;
 use std::test::Fail;
 use step_text::{Attributes, Chars, Made, Name, Replay, StepFault, StepLine, apply_step};
 
 // A line whose contents are short.
-#[derive(Clone, Copy, PartialEq, Eq, Debug)]
+#[derive(Clone, Copy)]
 enum Line {
     Entry,
     Element(u32, &'static [u8]),
@@ -35,12 +35,6 @@ fn text(alloc: Global, only: char) -> Result<Chars, Fail>
     ensures { IfOk result (λ words. length words < 9) }
 {
     Ok(Chars::from_slice(alloc, &[only])?)
-}
-
-fn attributes(alloc: Global) -> Result<Attributes, Fail> {
-    let mut list = Attributes::new(alloc);
-    list.insert(Name::from_slice(alloc, b"q")?, text(alloc, 'v')?)?;
-    Ok(list)
 }
 
 fn step(alloc: Global, line: Line) -> Result<StepLine, Fail>
@@ -76,7 +70,7 @@ fn step(alloc: Global, line: Line) -> Result<StepLine, Fail>
         Line::Tag(label, name) => StepLine::Tag {
             label,
             name: Name::from_slice(alloc, name)?,
-            attributes: attributes(alloc)?,
+            attributes: list_of(alloc, b"q", &['v'])?,
         },
     };
     Ok(step)
@@ -207,21 +201,21 @@ static DEEP: [(Line, Option<StepFault>); 12] = [
     (Line::Insert(1, 0, None), TOO_DEEP),
 ];
 
-// Applies lines, and answers the first that is refused otherwise than its row says.
+// Applies lines, and answers the place of the first that is refused otherwise than its row says.
 fn first_other(
     alloc: Global,
     arena: &mut Arena,
     rows: &[(Line, Option<StepFault>)],
-) -> Result<Option<Line>, Fail> {
-    for (line, fault) in rows {
+) -> Result<Option<usize>, Fail> {
+    for (at, (line, fault)) in rows.iter().enumerate() {
         if refusal(alloc, arena, *line)? != *fault {
-            return Ok(Some(*line));
+            return Ok(Some(at));
         }
     }
     Ok(None)
 }
 
-fn refuses_labels(alloc: Global, arena: &mut Arena) -> Result<Option<Line>, Fail> {
+fn refuses_labels(alloc: Global, arena: &mut Arena) -> Result<Option<usize>, Fail> {
     page(alloc, arena)?;
     let other = first_other(alloc, arena, &LABELS)?;
     if arena.next_label() != 8 {
@@ -230,7 +224,7 @@ fn refuses_labels(alloc: Global, arena: &mut Arena) -> Result<Option<Line>, Fail
     Ok(other)
 }
 
-fn refuses_places(alloc: Global, arena: &mut Arena) -> Result<Option<Line>, Fail> {
+fn refuses_places(alloc: Global, arena: &mut Arena) -> Result<Option<usize>, Fail> {
     page(alloc, arena)?;
     let other = first_other(alloc, arena, &PLACES)?;
     if place(arena, 1) != Some((Some(0), Some(4))) || contents(arena, 1).is_some() {
@@ -258,7 +252,7 @@ fn is_after(arena: &Arena) -> bool {
     changed && arena.next_label() == 13 && contents(arena, 8).is_none()
 }
 
-fn applies_lines(alloc: Global, arena: &mut Arena) -> Result<Option<Line>, Fail> {
+fn applies_lines(alloc: Global, arena: &mut Arena) -> Result<Option<usize>, Fail> {
     page(alloc, arena)?;
     let other = first_other(alloc, arena, &APPLIED)?;
     if !is_after(arena) {
@@ -268,14 +262,14 @@ fn applies_lines(alloc: Global, arena: &mut Arena) -> Result<Option<Line>, Fail>
 }
 
 // Makes 1,002 elements, of which each from the second to the thousandth stands in the one before.
-fn refuses_what_is_too_deep(alloc: Global, arena: &mut Arena) -> Result<Option<Line>, Fail> {
+fn refuses_what_is_too_deep(alloc: Global, arena: &mut Arena) -> Result<Option<usize>, Fail> {
     for label in 1..1_003 {
         let _ = refusal(alloc, arena, Line::Element(label, b"p"))?;
     }
     for label in 2..1_001 {
         let line = Line::Insert(label, label - 1, None);
         if refusal(alloc, arena, line)?.is_some() {
-            return Ok(Some(line));
+            return Ok(Some(label as usize));
         }
     }
     first_other(alloc, arena, &DEEP)
@@ -309,9 +303,9 @@ enum Lines {
 }
 
 impl Trial for Lines {
-    type Found = Option<Line>;
+    type Found = Option<usize>;
 
-    fn run(&self, alloc: Global, arena: &mut Arena) -> Result<Option<Line>, Fail> {
+    fn run(&self, alloc: Global, arena: &mut Arena) -> Result<Option<usize>, Fail> {
         match self {
             Lines::WithBadLabels => refuses_labels(alloc, arena),
             Lines::WithBadPlaces => refuses_places(alloc, arena),

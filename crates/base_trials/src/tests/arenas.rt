@@ -1,8 +1,9 @@
 //! Nodes made, linked, read, changed and given up in an arena, and the order of points in it.
 
-ghost use Rattle.std.specs.Prelude.{◌≡◌, ◌<◌};
+ghost use Rattle.std.specs.Prelude.{◌≡◌, ◌<◌, length};
 
-use super::trees::{Trial, element, found, label, name, put, words};
+use super::rows::assert_row;
+use super::trees::{Trial, element, found, label, list_of, name, put, words};
 use live_range::Point;
 use node_arena::{Arena, Attributes, Chars, Kind, MakeFault, NodeList, NodeRef};
 use point_order::{child_toward, comes_before, is_in_document, is_placed};
@@ -61,12 +62,9 @@ fn drop_loose(arena: &mut Arena, node: NodeRef) -> bool {
 
 // An element with this value of `contenteditable`.
 fn host(alloc: Global, arena: &mut Arena, tag: &str, value: &[char]) -> Result<NodeRef, Fail> {
-    let mut attributes = Attributes::new(alloc);
-    attributes.set(
-        &name(alloc, "contenteditable")?,
-        &Chars::from_slice(alloc, value)?,
-    )?;
-    Ok(arena.make_element(name(alloc, tag)?, attributes)?)
+    let tag = name(alloc, tag)?;
+    let attributes = list_of(alloc, b"contenteditable", value)?;
+    Ok(arena.make_element(tag, attributes)?)
 }
 
 fn remark(arena: &mut Arena, alloc: Global) -> Result<NodeRef, Fail> {
@@ -210,6 +208,13 @@ fn edits_right(arena: &Arena, nodes: [NodeRef; 5]) -> bool {
     inside && element && host && outside
 }
 
+fn swaps(alloc: Global, arena: &mut Arena, text: NodeRef, element: NodeRef) -> Result<bool, Fail> {
+    let mut new = Chars::from_slice(alloc, &['n', 'e', 'w'])?;
+    let mut list = Attributes::new(alloc);
+    let swapped = swap_text(arena, text, &mut new) && swap_list(arena, element, &mut list);
+    Ok(swapped && new.len() == 2 && list.len() == 1 && arena.char_count() == 4)
+}
+
 fn changes_right<L: Ledger>(
     alloc: Global,
     arena: &mut Arena,
@@ -217,16 +222,13 @@ fn changes_right<L: Ledger>(
     steps: &mut Steps<L>,
 ) -> Result<bool, Fail> {
     let [b, ab, i, c, x] = nodes;
-    let mut new = Chars::from_slice(alloc, &['n', 'e', 'w'])?;
-    let mut list = Attributes::new(alloc);
-    let swapped = swap_text(arena, ab, &mut new) && swap_list(arena, b, &mut list);
-    let old = new.len() == 2 && list.len() == 1 && arena.char_count() == 4;
+    let swapped = swaps(alloc, arena, ab, b)?;
     let taken = take(arena, c, steps) && matches!(shown(arena, i), Some(Facts { next: None, .. }));
     let gone = take(arena, b, steps) && drop_loose(arena, b) && !arena.holds(ab);
     let again = words(alloc, arena, &[])?;
     let stale = !arena.holds(ab) && !arena.holds(i) && !arena.holds(b) && arena.holds(x);
     let last = again.label == 6 && drop_last(arena, again) && arena.next_label() == 6;
-    Ok(swapped && old && taken && gone && stale && last)
+    Ok(swapped && taken && gone && stale && last)
 }
 
 fn page_right<L: Ledger>(alloc: Global, arena: &mut Arena, blank: Blank) -> Result<bool, Fail>
@@ -247,12 +249,12 @@ fn builds_reads_and_changes(alloc: Global, arena: &mut Arena) -> Result<bool, Fa
 
 fn draws_no_label_at_the_cap(alloc: Global, arena: &mut Arena) -> Result<bool, Fail> {
     let a = words(alloc, arena, &['a'])?;
-    let list = NodeList::from_slice(alloc, &[a])?;
     let full = arena.make_element(name(alloc, "b")?, Attributes::new(alloc));
-    Ok(list.as_slice() == [a].as_slice() && full == Err(MakeFault::Full))
+    let is_full = matches!(full, Err(MakeFault::Full));
+    let list = NodeList::from_slice(alloc, &[a])?;
+    Ok(is_full && list.as_slice() == [a].as_slice())
 }
 
-#[derive(Debug)]
 enum Nodes {
     Changed,
     AtTheCap,
@@ -270,33 +272,41 @@ impl Trial for Nodes {
 }
 
 // A trial, and for how many nodes there is room beside the document.
-static TRIALS: [(Nodes, u16); 2] = [(Nodes::Changed, 8), (Nodes::AtTheCap, 1)];
+static TRIALS: [(Nodes, u16, &str); 2] = [
+    (Nodes::Changed, 8, "builds, reads and changes"),
+    (Nodes::AtTheCap, 1, "draws no label at the cap"),
+];
 
 #[test]
 fn nodes_and_points(rt: HostRuntime) -> Result<(), Fail> {
-    for (trial, room) in &TRIALS {
-        assert!(rt; found(rt.alloc(), *room, trial)?, "{trial:?}");
+    for (trial, room, name) in &TRIALS {
+        assert_row(&rt, found(rt.alloc(), *room, trial)?, name);
     }
     Ok(())
 }
 
-#[test]
-fn drops_what_was_made(rt: HostRuntime) -> Result<(), Fail> {
-    let text = Chars::from_slice(rt.alloc(), &['a'])?;
-    let mut arena = Arena::new(rt.alloc(), 9)?;
-    let made = arena.make_words(text)?;
-    let was = arena.holds(made);
-    arena.drop_made(1);
-    let gone = !arena.holds(made) && arena.node_count() == 1 && arena.next_label() == 2;
-    arena.rewind(1);
-    assert!(rt; was && gone && arena.next_label() == 1);
-    Ok(())
+// Whether a node that is made in a new arena is dropped and its label drawn again. The arena is let
+// go on one way.
+fn drops_what_was_made(alloc: Global, text: Chars) -> Result<bool, Fail>
+    requires { length text < 9 }
+{
+    let mut arena = Arena::new(alloc, 9)?;
+    Ok(match arena.make_words(text) {
+        Ok(made) => {
+            let was = arena.holds(made);
+            arena.drop_made(1);
+            let gone = !arena.holds(made) && arena.node_count() == 1 && arena.next_label() == 2;
+            arena.rewind(1);
+            was && gone && arena.next_label() == 1
+        }
+        Err(_) => false,
+    })
 }
 
-#[test]
-fn orders_and_places(rt: HostRuntime) -> Result<(), Fail> {
-    let mut arena = Arena::new(rt.alloc(), 9)?;
-    let loose = arena.make_words(Chars::from_slice(rt.alloc(), &['a', 'b'])?)?;
+// The order of points in the document of a new arena, beside a loose Text node.
+fn orders_and_places(alloc: Global, text: Chars) -> Result<bool, Fail>
+    requires { length text < 9 }
+{
     let front = Point {
         label: 0,
         offset: 0,
@@ -305,10 +315,26 @@ fn orders_and_places(rt: HostRuntime) -> Result<(), Fail> {
         label: 0,
         offset: 1,
     };
-    assert!(rt; comes_before(&arena, front, past));
-    assert!(rt; !comes_before(&arena, past, front));
-    assert!(rt; child_toward(&arena, arena.document(), loose).is_none());
-    assert!(rt; is_in_document(&arena, 0) && !is_in_document(&arena, 1));
-    assert!(rt; is_placed(&arena, front) && !is_placed(&arena, past));
+    let mut arena = Arena::new(alloc, 9)?;
+    Ok(match arena.make_words(text) {
+        Ok(loose) => {
+            comes_before(&arena, front, past)
+                && !comes_before(&arena, past, front)
+                && child_toward(&arena, arena.document(), loose).is_none()
+                && is_in_document(&arena, 0)
+                && !is_in_document(&arena, 1)
+                && is_placed(&arena, front)
+                && !is_placed(&arena, past)
+        }
+        Err(_) => false,
+    })
+}
+
+#[test]
+fn drops_orders_and_places(rt: HostRuntime) -> Result<(), Fail> {
+    let text = Chars::from_slice(rt.alloc(), &['a'])?;
+    assert!(rt; drops_what_was_made(rt.alloc(), text)?);
+    let text = Chars::from_slice(rt.alloc(), &['a', 'b'])?;
+    assert!(rt; orders_and_places(rt.alloc(), text)?);
     Ok(())
 }

@@ -1,8 +1,8 @@
 //! Lines of a log that stand for a step, and lines that stand for none.
 
+use super::rows::assert_row;
 use std::alloc::Global;
-use std::test::Fail;
-use step_text::{StepFault, StepLine, print_step, read_step};
+use step_text::{Chars, StepFault, StepLine, print_step, read_step};
 
 // Lines that stand for a step.
 static LINES: [&str; 25] = [
@@ -154,70 +154,103 @@ static OTHERS: [&str; 117] = [
     "MAKE 4 <b>",
 ];
 
+fn prints(alloc: Global, step: &StepLine, line: &[u8]) -> bool {
+    match print_step(alloc, step) {
+        Ok(text) => text.as_slice() == line,
+        Err(_) => false,
+    }
+}
+
 // Whether the line stands for a step that prints as the line. Every other line is refused for its
 // syntax.
-fn is_line(alloc: Global, line: &[u8]) -> Result<bool, Fail> {
+fn is_line(alloc: Global, line: &[u8]) -> bool {
     match read_step(alloc, line) {
-        Ok(step) => Ok(print_step(alloc, &step)?.as_slice() == line),
-        Err(fault) => Ok(fault != StepFault::Syntax),
+        Ok(step) => prints(alloc, &step, line),
+        Err(fault) => fault != StepFault::Syntax,
     }
 }
 
+// Lines that stand for none, and are no text.
+static BYTES: [&[u8]; 3] = [
+    b"make 4 \"\xff\"",
+    b"make 4 <a a=\"\xc3\">",
+    b"make 4 <a \xc3=\"\">",
+];
+
 #[test]
-fn lines_are_read_and_printed(rt: HostRuntime) -> Result<(), Fail> {
+fn lines_are_read_and_printed_or_refused(rt: HostRuntime) {
     for line in &LINES {
-        assert!(rt; is_line(rt.alloc(), line.as_bytes())?, "{line}");
+        assert_row(&rt, is_line(rt.alloc(), line.as_bytes()), line);
     }
-    Ok(())
-}
-
-#[test]
-fn other_lines_are_refused(rt: HostRuntime) -> Result<(), Fail> {
     for line in &OTHERS {
-        assert!(rt; !is_line(rt.alloc(), line.as_bytes())?, "{line}");
+        assert_row(&rt, !is_line(rt.alloc(), line.as_bytes()), line);
     }
-    assert!(rt; !is_line(rt.alloc(), b"make 4 \"\xff\"")?);
-    assert!(rt; !is_line(rt.alloc(), b"make 4 <a a=\"\xc3\">")?);
-    assert!(rt; !is_line(rt.alloc(), b"make 4 <a \xc3=\"\">")?);
-    Ok(())
+    for line in &BYTES {
+        assert_row(&rt, !is_line(rt.alloc(), line), "no text");
+    }
 }
 
-#[test]
-fn a_step_is_what_its_line_says(rt: HostRuntime) -> Result<(), Fail> {
-    let tag = match read_step(rt.alloc(), b"tag 5 <a b=\"&lt;\\n\" c=\"\">") {
-        Ok(
+// What a line's step is to be.
+#[derive(Clone, Copy)]
+enum Wanted {
+    Tag,
+    Words,
+    Move,
+}
+
+fn is_value(value: Option<&Chars>) -> bool {
+    match value {
+        Some(value) => value.as_slice() == ['<', '\n'].as_slice(),
+        None => false,
+    }
+}
+
+fn is_wanted(step: &StepLine, wanted: Wanted) -> bool {
+    match (wanted, step) {
+        (
+            Wanted::Tag,
             StepLine::Tag {
-                label: 5,
+                label,
                 name,
                 attributes,
             },
         ) => {
-            name.as_slice() == b"a".as_slice()
+            *label == 5
+                && name.as_slice() == b"a".as_slice()
                 && attributes.len() == 2
-                && attributes
-                    .get(b"b")
-                    .is_some_and(|value| value.as_slice() == ['<', '\n'].as_slice())
+                && is_value(attributes.get(b"b"))
         }
-        _ => false,
-    };
-    assert!(rt; tag);
-    let words = match read_step(rt.alloc(), b"words 6 \"\\u{a0}\\\"\"") {
-        Ok(StepLine::Words { label: 6, words }) => {
-            words.as_slice() == ['\u{a0}', '"'].as_slice()
+        (Wanted::Words, StepLine::Words { label, words }) => {
+            *label == 6 && words.as_slice() == ['\u{a0}', '"'].as_slice()
         }
-        _ => false,
-    };
-    assert!(rt; words);
-    let place = match read_step(rt.alloc(), b"move 4 2 7") {
-        Ok(
+        (
+            Wanted::Move,
             StepLine::Move {
-                label: 4,
-                parent: 2,
-                before: Some(7),
+                label,
+                parent,
+                before,
             },
-        ) => true,
+        ) => *label == 4 && *parent == 2 && *before == Some(7),
         _ => false,
-    };
-    assert!(rt; place);
-    Ok(())
+    }
+}
+
+fn says(alloc: Global, line: &str, wanted: Wanted) -> bool {
+    match read_step(alloc, line.as_bytes()) {
+        Ok(step) => is_wanted(&step, wanted),
+        Err(_) => false,
+    }
+}
+
+static STEPS: [(&str, Wanted); 3] = [
+    ("tag 5 <a b=\"&lt;\\n\" c=\"\">", Wanted::Tag),
+    ("words 6 \"\\u{a0}\\\"\"", Wanted::Words),
+    ("move 4 2 7", Wanted::Move),
+];
+
+#[test]
+fn a_step_is_what_its_line_says(rt: HostRuntime) {
+    for (line, wanted) in &STEPS {
+        assert_row(&rt, says(rt.alloc(), line, *wanted), line);
+    }
 }

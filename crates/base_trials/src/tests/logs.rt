@@ -3,7 +3,6 @@ ghost use Rattle.std.specs.Prelude.{◌≡◌, ◌+◌, ◌<◌, ◌↔◌, IsTr
 
 use std::alloc::{AllocError, Global};
 use std::marker::{Brand, Model};
-use std::process::Abort;
 use std::sync::ledger::{Blank, Ledger};
 use std::test::Fail;
 use step_count::Steps;
@@ -190,7 +189,7 @@ impl<T: Invertible<S> + Drop, S: Drop, L: Ledger> Session<T, S, L> {
     }
 }
 
-#[derive(Clone, Copy, Debug)]
+#[derive(Clone, Copy)]
 enum Call {
     Begin,
     Write(usize, u32),
@@ -326,26 +325,35 @@ fn has_lengths(log: &UndoLog<Edit>, lens: [usize; 3], dropped: bool) -> bool {
         && log.has_dropped() == dropped
 }
 
-fn run<L: Ledger, R: Abort>(rt: &R, alloc: Global, blank: Blank) -> Result<(), Fail>
+// The first row that is not met.
+fn first_other<L: Ledger>(
+    session: &mut Session<Edit, Numbers, L>,
+) -> Result<Option<usize>, AllocError> {
+    for (at, (call, wanted, numbers, lens)) in ROWS.iter().enumerate() {
+        let got = answer(session, *call)?;
+        let is_as_told = has_lengths(&session.log, *lens, THIRD_ENTRY <= at);
+        if got != *wanted || session.state != *numbers || !is_as_told {
+            return Ok(Some(at));
+        }
+    }
+    Ok(None)
+}
+
+fn run<L: Ledger>(alloc: Global, blank: Blank) -> Result<Option<usize>, AllocError>
     requires name { blank.name ≡ L.name }
     requires parts { blank.parts ≡ L.parts }
     requires some { 0 < blank.parts }
 {
     let steps = Steps::<L>::open(blank);
     let mut session = Session::<Edit, Numbers, L>::new(alloc, 2, [1, 2, 3, 4], steps)?;
-    for (at, (call, wanted, numbers, lens)) in ROWS.iter().enumerate() {
-        let got = answer(&mut session, *call)?;
-        assert_eq!(rt; got, *wanted, "{call:?}");
-        assert_eq!(rt; session.state, *numbers, "after {call:?}");
-        let is_as_told = has_lengths(&session.log, *lens, THIRD_ENTRY <= at);
-        assert!(rt; is_as_told, "after {call:?}");
-    }
-    Ok(())
+    first_other(&mut session)
 }
 
 #[test]
 fn keeps_the_numbers(rt: HostRuntime) -> Result<(), Fail> {
-    run::<Brand, HostRuntime>(&rt, rt.alloc(), Blank::new(1))
+    let other = run::<Brand>(rt.alloc(), Blank::new(1))?;
+    assert_eq!(rt; other, None);
+    Ok(())
 }
 
 fn tick_twice<L: Ledger>(steps: &mut Steps<L>)

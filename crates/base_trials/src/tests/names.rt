@@ -1,5 +1,6 @@
 //! Names of elements, properties, commands and queries, by the tables.
 
+use super::rows::assert_row;
 use command_gate::{Gate, NameList, Policy};
 use html_names::{
     Command, QueryKind, allowed_child, box_names, has_inline_contents, is_box_name,
@@ -12,7 +13,7 @@ use std::test::Fail;
 use style_table::{Property, default_of};
 
 // What is asked of a name.
-#[derive(Clone, Copy, Debug)]
+#[derive(Clone, Copy)]
 enum Question {
     Void,
     Supported,
@@ -88,17 +89,13 @@ static CHILDREN: [(&str, &str, bool); 9] = [
 #[test]
 fn elements_and_boxes(rt: HostRuntime) -> Result<(), Fail> {
     for (question, name, want) in &NAMES {
-        assert_eq!(rt;
-            answer(*question, name.as_bytes()),
-            *want,
-            "{question:?} {name}"
-        );
+        assert_row(&rt, answer(*question, name.as_bytes()) == *want, name);
     }
     for (child, parent, want) in &CHILDREN {
         let allowed = allowed_child(child.as_bytes(), parent.as_bytes());
-        assert_eq!(rt; allowed, *want, "{child} in {parent}");
+        assert_row(&rt, allowed == *want, child);
     }
-    assert_eq!(rt; box_names().len(), 30);
+    assert_row(&rt, box_names().len() == 30, "how many boxes");
     Ok(())
 }
 
@@ -119,15 +116,13 @@ static KINDS: [(&str, Option<QueryKind>); 3] = [
 #[test]
 fn commands_and_kinds_of_queries(rt: HostRuntime) -> Result<(), Fail> {
     for (name, command) in &COMMANDS {
-        assert_eq!(rt; Command::named(name), *command);
+        assert_row(&rt, Command::named(name) == *command, name);
     }
     for (word, kind) in &KINDS {
-        assert_eq!(rt; QueryKind::from_word(word.as_bytes()), *kind);
+        assert_row(&rt, QueryKind::from_word(word.as_bytes()) == *kind, word);
     }
-    assert_eq!(rt;
-        (Command::UseCss.name(), Command::all().len()),
-        ("usecss", 32)
-    );
+    let named = Command::UseCss.name() == "usecss";
+    assert_row(&rt, named && Command::all().len() == 32, "all commands");
     Ok(())
 }
 
@@ -144,22 +139,29 @@ static DENIALS: [(&[&str], &str, bool); 9] = [
     (&[], "bold", false),
 ];
 
-fn list(alloc: Global, names: &[&str]) -> Result<NameList, AllocError> {
-    let mut list = NameList::new(alloc);
+fn add_each(list: &mut NameList, alloc: Global, names: &[&str]) -> bool {
     for name in names {
-        list.add(alloc, name.as_bytes())?;
+        if list.add(alloc, name.as_bytes()).is_err() {
+            return false;
+        }
     }
-    Ok(list)
+    true
+}
+
+fn denies(alloc: Global, names: &[&str], name: &[u8]) -> Result<bool, AllocError> {
+    let mut denied = NameList::new(alloc);
+    let added = add_each(&mut denied, alloc, names);
+    let question = denied.copy(alloc)?;
+    let gate = Gate::new(Policy { denied }, question);
+    Ok(added && gate.denies(name))
 }
 
 #[test]
 fn denies_in_any_case(rt: HostRuntime) -> Result<(), Fail> {
     let alloc = rt.alloc();
     for (names, name, want) in &DENIALS {
-        let denied = list(alloc, names)?;
-        let question = denied.copy(alloc)?;
-        let gate = Gate::new(Policy { denied }, question);
-        assert_eq!(rt; gate.denies(name.as_bytes()), *want, "{name}");
+        let denied = denies(alloc, names, name.as_bytes())?;
+        assert_row(&rt, denied == *want, name);
     }
     Ok(())
 }
@@ -200,7 +202,7 @@ fn defaults_of_properties(rt: HostRuntime) -> Result<(), Fail> {
             Some(row) => Some(row.text),
             None => None,
         };
-        assert_eq!(rt; found, *text, "{property:?} of {name}");
+        assert_row(&rt, found == *text, name);
     }
     Ok(())
 }

@@ -6,7 +6,7 @@ use super::trees::{Trial, found};
 use node_arena::{Arena, Content};
 use page_read::{PageFault, PageKind, read_page};
 use page_write::{write_html, write_tree};
-use std::alloc::Global;
+use std::alloc::{AllocError, Global};
 use std::test::Fail;
 
 fn fault_of(alloc: Global, page: &[u8], cap: u32) -> PageFault
@@ -88,51 +88,56 @@ fn pages_and_faults(rt: HostRuntime) -> Result<(), Fail> {
     Ok(())
 }
 
-#[test]
-fn prefixes_are_unclosed(rt: HostRuntime) -> Result<(), Fail> {
+fn prefixes_are_unclosed(alloc: Global) -> bool {
     let page = b"<div><p a=\"1\">x</p></div>";
     for length in 1..25 {
-        let fault = fault_of(rt.alloc(), &page[..length], 9);
-        assert!(rt;
-            fault.at == length && fault.kind == PageKind::Unclosed,
-            "{length}"
-        );
+        let fault = fault_of(alloc, &page[..length], 9);
+        if fault.at != length || fault.kind != PageKind::Unclosed {
+            return false;
+        }
     }
-    Ok(())
+    true
+}
+
+fn is_too_deep(alloc: Global) -> Result<bool, AllocError> {
+    let deep = b"<b>".repeat(alloc, 201)?;
+    let fault = fault_of(alloc, &deep, 999);
+    Ok(fault.at == 601 && fault.kind == PageKind::TooDeep)
+}
+
+fn is_too_long(alloc: Global) -> Result<bool, AllocError> {
+    let long = vec![in alloc; b'a'; 4194305]?;
+    let fault = fault_of(alloc, &long, 999);
+    Ok(fault.at == 4194304 && fault.kind == PageKind::TooLong && fault.kind.word() == "too-long")
 }
 
 #[test]
-fn limits(rt: HostRuntime) -> Result<(), Fail> {
-    let deep = b"<b>".repeat(rt.alloc(), 201)?;
-    let fault = fault_of(rt.alloc(), &deep, 999);
-    assert!(rt; fault.at == 601 && fault.kind == PageKind::TooDeep);
-    let long = vec![in rt.alloc(); b'a'; 4194305]?;
-    let fault = fault_of(rt.alloc(), &long, 999);
-    assert!(rt; fault.at == 4194304 && fault.kind == PageKind::TooLong);
-    assert!(rt; fault.kind.word() == "too-long");
+fn prefixes_and_limits(rt: HostRuntime) -> Result<(), Fail> {
+    assert!(rt; prefixes_are_unclosed(rt.alloc()));
+    assert!(rt; is_too_deep(rt.alloc())? && is_too_long(rt.alloc())?);
     Ok(())
 }
 
 // Whether the page <div a="1" b>x><!--c--></div>y is there.
-fn has_tree(arena: &Arena) -> Result<bool, Fail> {
-    let div = arena.first_child(arena.document()).ok_or("div")?;
+fn has_tree(arena: &Arena) -> Option<bool> {
+    let div = arena.first_child(arena.document())?;
     let Content::Element { name, attributes } = arena.content(div) else {
-        return Err("no element".into());
+        return None;
     };
-    let (key, value) = attributes.at(0).ok_or("a")?;
-    let x = arena.first_child(div).ok_or("x")?;
+    let (key, value) = attributes.at(0)?;
+    let x = arena.first_child(div)?;
     let Content::Words(text) = arena.content(x) else {
-        return Err("no text".into());
+        return None;
     };
     let named = name.as_slice() == b"div".as_slice() && key == b"a".as_slice();
     let written = value.as_slice() == ['1'].as_slice() && text.as_slice() == ['x', '>'].as_slice();
-    Ok(named && written && arena.next_label() == 5)
+    Some(named && written && arena.next_label() == 5)
 }
 
-fn builds_the_tree(alloc: Global) -> Result<bool, Fail> {
+fn builds_the_tree(alloc: Global) -> bool {
     match read_page(alloc, b"<DIV A='1' b>x&gt;<!--c--></div>y", 9) {
-        Ok(arena) => has_tree(&arena),
-        Err(_) => Err("no page".into()),
+        Ok(arena) => has_tree(&arena) == Some(true),
+        Err(_) => false,
     }
 }
 
@@ -143,15 +148,15 @@ impl Trial for Lengths {
     type Found = (usize, usize);
 
     fn run(&self, alloc: Global, arena: &mut Arena) -> Result<(usize, usize), Fail> {
-        let html = write_html(alloc, arena)?;
-        let tree = write_tree(alloc, arena)?;
-        Ok((html.len(), tree.len()))
+        let html = write_html(alloc, arena)?.len();
+        let tree = write_tree(alloc, arena)?.len();
+        Ok((html, tree))
     }
 }
 
 #[test]
 fn a_page_and_an_empty_document(rt: HostRuntime) -> Result<(), Fail> {
-    assert!(rt; builds_the_tree(rt.alloc())?);
-    assert_eq!(rt; found(rt.alloc(), 8, &Lengths)?, (0, 0));
+    assert!(rt; builds_the_tree(rt.alloc()));
+    assert!(rt; found(rt.alloc(), 8, &Lengths)? == (0, 0));
     Ok(())
 }

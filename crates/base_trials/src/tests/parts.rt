@@ -14,7 +14,7 @@ use edit_parts::{
 };
 use html_names::Command;
 use live_range::{Pair, Point, Points};
-use node_arena::{Arena, Attributes, Chars, Content, MakeFault, NodeRef};
+use node_arena::{Arena, Attributes, Chars, Content, MakeFault, Name, NodeRef};
 use point_order::{is_placed, root_of};
 use std::alloc::{AllocError, Global};
 use std::marker::Brand;
@@ -104,22 +104,35 @@ fn has_tail(alloc: Global) -> Result<bool, AllocError> {
     Ok(tail.as_slice() == ['b', 'c'].as_slice() && count == 2)
 }
 
-fn values_stand(alloc: Global) -> Result<bool, AllocError> {
-    let id = name(alloc, "id")?;
+fn stands_once_set(list: &mut Attributes, id: &Name, value: &Chars) -> bool {
+    let was = has_value(list, id, value);
+    let set = list.set(id, value).is_ok();
+    set && !was && has_value(list, id, value)
+}
+
+fn stands_under(alloc: Global, id: &Name) -> Result<bool, AllocError> {
     let value = Chars::from_slice(alloc, &['h'])?;
     let mut list = Attributes::new(alloc);
-    let was = has_value(&list, &id, &value);
-    list.set(&id, &value)?;
-    Ok(!was && has_value(&list, &id, &value))
+    Ok(stands_once_set(&mut list, id, &value))
+}
+
+fn values_stand(alloc: Global) -> Result<bool, AllocError> {
+    let id = name(alloc, "id")?;
+    stands_under(alloc, &id)
+}
+
+fn contents_right(alloc: Global) -> Result<bool, AllocError> {
+    for (at, count, put, want) in &REPLACEMENTS {
+        if !is_replaced(alloc, *at, *count, put, *want)? {
+            return Ok(false);
+        }
+    }
+    Ok(has_tail(alloc)? && values_stand(alloc)?)
 }
 
 #[test]
 fn contents(rt: HostRuntime) -> Result<(), Fail> {
-    for (at, count, put, want) in &REPLACEMENTS {
-        let replaced = is_replaced(rt.alloc(), *at, *count, put, *want)?;
-        assert!(rt; replaced, "{count} at {at} by {put:?}");
-    }
-    assert!(rt; has_tail(rt.alloc())? && values_stand(rt.alloc())?);
+    assert!(rt; contents_right(rt.alloc())?);
     assert!(rt; fault_of(MakeFault::Full) == EditFault::Full);
     Ok(())
 }
@@ -138,20 +151,15 @@ fn points_at(alloc: Global, pair: Pair) -> Result<Points, AllocError> {
 }
 
 // A point after the removal of a node from its parent.
-fn after_removal(
-    alloc: Global,
-    arena: &Arena,
-    at: Point,
-    node: NodeRef,
-) -> Result<Option<Pair>, AllocError> {
-    let mut points = points_at(alloc, caret(at))?;
+fn after_removal(points: &mut Points, arena: &Arena, at: Point, node: NodeRef) -> Option<Pair> {
+    points.set_selection(Some(caret(at)));
     if arena.holds(node) {
         if let Some(parent) = arena.parent(node) {
-            let removal = removal_of(arena, &points, node, parent, None);
-            removal.adjust(&mut points);
+            let removal = removal_of(arena, points, node, parent, None);
+            removal.adjust(points);
         }
     }
-    Ok(points.selection())
+    points.selection()
 }
 
 // A point after the insertion of a node.
@@ -178,26 +186,24 @@ fn after_insertion(
 
 // Where a node is that is to move, as the points ask, and that points that don't ask stay.
 fn moves_right(
-    alloc: Global,
+    points: &mut Points,
     arena: &Arena,
     at: Point,
     node: NodeRef,
     to: NodeRef,
-) -> Result<Option<Point>, AllocError> {
-    let mut points = points_at(alloc, caret(at))?;
+) -> Option<Point> {
+    points.set_selection(Some(caret(at)));
     if !arena.holds(node) {
-        return Ok(None);
+        return None;
     }
-    let Some(parent) = arena.parent(node) else {
-        return Ok(None);
-    };
-    let from = moving_from(arena, &points, node, parent, to);
-    adjust_moved(arena, &mut points, None, parent, node);
-    Ok(if points.selection() == Some(caret(at)) {
+    let parent = arena.parent(node)?;
+    let from = moving_from(arena, points, node, parent, to);
+    adjust_moved(arena, points, None, parent, node);
+    if points.selection() == Some(caret(at)) {
         from
     } else {
         None
-    })
+    }
 }
 
 fn point(label: u32, offset: u32) -> Point
@@ -206,19 +212,33 @@ fn point(label: u32, offset: u32) -> Point
     Point { label, offset }
 }
 
-fn points_right(alloc: Global, arena: &Arena, nodes: [NodeRef; 4]) -> Result<bool, AllocError> {
+// What is asked of one list of points, whose selection is set for each question.
+fn follows(points: &mut Points, arena: &Arena, nodes: [NodeRef; 4]) -> bool {
     let [div, text, image, _] = nodes;
-    let points = points_at(alloc, caret(point(2, 1)))?;
-    let stands = stands_at(&points, text) && !stands_at(&points, div);
-    let gone = after_removal(alloc, arena, point(2, 1), text)? == Some(caret(point(1, 0)))
-        && after_removal(alloc, arena, point(1, 2), text)? == Some(caret(point(1, 1)))
-        && after_removal(alloc, arena, point(2, 1), image)? == Some(caret(point(2, 1)));
-    let put = after_insertion(alloc, arena, point(1, 1), text)? == Some(caret(point(1, 2)))
-        && after_insertion(alloc, arena, point(1, 1), image)? == Some(caret(point(1, 1)));
+    points.set_selection(Some(caret(point(2, 1))));
+    let stands = stands_at(points, text) && !stands_at(points, div);
+    let gone = after_removal(points, arena, point(2, 1), text) == Some(caret(point(1, 0)))
+        && after_removal(points, arena, point(1, 2), text) == Some(caret(point(1, 1)))
+        && after_removal(points, arena, point(2, 1), image) == Some(caret(point(2, 1)));
     let root = arena.document();
-    let moved = moves_right(alloc, arena, point(0, 1), image, root)? == Some(point(1, 1))
-        && moves_right(alloc, arena, point(2, 1), image, root)?.is_none();
-    Ok(stands && gone && put && moved)
+    let moved = moves_right(points, arena, point(0, 1), image, root) == Some(point(1, 1))
+        && moves_right(points, arena, point(2, 1), image, root).is_none();
+    stands && gone && moved
+}
+
+// Points are let go in as few functions as can be, and there on one way, since the proof of that
+// takes long.
+fn points_right(alloc: Global, arena: &Arena, nodes: [NodeRef; 4]) -> Result<bool, AllocError> {
+    let mut points = Points::new(alloc)?;
+    Ok(follows(&mut points, arena, nodes))
+}
+
+fn insertions_right(alloc: Global, arena: &Arena, nodes: [NodeRef; 4]) -> Result<bool, AllocError> {
+    let [_, text, image, _] = nodes;
+    Ok(
+        after_insertion(alloc, arena, point(1, 1), text)? == Some(caret(point(1, 2)))
+            && after_insertion(alloc, arena, point(1, 1), image)? == Some(caret(point(1, 1))),
+    )
 }
 
 #[test]
@@ -263,21 +283,53 @@ fn are_placed(arena: &Arena, points: &Points) -> bool
 }
 
 // Whether bold is still overridden once the selection has become another pair.
-fn stays_bold(alloc: Global, arena: &Arena, was: Pair, is: Pair) -> Result<bool, AllocError> {
-    let mut points = points_at(alloc, was)?;
-    let mut overrides = no_overrides(alloc)?;
-    if overrides.len() != 32 || !are_placed(arena, &points) {
+fn keeps_bold(
+    points: &mut Points,
+    arena: &Arena,
+    overrides: &mut [Setting],
+    copied: &[Setting],
+    is: Pair,
+) -> bool {
+    if overrides.len() != 32 || copied.len() != 32 || !are_placed(arena, points) {
+        return false;
+    }
+    let watch = watch_range(arena, points, copied);
+    points.set_selection(Some(is));
+    if !are_placed(arena, points) {
+        return false;
+    }
+    unset_overrides_if_range_changed(arena, points, overrides, watch);
+    matches!(overrides[0], Setting::On)
+}
+
+fn keeps_copied(
+    alloc: Global,
+    arena: &Arena,
+    overrides: &mut [Setting],
+    copied: &[Setting],
+    pairs: (Pair, Pair),
+) -> Result<bool, AllocError> {
+    let mut points = points_at(alloc, pairs.0)?;
+    Ok(keeps_bold(&mut points, arena, overrides, copied, pairs.1))
+}
+
+fn keeps(
+    alloc: Global,
+    arena: &Arena,
+    overrides: &mut [Setting],
+    pairs: (Pair, Pair),
+) -> Result<bool, AllocError> {
+    if overrides.len() != 32 {
         return Ok(false);
     }
     overrides[place_of(Command::Bold)] = Setting::On;
-    let copied = copy_overrides(alloc, &overrides)?;
-    let watch = watch_range(arena, &points, &copied);
-    points.set_selection(Some(is));
-    if !are_placed(arena, &points) {
-        return Ok(false);
-    }
-    unset_overrides_if_range_changed(arena, &points, &mut overrides, watch);
-    Ok(matches!(overrides[0], Setting::On))
+    let copied = copy_overrides(alloc, overrides)?;
+    keeps_copied(alloc, arena, overrides, &copied, pairs)
+}
+
+fn stays_bold(alloc: Global, arena: &Arena, was: Pair, is: Pair) -> Result<bool, AllocError> {
+    let mut overrides = no_overrides(alloc)?;
+    keeps(alloc, arena, &mut overrides, (was, is))
 }
 
 fn overrides_right(alloc: Global, arena: &Arena) -> Result<bool, AllocError> {
@@ -302,7 +354,7 @@ fn page_right<L: Ledger>(alloc: Global, arena: &mut Arena, blank: Blank) -> Resu
 {
     let mut steps = Steps::<L>::open(blank);
     let nodes = page(alloc, arena, &mut steps)?;
-    let points = points_right(alloc, arena, nodes)?;
+    let points = points_right(alloc, arena, nodes)? && insertions_right(alloc, arena, nodes)?;
     let overrides = overrides_right(alloc, arena)?;
     Ok(trees_right(arena, nodes) && points && overrides)
 }

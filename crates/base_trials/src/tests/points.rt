@@ -1,16 +1,12 @@
 //! Points that follow edits, and marks.
 
 ghost use Rattle.std.specs.Prelude.{◌≡◌, ◌<◌};
+ghost use Rattle.live_range.specs.LivePoints.{no_points};
 
+use super::rows::assert_row;
 use live_range::{MarkFault, Pair, Point, Points};
-use std::alloc::{AllocError, Global};
+use std::alloc::Global;
 use std::test::Fail;
-
-fn point(label: u32, offset: u32) -> Point
-    ensures { result.offset ≡ offset }
-{
-    Point { label, offset }
-}
 
 fn small(label: u32, offset: u8) -> Point
     ensures { result.offset < 256 }
@@ -23,118 +19,21 @@ fn small(label: u32, offset: u8) -> Point
 
 fn pair(label: u32, anchor: u32, focus: u32) -> Pair {
     Pair {
-        anchor: point(label, anchor),
-        focus: point(label, focus),
+        anchor: Point {
+            label,
+            offset: anchor,
+        },
+        focus: Point {
+            label,
+            offset: focus,
+        },
     }
 }
 
-// What becomes of a point by each edit. Helpers whose contracts say nothing keep the proof of the
-// tests short.
-
-fn caret(point: Point) -> Option<Pair> {
-    Some(Pair {
-        anchor: point,
-        focus: point,
-    })
-}
-
-fn inserted(alloc: Global, at: Point, parent: u32, index: u32) -> Result<Option<Pair>, AllocError>
-    requires { at.offset < 1000 }
-{
-    let mut points = Points::new(alloc)?;
-    points.set_selection(Some(Pair {
-        anchor: at,
-        focus: at,
-    }));
-    points.inserted(parent, index);
-    Ok(points.selection())
-}
-
-fn removed(
-    alloc: Global,
-    at: Point,
-    gone: &[u32],
-    parent: u32,
-    index: u32,
-) -> Result<Option<Pair>, AllocError> {
-    let mut points = Points::new(alloc)?;
-    points.set_selection(caret(at));
-    points.removed(gone, parent, index);
-    Ok(points.selection())
-}
-
-fn moved(alloc: Global, at: Point, from: Point, to: Point) -> Result<Option<Pair>, AllocError>
-    requires at { at.offset < 1000 }
-    requires to { to.offset < 1000 }
-{
-    let mut points = Points::new(alloc)?;
-    points.set_selection(Some(Pair {
-        anchor: at,
-        focus: at,
-    }));
-    points.moved(from, to);
-    Ok(points.selection())
-}
-
-fn replaced(
-    alloc: Global,
-    offset: u32,
-    at: u32,
-    taken: u32,
-    put: u32,
-) -> Result<Option<Pair>, AllocError>
-    requires offset { offset < 1000 }
-    requires put { put < 1000 }
-{
-    let mut points = Points::new(alloc)?;
-    points.set_selection(Some(Pair {
-        anchor: Point { label: 7, offset },
-        focus: Point { label: 7, offset },
-    }));
-    points.replaced(7, at, taken, put);
-    Ok(points.selection())
-}
-
-// The text 7, the child at 1 of 5, is split at 2, and its tail is 9.
-fn split(alloc: Global, at: Point) -> Result<Option<Pair>, AllocError>
-    requires { at.offset < 1000 }
-{
-    let mut points = Points::new(alloc)?;
-    points.set_selection(Some(Pair {
-        anchor: at,
-        focus: at,
-    }));
-    points.split(7, 2, 9, 5, 1);
-    Ok(points.selection())
-}
-
-fn grown(alloc: Global, point: Point, at: Point) -> Result<Option<Pair>, AllocError>
-    requires { point.offset < 1000 }
-{
-    let mut points = Points::new(alloc)?;
-    points.set_selection(Some(Pair {
-        anchor: point,
-        focus: point,
-    }));
-    points.grown(at);
-    Ok(points.selection())
-}
-
-fn set_mark(points: &mut Points, name: &[u8], pair: Pair) -> Result<(), MarkFault> {
-    points.set_mark(name, pair)
-}
-
-fn unset_mark(points: &mut Points, name: &[u8]) -> bool {
-    points.unset_mark(name)
-}
-
-fn remove(points: &mut Points, gone: &[u32], parent: u32, index: u32) {
-    points.removed(gone, parent, index);
-}
-
 // An edit: an insertion at 2 of 7, a removal of the tree of 8 and 9 from there, a move, a
-// replacement of three characters of 7 from 2 on by one, a split of 7 at 2, and a growth at 2 of 7.
-#[derive(Clone, Copy, Debug)]
+// replacement of three characters of 7 from 2 on by one, a split of 7 at 2, of which the tail is 9
+// and the parent 5, where 7 is the child at 1, and a growth at 2 of 7.
+#[derive(Clone, Copy)]
 enum Edit {
     Insert,
     Remove,
@@ -144,16 +43,24 @@ enum Edit {
     Grow,
 }
 
-fn after(alloc: Global, edit: Edit, at: (u32, u8)) -> Result<Option<Pair>, AllocError> {
+// What becomes of a point by an edit.
+fn after(points: &mut Points, edit: Edit, at: (u32, u8)) -> Option<Pair>
+    requires { points.old ≡ no_points }
+{
     let at = small(at.0, at.1);
+    points.set_selection(Some(Pair {
+        anchor: at,
+        focus: at,
+    }));
     match edit {
-        Edit::Insert => inserted(alloc, at, 7, 2),
-        Edit::Remove => removed(alloc, at, &[8, 9], 7, 2),
-        Edit::Move(from, to) => moved(alloc, at, small(from.0, from.1), small(to.0, to.1)),
-        Edit::Replace => replaced(alloc, at.offset, 2, 3, 1),
-        Edit::Split => split(alloc, at),
-        Edit::Grow => grown(alloc, at, point(7, 2)),
+        Edit::Insert => points.inserted(7, 2),
+        Edit::Remove => points.removed(&[8, 9], 7, 2),
+        Edit::Move(from, to) => points.moved(small(from.0, from.1), small(to.0, to.1)),
+        Edit::Replace => points.replaced(7, 2, 3, 1),
+        Edit::Split => points.split(7, 2, 9, 5, 1),
+        Edit::Grow => points.grown(small(7, 2)),
     }
+    points.selection()
 }
 
 // An edit, a point, and what it becomes: label and offset of each.
@@ -200,93 +107,126 @@ static EDITS: [(Edit, (u32, u8), (u32, u32)); 33] = [
     (Edit::Grow, (8, 2), (8, 2)),
 ];
 
-#[test]
-fn points_follow_edits(rt: HostRuntime) -> Result<(), Fail> {
-    for (edit, at, want) in &EDITS {
-        let found = after(rt.alloc(), *edit, *at)?;
-        assert_eq!(rt; found, caret(point(want.0, want.1)), "{edit:?} {at:?}");
-    }
-    Ok(())
+// Whether a mark is set.
+fn sets(points: &mut Points, name: &[u8], pair: Pair) -> bool {
+    points.set_mark(name, pair).is_ok()
 }
 
-// Whether points stand at these nodes and no others, in this order.
-fn stand_at(points: &Points, labels: &[u32]) -> bool {
+// Whether these are the name and the points of the first mark, and points stand at these nodes and
+// no others, in this order.
+fn has_first(points: &Points, name: &[u8], pair: Pair, labels: &[u32]) -> bool {
     let standing = points.standing();
-    standing.as_slice() == labels
+    match points.mark_at(0) {
+        Some(mark) => mark.0 == name && mark.1 == pair && standing.as_slice() == labels,
+        None => false,
+    }
 }
 
-#[test]
-fn marks_keep_their_order(rt: HostRuntime) -> Result<(), Fail> {
-    let mut points = Points::new(rt.alloc())?;
-    set_mark(&mut points, b"a", pair(7, 1, 1))?;
-    set_mark(&mut points, b"b", pair(8, 1, 2))?;
-    set_mark(&mut points, b"a", pair(9, 2, 2))?;
-    assert_eq!(rt; points.mark_at(0), Some((b"a".as_slice(), pair(9, 2, 2))));
-    assert!(rt; stand_at(&points, &[9, 8]));
-    assert!(rt; points.stands_at(8) && !points.stands_at(7));
-    Ok(())
+fn keep_their_order(points: &mut Points) -> bool {
+    sets(points, b"a", pair(7, 1, 1))
+        && sets(points, b"b", pair(8, 1, 2))
+        && sets(points, b"a", pair(9, 2, 2))
+        && has_first(points, b"a", pair(9, 2, 2), &[9, 8])
+        && points.stands_at(8)
+        && !points.stands_at(7)
 }
 
-#[test]
-fn a_mark_goes(rt: HostRuntime) -> Result<(), Fail> {
-    let mut points = Points::new(rt.alloc())?;
-    set_mark(&mut points, b"a", pair(7, 1, 1))?;
-    set_mark(&mut points, b"b", pair(8, 1, 2))?;
-    assert!(rt; unset_mark(&mut points, b"a"));
-    remove(&mut points, &[8], 3, 4);
-    assert_eq!(rt; points.mark_at(0), Some((b"b".as_slice(), pair(3, 4, 4))));
-    assert!(rt; stand_at(&points, &[3]));
-    Ok(())
+fn go(points: &mut Points) -> bool {
+    let set = sets(points, b"a", pair(7, 1, 1)) && sets(points, b"b", pair(8, 1, 2));
+    let unset = points.unset_mark(b"a");
+    points.removed(&[8], 3, 4);
+    set && unset && has_first(points, b"b", pair(3, 4, 4), &[3])
 }
 
-// Draws the selection to a node, and takes the node out.
-fn visit(points: &mut Points, label: u32) {
-    points.set_selection(Some(pair(label, 0, 1)));
-    remove(points, &[label], 1000, 4);
-}
-
-#[test]
-fn more_nodes_are_met_than_have_room(rt: HostRuntime) -> Result<(), Fail> {
-    let mut points = Points::new(rt.alloc())?;
-    set_mark(&mut points, b"a", pair(7, 1, 1))?;
+// The selection is drawn to more nodes than there is room for, and each is taken out.
+fn outlive_many_nodes(points: &mut Points) -> bool {
+    let set = sets(points, b"a", pair(7, 1, 1));
     for label in 8..300u32 {
-        visit(&mut points, label);
+        points.set_selection(Some(pair(label, 0, 1)));
+        points.removed(&[label], 1000, 4);
     }
-    remove(&mut points, &[7], 3, 4);
-    assert_eq!(rt; points.mark_at(0), Some((b"a".as_slice(), pair(3, 4, 4))));
-    assert_eq!(rt; points.selection(), Some(pair(1000, 4, 4)));
-    assert!(rt; stand_at(&points, &[1000, 3]));
-    Ok(())
+    points.removed(&[7], 3, 4);
+    set && has_first(points, b"a", pair(3, 4, 4), &[1000, 3])
+        && points.selection() == Some(pair(1000, 4, 4))
 }
 
-#[test]
-fn the_seventeenth_mark_is_refused(rt: HostRuntime) -> Result<(), Fail> {
-    let mut points = Points::new(rt.alloc())?;
+fn are_sixteen(points: &mut Points) -> bool {
     for i in 0..16u8 {
-        set_mark(&mut points, &[i], pair(7, 1, 1))?;
+        if !sets(points, &[i], pair(7, 1, 1)) {
+            return false;
+        }
     }
-    assert_eq!(rt;
-        set_mark(&mut points, b"more", pair(7, 1, 1)),
-        Err(MarkFault::TooManyMarks)
-    );
-    set_mark(&mut points, &[3], pair(9, 1, 1))?;
-    Ok(())
+    let more = points.set_mark(b"more", pair(7, 1, 1));
+    matches!(more, Err(MarkFault::TooManyMarks)) && sets(points, &[3], pair(9, 1, 1))
 }
 
-// Keeps the places, changes the points, and brings the places back.
-fn bring_back(points: &mut Points) {
+// The places are kept, the points changed, and the places brought back.
+fn come_back(points: &mut Points) -> bool {
+    let set = sets(points, b"a", pair(7, 1, 1));
     let before = points.places();
     points.set_selection(None);
     points.set_scratch(pair(9, 0, 0));
     points.set_places(&before);
+    set && points.scratch().is_none() && has_first(points, b"a", pair(7, 1, 1), &[7])
+}
+
+#[derive(Clone, Copy)]
+enum Marks {
+    KeepTheirOrder,
+    Go,
+    OutliveManyNodes,
+    AreSixteen,
+    ComeBack,
+}
+
+static MARKS: [(Marks, &str); 5] = [
+    (Marks::KeepTheirOrder, "marks keep their order"),
+    (Marks::Go, "a mark goes"),
+    (Marks::OutliveManyNodes, "more nodes are met than have room"),
+    (Marks::AreSixteen, "the seventeenth mark is refused"),
+    (Marks::ComeBack, "places come back"),
+];
+
+fn are_right(points: &mut Points, marks: Marks) -> bool {
+    match marks {
+        Marks::KeepTheirOrder => keep_their_order(points),
+        Marks::Go => go(points),
+        Marks::OutliveManyNodes => outlive_many_nodes(points),
+        Marks::AreSixteen => are_sixteen(points),
+        Marks::ComeBack => come_back(points),
+    }
+}
+
+// A row of one of the tables.
+#[derive(Clone, Copy)]
+enum Row {
+    Edit(Edit, (u32, u8), (u32, u32)),
+    Marks(Marks),
+}
+
+// Whether points are as their row says. Points are let go here alone, since the proof of that takes
+// long, and again on each way out of the function that owns some.
+fn is_met(alloc: Global, row: Row) -> Result<bool, Fail> {
+    let mut points = Points::new(alloc)?;
+    Ok(match row {
+        Row::Edit(edit, at, to) => after(&mut points, edit, at) == Some(pair(to.0, to.1, to.1)),
+        Row::Marks(marks) => are_right(&mut points, marks),
+    })
 }
 
 #[test]
-fn places_come_back(rt: HostRuntime) -> Result<(), Fail> {
-    let mut points = Points::new(rt.alloc())?;
-    set_mark(&mut points, b"a", pair(7, 1, 1))?;
-    bring_back(&mut points);
-    assert_eq!(rt; points.scratch(), None);
-    assert!(rt; stand_at(&points, &[7]));
+fn points_follow_edits(rt: HostRuntime) -> Result<(), Fail> {
+    for (number, (edit, at, to)) in EDITS.iter().enumerate() {
+        let met = is_met(rt.alloc(), Row::Edit(*edit, *at, *to))?;
+        assert!(rt; met, "row {number}");
+    }
+    Ok(())
+}
+
+#[test]
+fn marks_are_kept(rt: HostRuntime) -> Result<(), Fail> {
+    for (marks, name) in &MARKS {
+        assert_row(&rt, is_met(rt.alloc(), Row::Marks(*marks))?, name);
+    }
     Ok(())
 }

@@ -3,7 +3,8 @@
 ghost use Rattle.std.specs.Prelude.{IsTrue};
 ghost use Rattle.edit_steps.specs.Step.{StepFits};
 
-use super::trees::{Trial, can_hold, element, found, label, name, words};
+use super::rows::assert_row;
+use super::trees::{Trial, can_hold, element, found, label, list_of, words};
 use edit_steps::Step;
 use node_arena::{Arena, Attributes, Chars, Kind, NodeRef};
 use std::alloc::Global;
@@ -160,21 +161,23 @@ fn exchanges_words(alloc: Global, arena: &mut Arena) -> Result<bool, Fail> {
     Ok(exchanged && text_length(arena, text) == Some(1))
 }
 
-fn exchanges_attributes(alloc: Global, arena: &mut Arena) -> Result<bool, Fail> {
-    let (a, _b) = page(alloc, arena)?;
-    let mut list = Attributes::new(alloc);
-    list.insert(name(alloc, "q")?, Chars::from_slice(alloc, &['v'])?)?;
-    if !can_dress(arena, a, &list) {
-        return Ok(false);
+fn dresses(arena: &mut Arena, node: NodeRef, list: Attributes) -> bool {
+    if !can_dress(arena, node, &list) {
+        return false;
     }
-    let mut step = Step::SetAttributes { node: a, list };
+    let mut step = Step::SetAttributes { node, list };
     once(&mut step, arena);
-    let exchanged = first_name(arena, a) == Some(b'q');
+    let exchanged = first_name(arena, node) == Some(b'q');
     once(&mut step, arena);
-    Ok(exchanged && first_name(arena, a).is_none())
+    exchanged && first_name(arena, node).is_none()
 }
 
-#[derive(Debug)]
+fn exchanges_attributes(alloc: Global, arena: &mut Arena) -> Result<bool, Fail> {
+    let (a, _b) = page(alloc, arena)?;
+    let list = list_of(alloc, b"q", &['v'])?;
+    Ok(dresses(arena, a, list))
+}
+
 enum Inverse {
     OfUnlink,
     OfPlace,
@@ -195,17 +198,17 @@ impl Trial for Inverse {
     }
 }
 
-static INVERSES: [Inverse; 4] = [
-    Inverse::OfUnlink,
-    Inverse::OfPlace,
-    Inverse::OfWords,
-    Inverse::OfAttributes,
+static INVERSES: [(Inverse, &str); 4] = [
+    (Inverse::OfUnlink, "unlinks and links where it was"),
+    (Inverse::OfPlace, "places and places back"),
+    (Inverse::OfWords, "exchanges words"),
+    (Inverse::OfAttributes, "exchanges attributes"),
 ];
 
 #[test]
 fn steps_are_taken_back(rt: HostRuntime) -> Result<(), Fail> {
-    for inverse in &INVERSES {
-        assert!(rt; found(rt.alloc(), 8, inverse)?, "{inverse:?}");
+    for (inverse, name) in &INVERSES {
+        assert_row(&rt, found(rt.alloc(), 8, inverse)?, name);
     }
     Ok(())
 }

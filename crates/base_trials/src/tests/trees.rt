@@ -15,6 +15,15 @@ pub(crate) fn name(alloc: Global, text: &str) -> Result<Name, AllocError> {
     Name::from_slice(alloc, text.as_bytes())
 }
 
+/// A list of one attribute.
+pub(crate) fn list_of(alloc: Global, key: &[u8], value: &[char]) -> Result<Attributes, Fail> {
+    let key = Name::from_slice(alloc, key)?;
+    let value = Chars::from_slice(alloc, value)?;
+    let mut list = Attributes::new(alloc);
+    list.insert(key, value)?;
+    Ok(list)
+}
+
 /// An element without attributes.
 pub(crate) fn element(alloc: Global, arena: &mut Arena, tag: &str) -> Result<NodeRef, Fail> {
     Ok(arena.make_element(name(alloc, tag)?, Attributes::new(alloc))?)

@@ -1,5 +1,6 @@
 //! Values of properties, style texts, and groups of properties.
 
+use super::rows::assert_row;
 use css_value::{
     Colour, Declarations, DecorationLine, Only, find, has_line, legacy_size, print_font_size,
     print_font_weight, read_display, read_font_size, read_font_style, read_font_weight,
@@ -404,13 +405,37 @@ static LINES: [(&str, DecorationLine, bool, &str); 13] = [
     ("", DecorationLine::Overline, false, ""),
 ];
 
+// Whether these are the characters of the text.
+fn is_text(alloc: Global, chars: &[char], text: &str) -> bool {
+    match text.chars().collect::<Vec<char>>(alloc) {
+        Ok(wanted) => wanted.as_slice() == chars,
+        Err(_) => false,
+    }
+}
+
+fn chars(alloc: Global, text: &str) -> Result<Vec<char>, AllocError> {
+    text.chars().collect(alloc)
+}
+
+fn prints(alloc: Global, style: &Declarations, wanted: &str) -> Result<bool, AllocError> {
+    let printed = style.print()?;
+    Ok(is_text(alloc, &printed, wanted))
+}
+
+fn reads(alloc: Global, text: &[char], wanted: &str) -> Result<bool, AllocError> {
+    let style = Declarations::read(alloc, text)?;
+    prints(alloc, &style, wanted)
+}
+
+fn is_read(alloc: Global, text: &str, wanted: &str) -> Result<bool, AllocError> {
+    let text = chars(alloc, text)?;
+    reads(alloc, &text, wanted)
+}
+
 #[test]
 fn styles_are_read_and_printed(rt: HostRuntime) -> Result<(), Fail> {
     for (text, printed) in &STYLES {
-        let chars: Vec<char> = text.chars().collect(rt.alloc())?;
-        let wanted: Vec<char> = printed.chars().collect(rt.alloc())?;
-        let style = Declarations::read(rt.alloc(), &chars)?;
-        assert_eq!(rt; style.print()?.as_slice(), wanted.as_slice());
+        assert_row(&rt, is_read(rt.alloc(), text, printed)?, text);
     }
     Ok(())
 }
@@ -432,38 +457,51 @@ fn is_changed(style: &Declarations) -> bool {
         && style.get(b"d").is_none()
 }
 
+fn changes(alloc: Global, style: &mut Declarations) -> Result<bool, AllocError> {
+    change(style)?;
+    Ok(is_changed(style) && prints(alloc, style, "a: 3; c: 4;")?)
+}
+
+fn is_set_and_unset(alloc: Global) -> Result<bool, AllocError> {
+    let mut style = Declarations::read(alloc, &['a', ':', '1', ';', 'b', ':', '2'])?;
+    changes(alloc, &mut style)
+}
+
+// What a style text sets one of its properties to, and that it doesn't set another.
+fn is_found(alloc: Global) -> Result<bool, AllocError> {
+    let text = chars(alloc, "a: 3; c: 4;")?;
+    Ok(find(&text, b"c") == Some(['4'].as_slice()) && find(&text, b"b").is_none())
+}
+
 #[test]
 fn a_property_is_set_and_unset(rt: HostRuntime) -> Result<(), Fail> {
-    let mut style = Declarations::read(rt.alloc(), &['a', ':', '1', ';', 'b', ':', '2'])?;
-    change(&mut style)?;
-    let changed = is_changed(&style);
-    let printed = style.print()?;
-    let wanted: Vec<char> = "a: 3; c: 4;".chars().collect(rt.alloc())?;
-    assert!(rt; changed && printed.as_slice() == wanted.as_slice());
-    assert_eq!(rt; find(&wanted, b"c"), Some(['4'].as_slice()));
-    assert_eq!(rt; find(&wanted, b"b"), None);
+    assert!(rt; is_set_and_unset(rt.alloc())? && is_found(rt.alloc())?);
     Ok(())
 }
 
-fn sets(rt: &impl Abort, text: &[char], group: Only, wanted: bool) {
-    assert_eq!(rt; sets_only(text, group), wanted);
+// A style text, a group, and whether the text sets properties of the group alone.
+static GROUPS: [(&str, Only, bool); 9] = [
+    ("", Only::Nothing, true),
+    ("text-align: x; TEXT-ALIGN: y", Only::Nothing, false),
+    ("text-align: x; TEXT-ALIGN: y", Only::TextAlign, true),
+    ("text-align: x; TEXT-ALIGN: y", Only::AnyOne, true),
+    ("text-align: x; TEXT-ALIGN: y", Only::FontWeight, false),
+    ("text-align: x; TEXT-ALIGN: y", Only::BoxNames, false),
+    ("margin: 0; border-left-color: z", Only::BoxNames, true),
+    ("margin: 0; border-left-color: z", Only::AnyOne, false),
+    ("", Only::BoxNames, true),
+];
+
+fn sets(alloc: Global, text: &str, group: Only) -> Result<bool, AllocError> {
+    let text = chars(alloc, text)?;
+    Ok(sets_only(&text, group))
 }
 
 #[test]
 fn groups_of_properties(rt: HostRuntime) -> Result<(), Fail> {
-    let align: Vec<char> = "text-align: x; TEXT-ALIGN: y".chars().collect(rt.alloc())?;
-    let boxes: Vec<char> = "margin: 0; border-left-color: z"
-        .chars()
-        .collect(rt.alloc())?;
-    sets(&rt, &[], Only::Nothing, true);
-    sets(&rt, &align, Only::Nothing, false);
-    sets(&rt, &align, Only::TextAlign, true);
-    sets(&rt, &align, Only::AnyOne, true);
-    sets(&rt, &align, Only::FontWeight, false);
-    sets(&rt, &align, Only::BoxNames, false);
-    sets(&rt, &boxes, Only::BoxNames, true);
-    sets(&rt, &boxes, Only::AnyOne, false);
-    sets(&rt, &[], Only::BoxNames, true);
+    for (text, group, wanted) in &GROUPS {
+        assert_row(&rt, sets(rt.alloc(), text, *group)? == *wanted, text);
+    }
     Ok(())
 }
 
@@ -523,6 +561,36 @@ fn resolved(
     Ok(Some(printed))
 }
 
+// Whether a value prints so; one that is invalid, or is not there, prints as nothing.
+fn resolves(
+    alloc: Global,
+    reader: Reader,
+    value: Option<&[char]>,
+    wanted: &str,
+) -> Result<bool, AllocError> {
+    let Some(value) = value else {
+        return Ok(wanted.is_empty());
+    };
+    match resolved(alloc, reader, value)? {
+        Some(printed) => Ok(is_text(alloc, &printed, wanted)),
+        None => Ok(wanted.is_empty()),
+    }
+}
+
+fn style_of(alloc: Global, name: &str, value: &str) -> Result<Vec<char>, AllocError> {
+    format!(in alloc; "{name}:{value}")?.chars().collect(alloc)
+}
+
+fn is_met(
+    alloc: Global,
+    name: &str,
+    reader: Reader,
+    row: &(&str, &str),
+) -> Result<bool, AllocError> {
+    let style = style_of(alloc, name, row.0)?;
+    resolves(alloc, reader, find(&style, name.as_bytes()), row.1)
+}
+
 fn check_rows(
     rt: &impl Abort,
     alloc: Global,
@@ -530,14 +598,8 @@ fn check_rows(
     reader: Reader,
     rows: &[(&str, &str)],
 ) -> Result<(), Fail> {
-    for (value, wanted) in rows {
-        let style: Vec<char> = format!(in alloc; "{name}:{value}")?.chars().collect(alloc)?;
-        let wanted: Vec<char> = wanted.chars().collect(alloc)?;
-        let printed = match find(&style, name.as_bytes()) {
-            Some(value) => resolved(alloc, reader, value)?.unwrap_or(Vec::new(alloc)),
-            None => Vec::new(alloc),
-        };
-        assert_eq!(rt; printed.as_slice(), wanted.as_slice(), "{name}:{value}");
+    for row in rows {
+        assert_row(rt, is_met(alloc, name, reader, row)?, row.0);
     }
     Ok(())
 }
@@ -562,24 +624,51 @@ fn values_are_read_and_printed(rt: HostRuntime) -> Result<(), Fail> {
     Ok(())
 }
 
+fn is_without(
+    alloc: Global,
+    text: &[char],
+    line: DecorationLine,
+    wanted: &str,
+) -> Result<bool, AllocError> {
+    let left = without_line(alloc, text, line)?;
+    Ok(is_text(alloc, &left, wanted))
+}
+
+// Whether a value has the line's word, and is the wanted one without it.
+fn is_line(
+    alloc: Global,
+    text: &[char],
+    line: DecorationLine,
+    has: bool,
+    without: &str,
+) -> Result<bool, AllocError> {
+    Ok(has_line(text, line) == has && is_without(alloc, text, line, without)?)
+}
+
+fn is_taken_out(
+    alloc: Global,
+    text: &str,
+    line: DecorationLine,
+    has: bool,
+    without: &str,
+) -> Result<bool, AllocError> {
+    let text = chars(alloc, text)?;
+    is_line(alloc, &text, line, has, without)
+}
+
 #[test]
 fn lines_are_found_and_taken_out(rt: HostRuntime) -> Result<(), Fail> {
     for (text, line, has, without) in &LINES {
-        let text: Vec<char> = text.chars().collect(rt.alloc())?;
-        let wanted: Vec<char> = without.chars().collect(rt.alloc())?;
-        assert_eq!(rt; has_line(&text, *line), *has);
-        assert_eq!(rt;
-            without_line(rt.alloc(), &text, *line)?.as_slice(),
-            wanted.as_slice()
+        assert_row(
+            &rt,
+            is_taken_out(rt.alloc(), text, *line, *has, without)?,
+            text,
         );
     }
     Ok(())
 }
 
 #[test]
-fn legacy_sizes(rt: HostRuntime) -> Result<(), Fail> {
-    assert_eq!(rt; legacy_size(11), 1);
-    assert_eq!(rt; legacy_size(17), 4);
-    assert_eq!(rt; legacy_size(40), 7);
-    Ok(())
+fn legacy_sizes(rt: HostRuntime) {
+    assert!(rt; legacy_size(11) == 1 && legacy_size(17) == 4 && legacy_size(40) == 7);
 }
