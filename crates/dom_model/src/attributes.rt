@@ -214,6 +214,15 @@ fn unnumber(numbers: &mut Option<Box<Numbers>>, name: &[u8])
     }
 }
 
+// Gives back what a few rows don't need: a map makes room for nine at once.
+fn slim(rows: &mut Rows)
+    ensures { rows.new.entries ≡ rows.old.entries }
+{
+    if rows.len() <= FEW {
+        rows.shrink_to_fit();
+    }
+}
+
 // Adds a row.
 fn push(rows: &mut Rows, number: usize, name: Name, value: Chars) -> Result<(), AllocError>
     requires above { IsAbove number rows.old.entries }
@@ -222,6 +231,7 @@ fn push(rows: &mut Rows, number: usize, name: Name, value: Chars) -> Result<(), 
     ensures err { OnErr result (rows.new.entries ≡ rows.old.entries) }
 {
     rows.insert(number, Attribute { name, value })?;
+    slim(rows);
     Ok(())
 }
 
