@@ -6,7 +6,6 @@ use Rattle.dom_model.specs.Contents.{is_break}
 use Rattle.dom_model.specs.Forest.{first_of, next_of}
 use Rattle.live_range.specs.declared.places.Point.{Point}
 use Rattle.node_styles.specs.Blocks.{is_block}
-use Rattle.edit_model.specs.State.{State}
 use Rattle.edit_model.specs.Run.{Run, ◌>>=◌, ◌>>◌, answer, done, look, given, remove}
 use Rattle.text_insertion.specs.Start.{erase}
 use Rattle.insert_objects.specs.Putting.{from_start_inside, collapse_after, put}
@@ -18,10 +17,11 @@ drop_lone_break p = look λ s. given (first_of s.trees p.label) done λ k.
     && (is_block s.trees p.label && (is_break s.trees k && is_none (next_of s.trees k)))
     then remove k >> done else done
 
--- step 4: the image has its source as its one attribute
+-- step 4: the attributes of the image
 abbrev pub source : List ℕ → List Attribute
 source value = record { name = codes "src"; value = value } ∷ []
 
+-- step 4
 unfoldable pub put_image : List ℕ → Run Bool
 put_image value = do
   n ← put (codes "img") (source value)

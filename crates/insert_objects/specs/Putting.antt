@@ -2,11 +2,10 @@
 -- command", "the insertHorizontalRule command", "the insertImage command"): what is selected goes,
 -- and a new element is put at the start of the active range. The steps are those of
 -- docs/ALGORITHMS.md.
-use Rattle.std.specs.Prelude.{ℕ, ◌==◌, Bool, true, ◌&&◌, not, List, Option, Some, None, if◌then◌else◌}
+use Rattle.std.specs.Prelude.{ℕ, ◌==◌, Bool, true, ◌&&◌, not, List, if◌then◌else◌}
 use Rattle.dom_model.specs.declared.attributes.Attribute.{Attribute}
 use Rattle.dom_model.specs.Contents.{has_chars_at, length_of}
 use Rattle.live_range.specs.declared.places.Point.{Point}
-use Rattle.edit_model.specs.State.{State}
 use Rattle.edit_model.specs.Compositions.{split_words}
 use Rattle.edit_model.specs.Run.{Run, ◌>>=◌, ◌>>◌, answer, done, look, given, make_element, collapse}
 use Rattle.delete_core.specs.Places.{before_node, after_node}
