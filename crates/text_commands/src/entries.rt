@@ -47,31 +47,19 @@ fn items_from(alloc: Global, doc: &Doc, node: Option<NodeRef>) -> Result<Vec<Nod
     Ok(list)
 }
 
-// Step 6: the sublists of the items around an entry are taken out of these.
-#[tactic(auto, using(edit_model::proofs::Steps::steps, edit_model::proofs::Steps::exits), unfolding(crate::specs::Entries::normalize_around))]
-fn normalize_around(alloc: Global, doc: &mut Doc, node: NodeRef) -> Result<(), EditFault>
-    requires open { IsOpen doc.old }
-    requires node_held { Holds doc.old node }
-    ensures gives { Gives result doc.old.state doc.new.state (entries.normalize_around node.label) }
-    ensures keeps { Keeps doc.old doc.new }
-{
-    let items = items_from(alloc, doc, doc.parent(node))?;
-    normalize_each(alloc, doc, &items)
-}
-
-/// Step 6: an entry leaves its list.
+/// Step 6: the sublists of the items around an entry are taken out of these, and it leaves its list.
 #[tactic(auto, using(edit_model::proofs::Steps::steps, edit_model::proofs::Steps::exits), unfolding(crate::specs::Entries::lift_entry))]
-pub(crate) fn lift_entry(alloc: Global, doc: &mut Doc, node: NodeRef) -> Result<bool, EditFault>
+pub(crate) fn lift_entry(alloc: Global, doc: &mut Doc, node: NodeRef) -> Result<(), EditFault>
     requires open { IsOpen doc.old }
     requires node_held { Holds doc.old node }
     ensures gives { Gives result doc.old.state doc.new.state (entries.lift_entry node.label) }
     ensures keeps { Keeps doc.old doc.new }
 {
-    normalize_around(alloc, doc, node)?;
+    let items = items_from(alloc, doc, doc.parent(node))?;
+    normalize_each(alloc, doc, &items)?;
     split_out(alloc, doc, node)?;
     let kept = rename_stray(alloc, doc, node)?;
-    fix_ancestors(alloc, doc, kept)?;
-    Ok(true)
+    fix_ancestors(alloc, doc, kept)
 }
 
 fn opens_inline(doc: &Doc, node: Option<NodeRef>) -> bool
@@ -105,48 +93,8 @@ fn is_open_line(doc: &Doc, node: Option<NodeRef>) -> bool
     }
 }
 
-// Step 11: the last line of a node ends with a br.
-#[tactic(auto, using(edit_model::proofs::Steps::steps, edit_model::proofs::Steps::exits), unfolding(crate::specs::Entries::close_line))]
-fn close_line(alloc: Global, doc: &mut Doc, node: NodeRef) -> Result<(), EditFault>
-    requires open { IsOpen doc.old }
-    requires node_held { Holds doc.old node }
-    ensures gives { Gives result doc.old.state doc.new.state (entries.close_line node.label) }
-    ensures keeps { Keeps doc.old doc.new }
-{
-    if is_open_line(doc, doc.last_child(node)) {
-        append_break(alloc, doc, node)?;
-    }
-    Ok(())
-}
-
-// Step 11: an empty line after it.
-#[tactic(auto, using(edit_model::proofs::Steps::steps, edit_model::proofs::Steps::exits), unfolding(crate::specs::Entries::add_line))]
-fn add_line(alloc: Global, doc: &mut Doc, node: NodeRef) -> Result<(), EditFault>
-    requires open { IsOpen doc.old }
-    requires node_held { Holds doc.old node }
-    ensures gives { Gives result doc.old.state doc.new.state (entries.add_line node.label) }
-    ensures keeps { Keeps doc.old doc.new }
-{
-    if is_inline(doc, doc.last_child(node)) {
-        append_break(alloc, doc, node)?;
-    }
-    Ok(())
-}
-
-// Step 11: both, in what stands before the entry.
-#[tactic(auto, using(edit_model::proofs::Steps::steps, edit_model::proofs::Steps::exits), unfolding(crate::specs::Entries::part_entry))]
-fn part_entry(alloc: Global, doc: &mut Doc, node: NodeRef) -> Result<(), EditFault>
-    requires open { IsOpen doc.old }
-    requires node_held { Holds doc.old node }
-    ensures gives { Gives result doc.old.state doc.new.state (entries.part_entry node.label) }
-    ensures keeps { Keeps doc.old doc.new }
-{
-    close_line(alloc, doc, node)?;
-    add_line(alloc, doc, node)
-}
-
 /// Step 11: what stands before an entry with a line of its own ends with an empty line.
-#[tactic(auto, using(edit_model::proofs::Steps::steps, edit_model::proofs::Steps::exits), unfolding(crate::specs::Entries::part_entries))]
+#[tactic(auto, using(edit_model::proofs::Steps::steps, edit_model::proofs::Steps::exits), unfolding(crate::specs::Entries::part_entry, crate::specs::Entries::part_entries))]
 pub(crate) fn part_entries(
     alloc: Global,
     doc: &mut Doc,
@@ -165,5 +113,11 @@ pub(crate) fn part_entries(
     let Some(before) = child_before(doc, node, at.offset) else {
         return Ok(());
     };
-    part_entry(alloc, doc, before)
+    if is_open_line(doc, doc.last_child(before)) {
+        append_break(alloc, doc, before)?;
+    }
+    if is_inline(doc, doc.last_child(before)) {
+        append_break(alloc, doc, before)?;
+    }
+    Ok(())
 }

@@ -1,4 +1,4 @@
-//! Delete, steps 1, 4, 9 and 10: what goes at once. The steps are those of docs/ALGORITHMS.md.
+//! Delete, steps 4 and 10: what goes at once. The steps are those of docs/ALGORITHMS.md.
 
 ghost use Rattle.std.specs.Prelude.{◌≡◌};
 ghost use Rattle.edit_model.specs.Action.{Extend, Scratch, acted};
@@ -35,18 +35,6 @@ fn keep(doc: &mut Doc, at: Point)
     });
 }
 
-/// Steps 1, 4 and 13: deletes what is selected, with its states and values restored, and answers
-/// true.
-#[tactic(auto, using(edit_model::proofs::Steps::steps, edit_model::proofs::Steps::exits), unfolding(crate::specs::Delete::erased))]
-pub(crate) fn erased(alloc: Global, doc: &mut Doc, backward: bool) -> Result<bool, EditFault>
-    requires open { IsOpen doc.old }
-    ensures gives { Gives result doc.old.state doc.new.state (command.erased backward) }
-    ensures keeps { Keeps doc.old doc.new }
-{
-    erase(alloc, doc, true, true, backward)?;
-    Ok(true)
-}
-
 // Step 4: a br, hr or img.
 fn is_single(doc: &Doc, node: Option<NodeRef>) -> bool
     requires { IfHeld doc.now node }
@@ -71,38 +59,14 @@ pub(crate) fn follows_single(doc: &Doc, node: NodeRef, at: Point) -> bool
 
 /// Step 4: deletes it.
 #[tactic(auto, using(edit_model::proofs::Steps::steps, edit_model::proofs::Steps::exits, edit_model::proofs::Steps::actions), unfolding(crate::specs::Delete::erase_single))]
-pub(crate) fn erase_single(alloc: Global, doc: &mut Doc, at: Point) -> Result<bool, EditFault>
+pub(crate) fn erase_single(alloc: Global, doc: &mut Doc, at: Point) -> Result<(), EditFault>
     requires open { IsOpen doc.old }
     ensures gives { Gives result doc.old.state doc.new.state (command.erase_single at) }
     ensures keeps { Keeps doc.old doc.new }
 {
     select(doc, at, at);
     extend(doc, one_before(at));
-    erased(alloc, doc, false)
-}
-
-/// Step 9: selects the node before a point.
-#[tactic(auto, using(edit_model::proofs::Steps::steps, edit_model::proofs::Steps::exits, edit_model::proofs::Steps::actions), unfolding(crate::specs::Delete::select_before))]
-pub(crate) fn select_before(doc: &mut Doc, at: Point) -> Result<bool, EditFault>
-    requires open { IsOpen doc.old }
-    ensures gives { Gives result doc.old.state doc.new.state (command.select_before at) }
-    ensures keeps { Keeps doc.old doc.new }
-{
-    select(doc, one_before(at), at);
-    Ok(true)
-}
-
-// Step 10: back to the point that was kept.
-#[tactic(auto, using(edit_model::proofs::Steps::actions), unfolding(crate::specs::Delete::collapse_kept))]
-fn collapse_kept(doc: &mut Doc) -> Result<(), EditFault>
-    requires open { IsOpen doc.old }
-    ensures gives { Gives result doc.old.state doc.new.state command.collapse_kept }
-    ensures keeps { Keeps doc.old doc.new }
-{
-    if let Some(pair) = doc.points().scratch() {
-        select(doc, pair.anchor, pair.anchor);
-    }
-    Ok(())
+    erase(alloc, doc, true, true, false)
 }
 
 /// Step 10: deletes the node before a point. The caret stays where it is.
@@ -112,7 +76,7 @@ pub(crate) fn erase_line(
     doc: &mut Doc,
     caret: Point,
     at: Point,
-) -> Result<bool, EditFault>
+) -> Result<(), EditFault>
     requires open { IsOpen doc.old }
     ensures gives { Gives result doc.old.state doc.new.state (command.erase_line caret at) }
     ensures keeps { Keeps doc.old doc.new }
@@ -120,6 +84,8 @@ pub(crate) fn erase_line(
     keep(doc, caret);
     select(doc, one_before(at), at);
     erase(alloc, doc, true, true, false)?;
-    collapse_kept(doc)?;
-    Ok(true)
+    if let Some(pair) = doc.points().scratch() {
+        select(doc, pair.anchor, pair.anchor);
+    }
+    Ok(())
 }
