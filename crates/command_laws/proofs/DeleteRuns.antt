@@ -28,7 +28,7 @@ stateless_drop_child a k = search stateless_parts
 
 stateless_back_turn : (a : _) → Stateless (back_turn a)
 unfolding back_turn
-stateless_back_turn a = search (stateless_parts, stateless_drop_child, stateless_keeping_children)
+stateless_back_turn a = search (stateless_parts, stateless_drop_child, stateless_keeping_children) depth 14
 
 stateless_go_back : (p : Point) → Stateless (go_back p)
 unfolding go_back
@@ -86,7 +86,7 @@ stateless_erase_single p = search (stateless_parts, stateless_erase)
 
 stateless_erase_line : (p q : Point) → Stateless (erase_line p q)
 unfolding erase_line
-stateless_erase_line p q = search (stateless_parts, stateless_erase)
+stateless_erase_line p q = search (stateless_parts, stateless_erase) depth 9
 
 stateless_join : (p q : Point) → Stateless (join p q)
 unfolding join
@@ -96,11 +96,11 @@ stateless_join p q = search (stateless_parts, stateless_part_entries, stateless_
 
 stateless_delete_across : (p : Point) → Stateless (delete_across p)
 unfolding delete_across
-stateless_delete_across p = search (stateless_parts, stateless_climb, stateless_outdent_line, stateless_erase_line, stateless_join)
+stateless_delete_across p = search (stateless_parts, stateless_climb, stateless_outdent_line, stateless_erase_line, stateless_join) depth 12
 
 stateless_delete_from : (p : Point) → Stateless (delete_from p)
 unfolding delete_from
-stateless_delete_from p = search (stateless_parts, stateless_go_back, stateless_erase_single, stateless_lift_entry, stateless_delete_across)
+stateless_delete_from p = search (stateless_parts, stateless_go_back, stateless_erase_single, stateless_lift_entry, stateless_delete_across) depth 12
 
 stateless_delete_at_caret : Stateless delete_at_caret
 unfolding delete_at_caret
