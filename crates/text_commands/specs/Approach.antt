@@ -1,7 +1,7 @@
 -- The ways that the delete command takes back from a caret (HTML Editing APIs, "the delete
 -- command", steps 3 and 7). The steps are those of docs/ALGORITHMS.md.
 use Rattle.std.specs.Prelude.{ℕ, ◌-◌, ◌==◌, Bool, true, false, ◌||◌, ◌&&◌, not, codes, Option, Some, None, if◌then◌else◌}
-use Rattle.std.specs.Option.{option_map}
+use Rattle.std.specs.Option.{option_and_then}
 use Rattle.dom_model.specs.Contents.{has_name, is_break, is_image}
 use Rattle.dom_model.specs.Forest.{is_label, prev_of}
 use Rattle.live_range.specs.declared.places.Point.{Point}
@@ -61,31 +61,22 @@ hidden_prev s p =
     if_hidden s (prev_of s.trees p.label) else None
 
 -- c: out of an inline node at its start, and out of a node that shows nothing
-unfoldable pub is_left : State → Point → Bool
-is_left s p =
-    not (is_affected_host s p.label)
-    && (((p.offset == 0) && not (is_block s.trees p.label)) || not (is_visible s.trees p.label))
-
 unfoldable pub out_of_node : State → Point → Option Point
-out_of_node s p = if is_left s p then before_node s.trees p.label else None
+out_of_node s p = if not (is_affected_host s p.label)
+    && (((p.offset == 0) && not (is_block s.trees p.label)) || not (is_visible s.trees p.label))
+    then before_node s.trees p.label else None
 
 -- d: an editable a before the point
-abbrev pub if_link : State → Option ℕ → Option ℕ
-if_link s None = None
-if_link s (Some k) = if is_editable_for s k && has_name s.trees k (codes "a") then Some k else None
-
 unfoldable pub link_before : State → Point → Option ℕ
-link_before s p = if_link s (child_before s.trees p.label p.offset)
+link_before s p = option_and_then
+    (λ k. if is_editable_for s k && has_name s.trees k (codes "a") then Some k else None)
+    (child_before s.trees p.label p.offset)
 
--- e: the end of a child that is no block, br or img
-abbrev pub if_enterable : State → Option ℕ → Option ℕ
-if_enterable s None = None
-if_enterable s (Some k) =
-    if is_block s.trees k || (is_break s.trees k || is_image s.trees k) then None else Some k
-
+-- e: the end of a child before the point that is no block, br or img
 unfoldable pub into_child : State → Point → Option Point
-into_child s p =
-    option_map (end_in s.trees) (if_enterable s (child_before s.trees p.label p.offset))
+into_child s p = option_and_then
+    (λ k. if is_block s.trees k || (is_break s.trees k || is_image s.trees k) then None
+    else Some (end_in s.trees k)) (child_before s.trees p.label p.offset)
 
 -- one turn: the lines a to f. An a gives way to its children, and the command ends.
 unfoldable pub back_turn : Approach → Run Approach

@@ -3,8 +3,7 @@
 use Rattle.std.specs.Prelude.{ℕ, ◌-◌, ◌==◌, Bool, true, false, ◌||◌, ◌&&◌, not, codes, Option, Some, None, if◌then◌else◌}
 use Rattle.std.specs.Option.{option_map, option_map_or}
 use Rattle.dom_model.specs.Contents.{has_name, is_break, is_image}
-use Rattle.dom_model.specs.declared.Content.{Content}
-use Rattle.dom_model.specs.Forest.{Forest, prev_of}
+use Rattle.dom_model.specs.Forest.{prev_of}
 use Rattle.live_range.specs.declared.places.Point.{Point}
 use Rattle.node_styles.specs.Blocks.{is_block}
 use Rattle.node_tests.specs.BlockPoints.{child_before, child_at}
@@ -27,14 +26,13 @@ one_before p = at p.label (p.offset - 1)
 
 -- ---- step 4: a character, and in a block a br, hr or img
 
-abbrev pub is_single : State → Option ℕ → Bool
-is_single s None = false
-is_single s (Some k) = is_break s.trees k || (has_name s.trees k (codes "hr") || is_image s.trees k)
-
 unfoldable pub follows_single : State → Point → Bool
 follows_single s p =
     (is_words s.trees p.label && not (p.offset == 0))
-    || (is_block s.trees p.label && is_single s (child_before s.trees p.label p.offset))
+    || (is_block s.trees p.label
+    && option_map_or
+    (λ k. is_break s.trees k || (has_name s.trees k (codes "hr") || is_image s.trees k))
+    (child_before s.trees p.label p.offset) false)
 
 unfoldable pub erase_single : Point → Run (Unit {0})
 erase_single p = do
@@ -64,12 +62,11 @@ is_empty_line s k =
     is_break s.trees k
     && option_map_or (λ r. is_break s.trees r || is_block s.trees r) (prev_of s.trees k) false
 
-abbrev pub is_line : State → Option ℕ → Bool
-is_line s None = false
-is_line s (Some k) = has_name s.trees k (codes "hr") || is_empty_line s k
-
 unfoldable pub follows_line : State → Point → Point → Bool
-follows_line s p q = (p.offset == 0) && is_line s (child_before s.trees q.label q.offset)
+follows_line s p q =
+    (p.offset == 0)
+    && option_map_or (λ k. has_name s.trees k (codes "hr") || is_empty_line s k)
+    (child_before s.trees q.label q.offset) false
 
 -- the caret's point is kept while what stands before is erased, and goes along with the edits
 unfoldable pub erase_line : Point → Point → Run (Unit {0})
@@ -81,25 +78,6 @@ erase_line p q = do
 
 -- ---- step 12: from where to where what stands before is joined
 
-abbrev pub is_entry_at : State → Option ℕ → Bool
-is_entry_at s None = false
-is_entry_at s (Some k) = is_entry s k
-
--- entries on both sides
-unfoldable pub parts_entries : State → Point → Bool
-parts_entries s q =
-    is_entry_at s (child_at s.trees q.label q.offset)
-    && is_entry_at s (child_before s.trees q.label q.offset)
-
--- the end of a node and the start of one, or another point where there is none
-abbrev pub end_or : Forest Content → Point → Option ℕ → Point
-end_or f q None = q
-end_or f q (Some k) = end_in f k
-
-abbrev pub start_or : Point → Option ℕ → Point
-start_or q None = q
-start_or q (Some k) = start_in k
-
 -- down to the end of what stands before
 unfoldable pub into_last : State → Point → Option Point
 into_last s q = option_map (end_in s.trees) (child_before s.trees q.label q.offset)
@@ -108,10 +86,16 @@ into_last s q = option_map (end_in s.trees) (child_before s.trees q.label q.offs
 unfoldable pub deepest_before : State → Point → Point
 deepest_before s q = walk_points (into_last s) (turn_bound s) q
 
+-- from the end of one entry to the start of the next, or else as said
+abbrev pub between_entries : State → Option ℕ → Option ℕ → Point × Point → Point × Point
+between_entries s (Some j) (Some k) other =
+    if is_entry s j && is_entry s k then (end_in s.trees j, start_in k) else other
+between_entries s _ _ other = other
+
 unfoldable pub joined : State → Point → Point → Point × Point
-joined s p q = if parts_entries s q
-    then (end_or s.trees q (child_before s.trees q.label q.offset), start_or q (child_at s.trees q.label q.offset))
-    else (deepest_before s q, p)
+joined s p q =
+    between_entries s (child_before s.trees q.label q.offset) (child_at s.trees q.label q.offset)
+    (deepest_before s q, p)
 
 -- ---- the whole
 

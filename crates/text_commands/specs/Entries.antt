@@ -1,7 +1,7 @@
 -- What the delete command does at the start of an entry of a list, and of an indented line (HTML
 -- Editing APIs, "the delete command", steps 6, 8 and 11). The steps are those of
 -- docs/ALGORITHMS.md.
-use Rattle.std.specs.Prelude.{ℕ, ◌==◌, Bool, true, false, ◌||◌, ◌&&◌, not, List, [], Option, Some, None, is_none, is_some, if◌then◌else◌}
+use Rattle.std.specs.Prelude.{ℕ, ◌==◌, Bool, false, ◌||◌, ◌&&◌, not, List, [], Option, Some, None, is_none, is_some, if◌then◌else◌}
 use Rattle.std.specs.List.{list_any}
 use Rattle.std.specs.Option.{option_map_or}
 use Rattle.dom_model.specs.declared.Content.{Content}
@@ -25,12 +25,12 @@ use Rattle.text_insertion.specs.Entries.{is_entry, rename_stray}
 
 -- ---- delete, step 6: an entry leaves its list
 
-unfoldable pub is_first_child : State → ℕ → Bool
-is_first_child s n = is_some (parent_of s.trees n) && is_none (prev_of s.trees n)
-
 -- the point is the start of an entry that is the first child of its parent
 unfoldable pub starts_entry : State → Point → Bool
-starts_entry s p = (p.offset == 0) && (is_entry s p.label && is_first_child s p.label)
+starts_entry s p =
+    (p.offset == 0)
+    && (is_entry s p.label
+    && (is_some (parent_of s.trees p.label) && is_none (prev_of s.trees p.label)))
 
 -- the items among its ancestors, in tree order
 abbrev pub items_from : Forest Content → Option ℕ → List ℕ
@@ -78,13 +78,12 @@ outdent_line p = look λ s. for_each (bare_nodes s p) outdent_node
 -- ---- delete, step 11: the line that the entry before ends with is closed, and an empty one is put
 -- after it
 
-abbrev pub opens_inline : State → Option ℕ → Bool
-opens_inline s None = false
-opens_inline s (Some k) = is_entry s k && is_inline s (first_of s.trees k)
-
 -- at the child at the point, which begins with a line of its own
 unfoldable pub opens_entry : State → Point → Bool
-opens_entry s p = not (p.offset == 0) && opens_inline s (child_at s.trees p.label p.offset)
+opens_entry s p =
+    not (p.offset == 0)
+    && option_map_or (λ k. is_entry s k && is_inline s (first_of s.trees k))
+    (child_at s.trees p.label p.offset) false
 
 abbrev pub is_open_line : State → Option ℕ → Bool
 is_open_line s z = is_inline s z && option_map_or (λ l. not (is_break s.trees l)) z false

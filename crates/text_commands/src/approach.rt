@@ -86,18 +86,7 @@ fn hidden_prev(doc: &Doc, node: NodeRef, at: Point) -> Option<NodeRef>
     }
 }
 
-// Step 3 c: whether the way leaves the node of a point.
-#[tactic(auto, unfolding(crate::specs::Approach::is_left))]
-fn is_left(doc: &Doc, node: NodeRef, at: Point) -> bool
-    requires held { Holds doc.now node }
-    requires label { at.label ≡ node.label }
-    ensures { result ≡ back.is_left doc.now.state at }
-{
-    !is_affected_host(doc, node)
-        && ((at.offset == 0 && !is_block(doc, node)) || !is_visible(doc, node))
-}
-
-// Step 3 c: just before that node.
+// Step 3 c: out of an inline node at its start, and out of a node that shows nothing.
 #[tactic(auto, unfolding(crate::specs::Approach::out_of_node))]
 fn out_of_node(doc: &Doc, node: NodeRef, at: Point) -> Option<Point>
     requires held { Holds doc.now node }
@@ -105,50 +94,31 @@ fn out_of_node(doc: &Doc, node: NodeRef, at: Point) -> Option<Point>
     ensures gives { result ≡ back.out_of_node doc.now.state at }
     ensures there { IfSome result (λ next. 0 < count_of doc.now.state.trees next.label) }
 {
-    if is_left(doc, node, at) {
+    if !is_affected_host(doc, node)
+        && ((at.offset == 0 && !is_block(doc, node)) || !is_visible(doc, node))
+    {
         before_node(doc, node)
     } else {
         None
     }
 }
 
-// Step 3 d: a node, if there is one, that is an editable a.
-fn if_link(doc: &Doc, node: Option<NodeRef>) -> Option<NodeRef>
-    requires { IfHeld doc.now node }
-    ensures { Finds doc.now result (back.if_link doc.now.state (label_of node)) }
-{
-    let node = node?;
-    if doc.is_editable_for(node) && has_name(doc, node, b"a") {
-        Some(node)
-    } else {
-        None
-    }
-}
-
-// Step 3 d: the link before a point.
+// Step 3 d: an editable a before a point.
 #[tactic(auto, unfolding(crate::specs::Approach::link_before))]
 fn link_before(doc: &Doc, node: NodeRef, at: Point) -> Option<NodeRef>
     requires held { Holds doc.now node }
     requires label { at.label ≡ node.label }
     ensures { Finds doc.now result (back.link_before doc.now.state at) }
 {
-    if_link(doc, child_before(doc, node, at.offset))
-}
-
-// Step 3 e: a node, if there is one, that is no block, br or img.
-fn if_enterable(doc: &Doc, node: Option<NodeRef>) -> Option<NodeRef>
-    requires { IfHeld doc.now node }
-    ensures { Finds doc.now result (back.if_enterable doc.now.state (label_of node)) }
-{
-    let node = node?;
-    if is_block(doc, node) || is_break(doc, node) || is_image(doc, node) {
-        None
+    let child = child_before(doc, node, at.offset)?;
+    if doc.is_editable_for(child) && has_name(doc, child, b"a") {
+        Some(child)
     } else {
-        Some(node)
+        None
     }
 }
 
-// Step 3 e: the end of such a child before a point.
+// Step 3 e: the end of a child before a point that is no block, br or img.
 #[tactic(auto, unfolding(crate::specs::Approach::into_child))]
 fn into_child(doc: &Doc, node: NodeRef, at: Point) -> Option<Point>
     requires held { Holds doc.now node }
@@ -156,8 +126,12 @@ fn into_child(doc: &Doc, node: NodeRef, at: Point) -> Option<Point>
     ensures gives { result ≡ back.into_child doc.now.state at }
     ensures there { IfSome result (λ next. 0 < count_of doc.now.state.trees next.label) }
 {
-    let child = if_enterable(doc, child_before(doc, node, at.offset))?;
-    Some(end_in(doc, child))
+    let child = child_before(doc, node, at.offset)?;
+    if is_block(doc, child) || is_break(doc, child) || is_image(doc, child) {
+        None
+    } else {
+        Some(end_in(doc, child))
+    }
 }
 
 // Step 3: one turn, in which the first line that applies is done.

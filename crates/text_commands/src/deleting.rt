@@ -8,7 +8,7 @@ ghost use Rattle.text_commands.specs.Delete as command;
 
 use crate::approach::{climb, go_back};
 use crate::entries::{lift_entry, part_entries, starts_entry};
-use crate::erasing::{erase_line, erase_single, follows_single};
+use crate::erasing::{erase_line, extend, follows_single};
 use crate::joining::{follows_line, follows_table, is_kept_from, joined};
 use crate::outdents::{outdent_line, starts_indented};
 use crate::places::one_before;
@@ -54,7 +54,7 @@ fn delete_across(alloc: Global, doc: &mut Doc, node: NodeRef, caret: Point) -> R
 }
 
 // Steps 2 to 13.
-#[tactic(auto, using(edit_model::proofs::Steps::steps, edit_model::proofs::Steps::exits, edit_actions::proofs::Placed::placed_here), unfolding(crate::specs::Delete::delete_from, crate::specs::Delete::delete_at_caret))]
+#[tactic(auto, using(edit_model::proofs::Steps::steps, edit_model::proofs::Steps::exits, edit_model::proofs::Steps::actions, edit_actions::proofs::Placed::placed_here), unfolding(crate::specs::Delete::erase_single, crate::specs::Delete::delete_from, crate::specs::Delete::delete_at_caret))]
 fn delete_at_caret(alloc: Global, doc: &mut Doc) -> Result<(), EditFault>
     requires open { IsOpen doc.old }
     ensures gives { Gives result doc.old.state doc.new.state command.delete_at_caret }
@@ -73,7 +73,10 @@ fn delete_at_caret(alloc: Global, doc: &mut Doc) -> Result<(), EditFault>
     let caret = way.at;
     let node = node_of(doc, caret);
     if follows_single(doc, node, caret) {
-        return erase_single(alloc, doc, caret); // step 4
+        // step 4
+        select(doc, caret, caret);
+        extend(doc, one_before(caret));
+        return erase(alloc, doc, true, true, false);
     }
     // step 5
     if !is_block(doc, node) {

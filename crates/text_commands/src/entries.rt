@@ -15,14 +15,6 @@ use std::alloc::{AllocError, Global};
 use text_insertion::{is_entry, rename_stray};
 use wrap_split::{append_break, is_inline};
 
-#[tactic(auto, unfolding(crate::specs::Entries::is_first_child))]
-fn is_first_child(doc: &Doc, node: NodeRef) -> bool
-    requires { Holds doc.now node }
-    ensures { result ≡ entries.is_first_child doc.now.state node.label }
-{
-    doc.parent(node).is_some() && doc.prev(node).is_none()
-}
-
 /// Step 6: whether a point is the start of an entry that is the first child of its parent.
 #[tactic(auto, unfolding(crate::specs::Entries::starts_entry))]
 pub(crate) fn starts_entry(doc: &Doc, node: NodeRef, at: Point) -> bool
@@ -30,7 +22,7 @@ pub(crate) fn starts_entry(doc: &Doc, node: NodeRef, at: Point) -> bool
     requires label { at.label ≡ node.label }
     ensures { result ≡ entries.starts_entry doc.now.state at }
 {
-    at.offset == 0 && is_entry(doc, node) && is_first_child(doc, node)
+    at.offset == 0 && is_entry(doc, node) && doc.parent(node).is_some() && doc.prev(node).is_none()
 }
 
 // Step 6: the items among a node that there may be and its ancestors.
@@ -62,16 +54,6 @@ pub(crate) fn lift_entry(alloc: Global, doc: &mut Doc, node: NodeRef) -> Result<
     fix_ancestors(alloc, doc, kept)
 }
 
-fn opens_inline(doc: &Doc, node: Option<NodeRef>) -> bool
-    requires { IfHeld doc.now node }
-    ensures { result ≡ entries.opens_inline doc.now.state (label_of node) }
-{
-    match node {
-        Some(node) => is_entry(doc, node) && is_inline(doc, doc.first_child(node)),
-        None => false,
-    }
-}
-
 // Step 11: whether an entry that begins with an inline node stands after a point.
 #[tactic(auto, unfolding(crate::specs::Entries::opens_entry))]
 fn opens_entry(doc: &Doc, node: NodeRef, at: Point) -> bool
@@ -79,7 +61,11 @@ fn opens_entry(doc: &Doc, node: NodeRef, at: Point) -> bool
     requires label { at.label ≡ node.label }
     ensures { result ≡ entries.opens_entry doc.now.state at }
 {
-    at.offset != 0 && opens_inline(doc, child_at(doc, node, at.offset))
+    at.offset != 0
+        && match child_at(doc, node, at.offset) {
+            Some(child) => is_entry(doc, child) && is_inline(doc, doc.first_child(child)),
+            None => false,
+        }
 }
 
 // Whether a node, if there is one, is inline and no br.

@@ -2,9 +2,9 @@
 
 ghost use Rattle.std.specs.Prelude.{◌≡◌};
 ghost use Rattle.edit_model.specs.Action.{Extend, Scratch, acted};
-ghost use Rattle.edit_model.specs.Gives.{Gives, label_of};
+ghost use Rattle.edit_model.specs.Gives.{Gives};
 ghost use Rattle.edit_doc.specs.Whole.{IsOpen, with_state};
-ghost use Rattle.edit_doc.specs.Held.{Holds, IfHeld, Keeps};
+ghost use Rattle.edit_doc.specs.Held.{Holds, Keeps};
 ghost use Rattle.text_commands.specs.Delete as command;
 
 use crate::places::one_before;
@@ -14,8 +14,8 @@ use node_tests::{has_name, is_block, is_break, is_image, is_words};
 use std::alloc::Global;
 use text_insertion::erase;
 
-// Takes the focus of the selection to another point.
-fn extend(doc: &mut Doc, focus: Point)
+/// Takes the focus of the selection to another point.
+pub(crate) fn extend(doc: &mut Doc, focus: Point)
     ensures extended { doc.new ≡ with_state doc.old (acted (Extend focus) doc.old.state) }
     ensures keeps { Keeps doc.old doc.new }
 {
@@ -35,17 +35,6 @@ fn keep(doc: &mut Doc, at: Point)
     });
 }
 
-// Step 4: a br, hr or img.
-fn is_single(doc: &Doc, node: Option<NodeRef>) -> bool
-    requires { IfHeld doc.now node }
-    ensures { result ≡ command.is_single doc.now.state (label_of node) }
-{
-    match node {
-        Some(node) => { is_break(doc, node) || has_name(doc, node, b"hr") || is_image(doc, node) }
-        None => false,
-    }
-}
-
 /// Step 4: whether one character, or a br, hr or img of a block, stands before a point.
 #[tactic(auto, unfolding(crate::specs::Delete::follows_single))]
 pub(crate) fn follows_single(doc: &Doc, node: NodeRef, at: Point) -> bool
@@ -54,19 +43,11 @@ pub(crate) fn follows_single(doc: &Doc, node: NodeRef, at: Point) -> bool
     ensures { result ≡ command.follows_single doc.now.state at }
 {
     (is_words(doc, node) && at.offset != 0)
-        || (is_block(doc, node) && is_single(doc, child_before(doc, node, at.offset)))
-}
-
-/// Step 4: deletes it.
-#[tactic(auto, using(edit_model::proofs::Steps::steps, edit_model::proofs::Steps::exits, edit_model::proofs::Steps::actions), unfolding(crate::specs::Delete::erase_single))]
-pub(crate) fn erase_single(alloc: Global, doc: &mut Doc, at: Point) -> Result<(), EditFault>
-    requires open { IsOpen doc.old }
-    ensures gives { Gives result doc.old.state doc.new.state (command.erase_single at) }
-    ensures keeps { Keeps doc.old doc.new }
-{
-    select(doc, at, at);
-    extend(doc, one_before(at));
-    erase(alloc, doc, true, true, false)
+        || (is_block(doc, node)
+            && match child_before(doc, node, at.offset) {
+                Some(k) => is_break(doc, k) || has_name(doc, k, b"hr") || is_image(doc, k),
+                None => false,
+            })
 }
 
 /// Step 10: deletes the node before a point. The caret stays where it is.

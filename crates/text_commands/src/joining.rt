@@ -57,16 +57,6 @@ fn is_empty_line(doc: &Doc, node: NodeRef) -> bool
         }
 }
 
-fn is_line(doc: &Doc, node: Option<NodeRef>) -> bool
-    requires { IfHeld doc.now node }
-    ensures { result ≡ command.is_line doc.now.state (label_of node) }
-{
-    match node {
-        Some(node) => has_name(doc, node, b"hr") || is_empty_line(doc, node),
-        None => false,
-    }
-}
-
 /// Step 10: whether a rule or an empty line stands before a point, and the caret is at the start of
 /// its node.
 #[tactic(auto, unfolding(crate::specs::Delete::follows_line))]
@@ -75,28 +65,11 @@ pub(crate) fn follows_line(doc: &Doc, caret: Point, node: NodeRef, at: Point) ->
     requires label { at.label ≡ node.label }
     ensures { result ≡ command.follows_line doc.now.state caret at }
 {
-    caret.offset == 0 && is_line(doc, child_before(doc, node, at.offset))
-}
-
-fn is_entry_at(doc: &Doc, node: Option<NodeRef>) -> bool
-    requires { IfHeld doc.now node }
-    ensures { result ≡ command.is_entry_at doc.now.state (label_of node) }
-{
-    match node {
-        Some(node) => is_entry(doc, node),
-        None => false,
-    }
-}
-
-// Step 12: whether entries stand on both sides of a point.
-#[tactic(auto, unfolding(crate::specs::Delete::parts_entries))]
-fn parts_entries(doc: &Doc, node: NodeRef, at: Point) -> bool
-    requires held { Holds doc.now node }
-    requires label { at.label ≡ node.label }
-    ensures { result ≡ command.parts_entries doc.now.state at }
-{
-    is_entry_at(doc, child_at(doc, node, at.offset))
-        && is_entry_at(doc, child_before(doc, node, at.offset))
+    caret.offset == 0
+        && match child_before(doc, node, at.offset) {
+            Some(child) => has_name(doc, child, b"hr") || is_empty_line(doc, child),
+            None => false,
+        }
 }
 
 // Step 12: to the end of the child before a point.
@@ -126,27 +99,6 @@ fn deepest_before(doc: &Doc, at: Point) -> Point
     at
 }
 
-// The end of a node, or another point where there is none.
-fn end_or(doc: &Doc, node: Option<NodeRef>, at: Point) -> Point
-    requires { IfHeld doc.now node }
-    ensures { result ≡ command.end_or doc.now.state.trees at (label_of node) }
-{
-    match node {
-        Some(node) => end_in(doc, node),
-        None => at,
-    }
-}
-
-// The start of a node, or another point where there is none.
-fn start_or(node: Option<NodeRef>, at: Point) -> Point
-    ensures { result ≡ command.start_or at (label_of node) }
-{
-    match node {
-        Some(node) => start_in(node),
-        None => at,
-    }
-}
-
 /// Step 12: from where to where is deleted, with a caret and the point that something stands before.
 #[tactic(auto, unfolding(crate::specs::Delete::joined))]
 pub(crate) fn joined(doc: &Doc, caret: Point, node: NodeRef, at: Point) -> (Point, Point)
@@ -154,10 +106,13 @@ pub(crate) fn joined(doc: &Doc, caret: Point, node: NodeRef, at: Point) -> (Poin
     requires label { at.label ≡ node.label }
     ensures { result ≡ command.joined doc.now.state caret at }
 {
-    if parts_entries(doc, node, at) {
-        let end = end_or(doc, child_before(doc, node, at.offset), at);
-        (end, start_or(child_at(doc, node, at.offset), at))
-    } else {
-        (deepest_before(doc, at), caret)
+    match (
+        child_before(doc, node, at.offset),
+        child_at(doc, node, at.offset),
+    ) {
+        (Some(before), Some(after)) if is_entry(doc, before) && is_entry(doc, after) => {
+            (end_in(doc, before), start_in(after))
+        }
+        _ => (deepest_before(doc, at), caret),
     }
 }
