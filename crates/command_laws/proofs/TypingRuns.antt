@@ -13,7 +13,6 @@ use Rattle.edit_model.specs.Run.{◌>>=◌, ◌>>◌, final, value, answer, done
 use Rattle.edit_model.proofs.Steps.{final-answer, final-look, value-bind, value-answer, value-look}
 use Rattle.edit_laws.specs.Stateless.{Stateless}
 use Rattle.edit_laws.proofs.StatelessRuns.{stateless_parts, stateless_answer, stateless_make_element}
-use Rattle.inline_value.specs.declared.overrides.Override.{Override}
 use Rattle.wrap_split.specs.declared.rule.Criterion.TheVariants.{Never}
 use Rattle.wrap_split.specs.declared.rule.Recipe.TheVariants.{Make}
 use Rattle.wrap_split.specs.Wrap.{wrap}
@@ -22,7 +21,7 @@ use Rattle.text_insertion.specs.Entries.{is_empty_entry, leave_list}
 use Rattle.text_insertion.specs.Halves.{parting_point, second_name, make_second, fill_hidden, close_both, part_at, part_container}
 use Rattle.text_insertion.specs.Paragraph.{leave_text, split_text, holds_lines, break_line, part_line, part_line_if, part_paragraph, insert_paragraph_inside, insert_paragraph}
 use Rattle.text_insertion.specs.Start.{active_start, insert_at, insert_at_start}
-use Rattle.text_insertion.specs.Typing.{put_in_text, drop_sole_break, select_whole, put_text, put_at, put_char, close_text, type_with, type_char, insert_char_at, insert_char_inside, insert_char, insert_several, insert_chars, insert_text}
+use Rattle.text_insertion.specs.Typing.{drop_sole_break, put_at, put_char, close_text, type_char, insert_char_at, insert_char_inside, insert_char, insert_several, insert_chars, insert_text}
 use Rattle.command_laws.proofs.AncestorRuns.{stateless_fix_ancestors}
 use Rattle.command_laws.proofs.Criteria.{first_part}
 use Rattle.command_laws.proofs.DeleteRuns.{stateless_rename_stray, stateless_erase}
@@ -198,25 +197,13 @@ stateless_insert_paragraph = search (stateless_parts, stateless_erase, stateless
 
 -- ---- inserting text
 
-stateless_put_in_text : (c : ℕ) (p : Point) → Stateless (put_in_text c p)
-unfolding put_in_text
-stateless_put_in_text c p = search stateless_parts
-
 stateless_drop_sole_break : (n : ℕ) → Stateless (drop_sole_break n)
 unfolding drop_sole_break
 stateless_drop_sole_break n = search stateless_parts depth 8
 
-stateless_select_whole : (x : ℕ) → Stateless (select_whole x)
-unfolding select_whole
-stateless_select_whole x = search stateless_parts
-
-stateless_put_text : (c : ℕ) → Stateless (put_text c)
-unfolding put_text
-stateless_put_text c = search (stateless_parts, stateless_insert_at_start, stateless_select_whole)
-
 stateless_put_at : (c : ℕ) (p : Point) → Stateless (put_at c p)
 unfolding put_at
-stateless_put_at c p = search (stateless_parts, stateless_put_in_text, stateless_drop_sole_break, stateless_put_text)
+stateless_put_at c p = search (stateless_parts, stateless_drop_sole_break, stateless_insert_at_start) depth 9
 
 stateless_put_char : (c : ℕ) → Stateless (put_char c)
 unfolding put_char
@@ -226,14 +213,10 @@ stateless_close_text : Stateless close_text
 unfolding close_text
 stateless_close_text = search (stateless_parts, stateless_canonicalize_start, stateless_canonicalize_end, stateless_collapse_selection)
 
-stateless_type_with : (c : ℕ) (p : Point) (overrides : List Override) → Stateless (type_with c p overrides)
-unfolding type_with
-stateless_type_with c p overrides =
-    search (stateless_parts, stateless_canonicalize, stateless_put_char, stateless_restore_states, stateless_close_text)
-
 stateless_type_char : (c : ℕ) (p : Point) → Stateless (type_char c p)
 unfolding type_char
-stateless_type_char c p = search (stateless_parts, stateless_type_with)
+stateless_type_char c p =
+    search (stateless_parts, stateless_canonicalize, stateless_put_char, stateless_restore_states, stateless_close_text) depth 8
 
 stateless_char_at : (c : ℕ) (p : Point) → Stateless (insert_char_at c p)
 unfolding insert_char_at
