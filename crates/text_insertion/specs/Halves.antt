@@ -11,7 +11,7 @@ use Rattle.live_range.specs.declared.places.Point.{Point}
 use Rattle.edit_model.specs.State.{State}
 use Rattle.edit_model.specs.Compositions.{tag_of, attribute_list_of}
 use Rattle.edit_model.specs.Moves.{insert_after}
-use Rattle.edit_model.specs.Run.{Run, ◌>>=◌, ◌>>◌, answer, done, look, given, make_element, collapse, extract_tail}
+use Rattle.edit_model.specs.Run.{Run, ◌>>=◌, ◌>>◌, done, look, given, make_element, collapse, extract_tail}
 use Rattle.edit_query.specs.Leaves.{nodes_in}
 use Rattle.edit_query.specs.Rows.{container_name}
 use Rattle.inline_value.specs.Ancestors.{is_prohibited}

@@ -1,6 +1,6 @@
 -- Inserting a paragraph (HTML Editing APIs, "the insertParagraph command"): what is selected goes,
 -- and the line is parted there. The steps are those of docs/ALGORITHMS.md. It answers true.
-use Rattle.std.specs.Prelude.{ℕ, ◌+◌, ◌==◌, Bool, true, false, ◌||◌, ◌&&◌, not, codes, Option, None, if◌then◌else◌, unwrap_or}
+use Rattle.std.specs.Prelude.{ℕ, ◌+◌, ◌==◌, Bool, true, false, ◌||◌, ◌&&◌, codes, Option, None, if◌then◌else◌, unwrap_or}
 use Rattle.dom_model.specs.declared.Content.{Content}
 use Rattle.dom_model.specs.Contents.{has_name, has_chars_at, length_of}
 use Rattle.dom_model.specs.Forest.{Forest}
