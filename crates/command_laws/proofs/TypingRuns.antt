@@ -13,16 +13,15 @@ use Rattle.edit_model.specs.Run.{◌>>=◌, ◌>>◌, final, value, answer, done
 use Rattle.edit_model.proofs.Steps.{final-answer, final-look, value-bind, value-answer, value-look}
 use Rattle.edit_laws.specs.Stateless.{Stateless}
 use Rattle.edit_laws.proofs.StatelessRuns.{stateless_parts, stateless_answer, stateless_make_element}
-use Rattle.inline_value.specs.declared.overrides.Override.{Override}
 use Rattle.wrap_split.specs.declared.rule.Criterion.TheVariants.{Never}
 use Rattle.wrap_split.specs.declared.rule.Recipe.TheVariants.{Make}
 use Rattle.wrap_split.specs.Wrap.{wrap}
 use Rattle.text_insertion.specs.Containers.{make_container, insert_container, add_container, wrap_line, make_line, is_own_container, own_container}
 use Rattle.text_insertion.specs.Entries.{is_empty_entry, leave_list}
-use Rattle.text_insertion.specs.Halves.{parting_point, second_name, make_second, part_at, fill_hidden, fill_both, close_both, part_from, part_container}
-use Rattle.text_insertion.specs.Paragraph.{cut_text, leave_text, split_text, holds_lines, break_again, break_with, break_line, part_line, part_line_if, part_paragraph, insert_paragraph_at, insert_paragraph_inside, insert_paragraph}
+use Rattle.text_insertion.specs.Halves.{parting_point, second_name, make_second, fill_hidden, close_both, part_at, part_container}
+use Rattle.text_insertion.specs.Paragraph.{leave_text, split_text, holds_lines, break_line, part_line, part_line_if, part_paragraph, insert_paragraph_inside, insert_paragraph}
 use Rattle.text_insertion.specs.Start.{active_start, insert_at, insert_at_start}
-use Rattle.text_insertion.specs.Typing.{put_in_text, drop_sole_break, select_whole, put_text, put_at, put_char, close_text, type_with, type_char, insert_char_at, insert_char_inside, insert_char, insert_several, insert_chars, insert_text}
+use Rattle.text_insertion.specs.Typing.{drop_sole_break, put_at, put_char, close_text, type_char, insert_char_at, insert_char_inside, insert_char, insert_several, insert_chars, insert_text}
 use Rattle.command_laws.proofs.AncestorRuns.{stateless_fix_ancestors}
 use Rattle.command_laws.proofs.Criteria.{first_part}
 use Rattle.command_laws.proofs.DeleteRuns.{stateless_rename_stray, stateless_erase}
@@ -44,29 +43,17 @@ stateless_insert_at_start x = search (stateless_parts, stateless_insert_at)
 
 -- ---- the text is split, and a line ends with a br, or an entry leaves its list
 
-stateless_cut_text : (p : Point) → Stateless (cut_text p)
-unfolding cut_text
-stateless_cut_text p = search stateless_parts
-
 stateless_leave_text : (p : Point) → Stateless (leave_text p)
 unfolding leave_text
 stateless_leave_text p = search stateless_parts
 
 stateless_split_text : (p : Point) → Stateless (split_text p)
 unfolding split_text
-stateless_split_text p = search (stateless_parts, stateless_cut_text, stateless_leave_text)
-
-stateless_break_again : (c x : ℕ) → Stateless (break_again c x)
-unfolding break_again
-stateless_break_again c x = search (stateless_parts, stateless_moves, stateless_insert_at_start)
-
-stateless_break_with : (p : Point) (c x : ℕ) → Stateless (break_with p c x)
-unfolding break_with
-stateless_break_with p c x = search (stateless_parts, stateless_insert_at_start, stateless_break_again)
+stateless_split_text p = search (stateless_parts, stateless_leave_text)
 
 stateless_break_line : (p : Point) (c : ℕ) → Stateless (break_line p c)
 unfolding break_line
-stateless_break_line p c = search (stateless_parts, stateless_moves, stateless_break_with)
+stateless_break_line p c = search (stateless_parts, stateless_moves, stateless_insert_at_start) depth 9
 
 stateless_leave_list : (c : ℕ) → Stateless (leave_list c)
 unfolding leave_list
@@ -145,16 +132,12 @@ stateless_fill_hidden : (c : ℕ) → Stateless (fill_hidden c)
 unfolding fill_hidden
 stateless_fill_hidden c = search (stateless_parts, stateless_append_break)
 
-stateless_fill_both : (c d : ℕ) → Stateless (fill_both c d)
-unfolding fill_both
-stateless_fill_both c d = search (stateless_parts, stateless_fill_hidden)
-
 stateless_close_both : (c d : ℕ) → Stateless (close_both c d)
 unfolding close_both
-stateless_close_both c d = search (stateless_parts, stateless_fill_both)
+stateless_close_both c d = search (stateless_parts, stateless_fill_hidden)
 
-stateless_put_second : (q : Point) (c d : ℕ) → Stateless (insert_after c d >> (extract_tail q c d >> answer d))
-stateless_put_second q c d = search (stateless_parts, stateless_insert_after)
+stateless_put_second : (q : Point) (c d : ℕ) → Stateless (insert_after c d >> (extract_tail q c d >> close_both c d))
+stateless_put_second q c d = search (stateless_parts, stateless_insert_after, stateless_close_both)
 
 module _ (s : State) (is : IsValid s) (c : ℕ) (none : HasNoState s c) where
   second_at : (q : Point) → At s (make_second q c)
@@ -170,19 +153,13 @@ module _ (s : State) (is : IsValid s) (c : ℕ) (none : HasNoState s c) where
       at_bind (make_second q c) _ s (second_at q)
       ((stateless_put_second q c (value (make_second q c) s)).leaves (final (make_second q c) s) (valid_final (make_second q c) s is))
 
-  part_from_at : (q : Point) → At s (part_from c q)
-  unfolding part_from
-  part_from_at q =
-      at_bind (part_at q c) (close_both c) s (part_at_at q)
-      ((stateless_close_both c (value (part_at q c) s)).leaves (final (part_at q c) s) (valid_final (part_at q c) s is))
-
   part_container_at : At s (part_container c)
   unfolding part_container
   part_container_at = at_look _ s (by_start (active_start s))
     where
-      by_start : (o : Option Point) → At s (given o done λ p. part_from c (parting_point s p))
+      by_start : (o : Option Point) → At s (given o done λ p. part_at (parting_point s p) c)
       by_start None = (stateless_answer tt).leaves s is
-      by_start (Some p) = part_from_at (parting_point s p)
+      by_start (Some p) = part_at_at (parting_point s p)
 
   part_line_at : (p : Point) → At s (part_line p c)
   unfolding part_line
@@ -210,13 +187,9 @@ stateless_part_paragraph : (p : Point) → Stateless (part_paragraph p)
 unfolding part_paragraph
 stateless_part_paragraph p = search (stateless_parts, stateless_part_own)
 
-stateless_paragraph_at : (p : Point) → Stateless (insert_paragraph_at p)
-unfolding insert_paragraph_at
-stateless_paragraph_at p = search (stateless_parts, stateless_split_text, stateless_part_paragraph)
-
 stateless_paragraph_inside : Stateless insert_paragraph_inside
 unfolding insert_paragraph_inside
-stateless_paragraph_inside = search (stateless_parts, stateless_paragraph_at)
+stateless_paragraph_inside = search (stateless_parts, stateless_split_text, stateless_part_paragraph)
 
 pub stateless_insert_paragraph : Stateless insert_paragraph
 unfolding insert_paragraph
@@ -224,25 +197,13 @@ stateless_insert_paragraph = search (stateless_parts, stateless_erase, stateless
 
 -- ---- inserting text
 
-stateless_put_in_text : (c : ℕ) (p : Point) → Stateless (put_in_text c p)
-unfolding put_in_text
-stateless_put_in_text c p = search stateless_parts
-
 stateless_drop_sole_break : (n : ℕ) → Stateless (drop_sole_break n)
 unfolding drop_sole_break
 stateless_drop_sole_break n = search stateless_parts depth 8
 
-stateless_select_whole : (x : ℕ) → Stateless (select_whole x)
-unfolding select_whole
-stateless_select_whole x = search stateless_parts
-
-stateless_put_text : (c : ℕ) → Stateless (put_text c)
-unfolding put_text
-stateless_put_text c = search (stateless_parts, stateless_insert_at_start, stateless_select_whole)
-
 stateless_put_at : (c : ℕ) (p : Point) → Stateless (put_at c p)
 unfolding put_at
-stateless_put_at c p = search (stateless_parts, stateless_put_in_text, stateless_drop_sole_break, stateless_put_text)
+stateless_put_at c p = search (stateless_parts, stateless_drop_sole_break, stateless_insert_at_start) depth 9
 
 stateless_put_char : (c : ℕ) → Stateless (put_char c)
 unfolding put_char
@@ -252,14 +213,10 @@ stateless_close_text : Stateless close_text
 unfolding close_text
 stateless_close_text = search (stateless_parts, stateless_canonicalize_start, stateless_canonicalize_end, stateless_collapse_selection)
 
-stateless_type_with : (c : ℕ) (p : Point) (overrides : List Override) → Stateless (type_with c p overrides)
-unfolding type_with
-stateless_type_with c p overrides =
-    search (stateless_parts, stateless_canonicalize, stateless_put_char, stateless_restore_states, stateless_close_text)
-
 stateless_type_char : (c : ℕ) (p : Point) → Stateless (type_char c p)
 unfolding type_char
-stateless_type_char c p = search (stateless_parts, stateless_type_with)
+stateless_type_char c p =
+    search (stateless_parts, stateless_canonicalize, stateless_put_char, stateless_restore_states, stateless_close_text) depth 8
 
 stateless_char_at : (c : ℕ) (p : Point) → Stateless (insert_char_at c p)
 unfolding insert_char_at

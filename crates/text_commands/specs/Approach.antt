@@ -1,7 +1,7 @@
 -- The ways that the delete command takes back from a caret (HTML Editing APIs, "the delete
 -- command", steps 3 and 7). The steps are those of docs/ALGORITHMS.md.
 use Rattle.std.specs.Prelude.{ℕ, ◌-◌, ◌==◌, Bool, true, false, ◌||◌, ◌&&◌, not, codes, Option, Some, None, if◌then◌else◌}
-use Rattle.std.specs.Option.{option_map, option_map_or}
+use Rattle.std.specs.Option.{option_and_then}
 use Rattle.dom_model.specs.Contents.{has_name, is_break, is_image}
 use Rattle.dom_model.specs.Forest.{is_label, prev_of}
 use Rattle.live_range.specs.declared.places.Point.{Point}
@@ -39,99 +39,70 @@ abbrev pub if_hidden : State → Option ℕ → Option ℕ
 if_hidden s None = None
 if_hidden s (Some k) = if is_editable_for s k && not (is_visible s.trees k) then Some k else None
 
--- steps 3 b and 7: the child before goes, and the point stands where it stood
+-- the first line that applies: what is there goes on, and otherwise the next line is asked
+infixr 5 for◌then◌else◌
+abbrev pub for◌then◌else◌ : {A B : Type 0} → Option A → (A → Run B) → Run B → Run B
+for o then f else n = given o n f
+
+-- steps 3 b and 7: the child before the point
 unfoldable pub hidden_child : State → Point → Option ℕ
 hidden_child s p = if_hidden s (child_before s.trees p.label p.offset)
 
--- delete, steps 3 b and 7: it goes, and the offset shrinks by 1
+-- steps 3 b and 7: it goes, and the offset shrinks by 1
 unfoldable pub drop_child : Approach → ℕ → Run Approach
 drop_child a k = remove k >> answer (moved_to a (at a.at.label (a.at.offset - 1)))
 
--- ---- delete, step 3: back to what is deleted
+-- ---- step 3: back to what is deleted
 
--- step 3 a: the sibling before the node at whose start the point stands
+-- a: the sibling before the node at whose start the point stands
 unfoldable pub hidden_prev : State → Point → Option ℕ
 hidden_prev s p =
     if not (is_affected_host s p.label) && (p.offset == 0) then
     if_hidden s (prev_of s.trees p.label) else None
 
--- delete, step 3 a: it goes
-unfoldable pub drop_prev : Approach → ℕ → Run Approach
-drop_prev a k = remove k >> answer a
-
--- step 3 c: out of an inline node at its start, and out of a node that shows nothing
-unfoldable pub is_left : State → Point → Bool
-is_left s p =
-    not (is_affected_host s p.label)
-    && (((p.offset == 0) && not (is_block s.trees p.label)) || not (is_visible s.trees p.label))
-
--- delete, step 3 c: just before such a node
+-- c: out of an inline node at its start, and out of a node that shows nothing
 unfoldable pub out_of_node : State → Point → Option Point
-out_of_node s p = if is_left s p then before_node s.trees p.label else None
+out_of_node s p = if not (is_affected_host s p.label)
+    && (((p.offset == 0) && not (is_block s.trees p.label)) || not (is_visible s.trees p.label))
+    then before_node s.trees p.label else None
 
--- step 3 d: an editable a gives way to its children
-abbrev pub if_link : State → Option ℕ → Option ℕ
-if_link s None = None
-if_link s (Some k) = if is_editable_for s k && has_name s.trees k (codes "a") then Some k else None
-
--- delete, step 3 d: the one before the point
+-- d: an editable a before the point
 unfoldable pub link_before : State → Point → Option ℕ
-link_before s p = if_link s (child_before s.trees p.label p.offset)
+link_before s p = option_and_then
+    (λ k. if is_editable_for s k && has_name s.trees k (codes "a") then Some k else None)
+    (child_before s.trees p.label p.offset)
 
--- delete, step 3 d: its children stay, and the algorithm ends
-unfoldable pub drop_link : Approach → ℕ → Run Approach
-drop_link a k = remove_keeping_children k >> answer (ended a)
-
--- step 3 e: into a child that is no block, br or img
-abbrev pub if_enterable : State → Option ℕ → Option ℕ
-if_enterable s None = None
-if_enterable s (Some k) =
-    if is_block s.trees k || (is_break s.trees k || is_image s.trees k) then None else Some k
-
--- delete, step 3 e: the end of such a child
+-- e: the end of a child before the point that is no block, br or img
 unfoldable pub into_child : State → Point → Option Point
-into_child s p =
-    option_map (end_in s.trees) (if_enterable s (child_before s.trees p.label p.offset))
+into_child s p = option_and_then
+    (λ k. if is_block s.trees k || (is_break s.trees k || is_image s.trees k) then None
+    else Some (end_in s.trees k)) (child_before s.trees p.label p.offset)
 
--- steps 3 e and 3 f
-unfoldable pub enter_or_stop : Approach → Run Approach
-enter_or_stop a = look λ s. answer (option_map_or (moved_to a) (into_child s a.at) (halted a))
-
--- from step 3 d on
-unfoldable pub unlink_or_enter : Approach → Run Approach
-unlink_or_enter a = look λ s. given (link_before s a.at) (enter_or_stop a) (drop_link a)
-
--- from step 3 c on
-unfoldable pub leave_or_enter : Approach → Run Approach
-leave_or_enter a =
-    look λ s. given (out_of_node s a.at) (unlink_or_enter a) λ p. answer (moved_to a p)
-
--- from step 3 b on
-unfoldable pub hide_or_move : Approach → Run Approach
-hide_or_move a = look λ s. given (hidden_child s a.at) (leave_or_enter a) (drop_child a)
-
--- one turn of step 3
+-- one turn: the lines a to f. An a gives way to its children, and the command ends.
 unfoldable pub back_turn : Approach → Run Approach
-back_turn a = look λ s. given (hidden_prev s a.at) (hide_or_move a) (drop_prev a)
+back_turn a = look λ s.
+    for hidden_prev s a.at then (λ k. remove k >> answer a)
+    else for hidden_child s a.at then drop_child a
+    else for out_of_node s a.at then (λ p. answer (moved_to a p))
+    else for link_before s a.at then (λ k. remove_keeping_children k >> answer (ended a))
+    else for into_child s a.at then (λ p. answer (moved_to a p))
+    else answer (halted a)
 
--- delete, step 3
 unfoldable pub go_back : Point → Run Approach
 go_back p = look λ s. while_at_most (turn_bound s) goes_on back_turn (begun_at p)
 
--- ---- delete, step 7: out to where something stands before the point
+-- ---- step 7: out to where something stands before the point
 
 unfoldable pub out_of_start : State → Point → Option Point
 out_of_start s p = if (p.offset == 0) && not (is_affected_host s p.label) then
     before_node s.trees p.label else None
 
--- delete, step 7: the child before the point goes, or it stops
-unfoldable pub hide_or_stop : Approach → Run Approach
-hide_or_stop a = look λ s. given (hidden_child s a.at) (answer (halted a)) (drop_child a)
-
--- one turn of step 7
+-- one turn
 unfoldable pub climb_turn : Approach → Run Approach
-climb_turn a = look λ s. given (out_of_start s a.at) (hide_or_stop a) λ p. answer (moved_to a p)
+climb_turn a = look λ s.
+    for out_of_start s a.at then (λ p. answer (moved_to a p))
+    else for hidden_child s a.at then drop_child a
+    else answer (halted a)
 
--- delete, step 7
 unfoldable pub climb : Point → Run Approach
 climb p = look λ s. while_at_most (turn_bound s) goes_on climb_turn (begun_at p)

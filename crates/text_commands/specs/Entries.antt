@@ -1,7 +1,7 @@
 -- What the delete command does at the start of an entry of a list, and of an indented line (HTML
 -- Editing APIs, "the delete command", steps 6, 8 and 11). The steps are those of
 -- docs/ALGORITHMS.md.
-use Rattle.std.specs.Prelude.{ℕ, ◌==◌, Bool, true, false, ◌||◌, ◌&&◌, not, List, [], Option, Some, None, is_none, is_some, if◌then◌else◌}
+use Rattle.std.specs.Prelude.{ℕ, ◌==◌, Bool, false, ◌||◌, ◌&&◌, not, List, [], Option, Some, None, is_none, is_some, if◌then◌else◌}
 use Rattle.std.specs.List.{list_any}
 use Rattle.std.specs.Option.{option_map_or}
 use Rattle.dom_model.specs.declared.Content.{Content}
@@ -12,7 +12,7 @@ use Rattle.node_styles.specs.NameClasses.{is_indentation}
 use Rattle.node_tests.specs.BlockPoints.{child_before, child_at}
 use Rattle.edit_model.specs.State.{State}
 use Rattle.edit_model.specs.Confined.{is_editable_for}
-use Rattle.edit_model.specs.Run.{Run, ◌>>=◌, ◌>>◌, answer, done, look, given, for_each}
+use Rattle.edit_model.specs.Run.{Run, ◌>>=◌, ◌>>◌, done, look, given, for_each}
 use Rattle.wrap_split.specs.Wrap.{is_inline, append_break}
 use Rattle.inline_value.specs.Ancestors.{split_out, fix_ancestors}
 use Rattle.inline_value.specs.Forcing.{ancestors}
@@ -25,31 +25,25 @@ use Rattle.text_insertion.specs.Entries.{is_entry, rename_stray}
 
 -- ---- delete, step 6: an entry leaves its list
 
-unfoldable pub is_first_child : State → ℕ → Bool
-is_first_child s n = is_some (parent_of s.trees n) && is_none (prev_of s.trees n)
-
 -- the point is the start of an entry that is the first child of its parent
 unfoldable pub starts_entry : State → Point → Bool
-starts_entry s p = (p.offset == 0) && (is_entry s p.label && is_first_child s p.label)
+starts_entry s p =
+    (p.offset == 0)
+    && (is_entry s p.label
+    && (is_some (parent_of s.trees p.label) && is_none (prev_of s.trees p.label)))
 
 -- the items among its ancestors, in tree order
 abbrev pub items_from : Forest Content → Option ℕ → List ℕ
 items_from f None = []
 items_from f (Some p) = items_over f p
 
--- delete, step 6: their sublists are normalized
-unfoldable pub normalize_around : ℕ → Run (Unit {0})
-normalize_around n =
-    look λ s. for_each (items_from s.trees (parent_of s.trees n)) normalize_sublists
-
--- delete, step 6: the entry n leaves its list
-unfoldable pub lift_entry : ℕ → Run Bool
+-- their sublists are normalized, and the entry n leaves its list
+unfoldable pub lift_entry : ℕ → Run (Unit {0})
 lift_entry n = do
-  normalize_around n
+  look λ s. for_each (items_from s.trees (parent_of s.trees n)) normalize_sublists
   split_out n
   kept ← rename_stray n
   fix_ancestors kept
-  answer true
 
 -- ---- delete, step 8: an indented line is outdented
 
@@ -77,37 +71,30 @@ bare_in s range = gathered (is_bare s) s.trees range.0 range.1
 unfoldable pub bare_nodes : State → Point → List ℕ
 bare_nodes s p = bare_in s (block_extend s.trees p p)
 
--- delete, step 8: each of them is outdented
-unfoldable pub outdent_line : Point → Run Bool
-outdent_line p = look λ s. for_each (bare_nodes s p) outdent_node >> answer true
+-- each of them is outdented
+unfoldable pub outdent_line : Point → Run (Unit {0})
+outdent_line p = look λ s. for_each (bare_nodes s p) outdent_node
 
 -- ---- delete, step 11: the line that the entry before ends with is closed, and an empty one is put
 -- after it
 
-abbrev pub opens_inline : State → Option ℕ → Bool
-opens_inline s None = false
-opens_inline s (Some k) = is_entry s k && is_inline s (first_of s.trees k)
-
 -- at the child at the point, which begins with a line of its own
 unfoldable pub opens_entry : State → Point → Bool
-opens_entry s p = not (p.offset == 0) && opens_inline s (child_at s.trees p.label p.offset)
+opens_entry s p =
+    not (p.offset == 0)
+    && option_map_or (λ k. is_entry s k && is_inline s (first_of s.trees k))
+    (child_at s.trees p.label p.offset) false
 
 abbrev pub is_open_line : State → Option ℕ → Bool
 is_open_line s z = is_inline s z && option_map_or (λ l. not (is_break s.trees l)) z false
 
--- delete, step 11: a new br where k ends with an inline node that is no br
-unfoldable pub close_line : ℕ → Run (Unit {0})
-close_line k = look λ s. if is_open_line s (last_of s.trees k) then append_break k else done
-
--- delete, step 11: then another one where k ends with an inline node
-unfoldable pub add_line : ℕ → Run (Unit {0})
-add_line k = look λ s. if is_inline s (last_of s.trees k) then append_break k else done
-
--- delete, step 11: both, in what stands before the entry
+-- in what stands before the entry: a new br where it ends with an inline node that is no br, and
+-- then another one where it ends with an inline node
 unfoldable pub part_entry : ℕ → Run (Unit {0})
-part_entry k = close_line k >> add_line k
+part_entry k = do
+  look λ s. if is_open_line s (last_of s.trees k) then append_break k else done
+  look λ s. if is_inline s (last_of s.trees k) then append_break k else done
 
--- delete, step 11
 unfoldable pub part_entries : Point → Run (Unit {0})
-part_entries p = look λ s.
-    if opens_entry s p then given (child_before s.trees p.label p.offset) done part_entry else done
+part_entries p = look λ s. if opens_entry s p
+    then given (child_before s.trees p.label p.offset) done part_entry else done

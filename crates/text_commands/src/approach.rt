@@ -49,7 +49,7 @@ fn hidden_child(doc: &Doc, node: NodeRef, at: Point) -> Option<NodeRef>
     if_hidden(doc, child_before(doc, node, at.offset))
 }
 
-// Steps 3 b and 7.
+// Steps 3 b and 7: it goes.
 #[tactic(auto, using(edit_model::proofs::Steps::steps, edit_model::proofs::Steps::exits), unfolding(crate::specs::Approach::drop_child))]
 fn drop_child(
     doc: &mut Doc,
@@ -86,38 +86,7 @@ fn hidden_prev(doc: &Doc, node: NodeRef, at: Point) -> Option<NodeRef>
     }
 }
 
-// Step 3 a.
-#[tactic(auto, using(edit_model::proofs::Steps::steps, edit_model::proofs::Steps::exits), unfolding(crate::specs::Approach::drop_prev))]
-fn drop_prev(
-    doc: &mut Doc,
-    node: NodeRef,
-    way: Approach,
-    prev: NodeRef,
-) -> Result<Approach, EditFault>
-    requires open { IsOpen doc.old }
-    requires node_held { Holds doc.old node }
-    requires label { way.at.label ≡ node.label }
-    requires prev_held { Holds doc.old prev }
-    ensures gives { Gives result doc.old.state doc.new.state (back.drop_prev way prev.label) }
-    ensures there { IfOk result (λ next. 0 < count_of doc.new.state.trees next.at.label) }
-    ensures keeps { Keeps doc.old doc.new }
-{
-    doc.remove(prev)?;
-    Ok(way)
-}
-
-// Step 3 c: whether the way leaves the node of a point.
-#[tactic(auto, unfolding(crate::specs::Approach::is_left))]
-fn is_left(doc: &Doc, node: NodeRef, at: Point) -> bool
-    requires held { Holds doc.now node }
-    requires label { at.label ≡ node.label }
-    ensures { result ≡ back.is_left doc.now.state at }
-{
-    !is_affected_host(doc, node)
-        && ((at.offset == 0 && !is_block(doc, node)) || !is_visible(doc, node))
-}
-
-// Step 3 c.
+// Step 3 c: out of an inline node at its start, and out of a node that shows nothing.
 #[tactic(auto, unfolding(crate::specs::Approach::out_of_node))]
 fn out_of_node(doc: &Doc, node: NodeRef, at: Point) -> Option<Point>
     requires held { Holds doc.now node }
@@ -125,74 +94,31 @@ fn out_of_node(doc: &Doc, node: NodeRef, at: Point) -> Option<Point>
     ensures gives { result ≡ back.out_of_node doc.now.state at }
     ensures there { IfSome result (λ next. 0 < count_of doc.now.state.trees next.label) }
 {
-    if is_left(doc, node, at) {
+    if !is_affected_host(doc, node)
+        && ((at.offset == 0 && !is_block(doc, node)) || !is_visible(doc, node))
+    {
         before_node(doc, node)
     } else {
         None
     }
 }
 
-// Step 3 d: a node, if there is one, that is an editable a.
-fn if_link(doc: &Doc, node: Option<NodeRef>) -> Option<NodeRef>
-    requires { IfHeld doc.now node }
-    ensures { Finds doc.now result (back.if_link doc.now.state (label_of node)) }
-{
-    let node = node?;
-    if doc.is_editable_for(node) && has_name(doc, node, b"a") {
-        Some(node)
-    } else {
-        None
-    }
-}
-
+// Step 3 d: an editable a before a point.
 #[tactic(auto, unfolding(crate::specs::Approach::link_before))]
 fn link_before(doc: &Doc, node: NodeRef, at: Point) -> Option<NodeRef>
     requires held { Holds doc.now node }
     requires label { at.label ≡ node.label }
     ensures { Finds doc.now result (back.link_before doc.now.state at) }
 {
-    if_link(doc, child_before(doc, node, at.offset))
-}
-
-// Step 3 d.
-#[tactic(auto, using(edit_model::proofs::Steps::steps, edit_model::proofs::Steps::exits), unfolding(crate::specs::Approach::drop_link))]
-fn drop_link(
-    alloc: Global,
-    doc: &mut Doc,
-    node: NodeRef,
-    way: Approach,
-    link: NodeRef,
-) -> Result<Approach, EditFault>
-    requires open { IsOpen doc.old }
-    requires node_held { Holds doc.old node }
-    requires label { way.at.label ≡ node.label }
-    requires link_held { Holds doc.old link }
-    ensures gives { Gives result doc.old.state doc.new.state (back.drop_link way link.label) }
-    ensures there { IfOk result (λ next. 0 < count_of doc.new.state.trees next.at.label) }
-    ensures keeps { Keeps doc.old doc.new }
-{
-    remove_keeping_children(alloc, doc, link)?;
-    Ok(Approach {
-        going: false,
-        unlinked: true,
-        ..way
-    })
-}
-
-// Step 3 e: a node, if there is one, that is no block, br or img.
-fn if_enterable(doc: &Doc, node: Option<NodeRef>) -> Option<NodeRef>
-    requires { IfHeld doc.now node }
-    ensures { Finds doc.now result (back.if_enterable doc.now.state (label_of node)) }
-{
-    let node = node?;
-    if is_block(doc, node) || is_break(doc, node) || is_image(doc, node) {
-        None
+    let child = child_before(doc, node, at.offset)?;
+    if doc.is_editable_for(child) && has_name(doc, child, b"a") {
+        Some(child)
     } else {
-        Some(node)
+        None
     }
 }
 
-// Step 3 e.
+// Step 3 e: the end of a child before a point that is no block, br or img.
 #[tactic(auto, unfolding(crate::specs::Approach::into_child))]
 fn into_child(doc: &Doc, node: NodeRef, at: Point) -> Option<Point>
     requires held { Holds doc.now node }
@@ -200,91 +126,15 @@ fn into_child(doc: &Doc, node: NodeRef, at: Point) -> Option<Point>
     ensures gives { result ≡ back.into_child doc.now.state at }
     ensures there { IfSome result (λ next. 0 < count_of doc.now.state.trees next.label) }
 {
-    let child = if_enterable(doc, child_before(doc, node, at.offset))?;
-    Some(end_in(doc, child))
-}
-
-// Steps 3 e and 3 f.
-#[tactic(auto, using(edit_model::proofs::Steps::steps, edit_model::proofs::Steps::exits), unfolding(crate::specs::Approach::enter_or_stop))]
-fn enter_or_stop(doc: &Doc, node: NodeRef, way: Approach) -> Result<Approach, EditFault>
-    requires node_held { Holds doc.now node }
-    requires label { way.at.label ≡ node.label }
-    ensures gives { Gives result doc.now.state doc.now.state (back.enter_or_stop way) }
-    ensures there { IfOk result (λ next. 0 < count_of doc.now.state.trees next.at.label) }
-{
-    match into_child(doc, node, way.at) {
-        Some(at) => Ok(Approach { at, ..way }),
-        None => Ok(Approach {
-            going: false,
-            ..way
-        }),
+    let child = child_before(doc, node, at.offset)?;
+    if is_block(doc, child) || is_break(doc, child) || is_image(doc, child) {
+        None
+    } else {
+        Some(end_in(doc, child))
     }
 }
 
-// From step 3 d on.
-#[tactic(auto, using(edit_model::proofs::Steps::steps, edit_model::proofs::Steps::exits), unfolding(crate::specs::Approach::unlink_or_enter))]
-fn unlink_or_enter(
-    alloc: Global,
-    doc: &mut Doc,
-    node: NodeRef,
-    way: Approach,
-) -> Result<Approach, EditFault>
-    requires open { IsOpen doc.old }
-    requires node_held { Holds doc.old node }
-    requires label { way.at.label ≡ node.label }
-    ensures gives { Gives result doc.old.state doc.new.state (back.unlink_or_enter way) }
-    ensures there { IfOk result (λ next. 0 < count_of doc.new.state.trees next.at.label) }
-    ensures keeps { Keeps doc.old doc.new }
-{
-    match link_before(doc, node, way.at) {
-        Some(link) => drop_link(alloc, doc, node, way, link),
-        None => enter_or_stop(doc, node, way),
-    }
-}
-
-// From step 3 c on.
-#[tactic(auto, using(edit_model::proofs::Steps::steps, edit_model::proofs::Steps::exits), unfolding(crate::specs::Approach::leave_or_enter))]
-fn leave_or_enter(
-    alloc: Global,
-    doc: &mut Doc,
-    node: NodeRef,
-    way: Approach,
-) -> Result<Approach, EditFault>
-    requires open { IsOpen doc.old }
-    requires node_held { Holds doc.old node }
-    requires label { way.at.label ≡ node.label }
-    ensures gives { Gives result doc.old.state doc.new.state (back.leave_or_enter way) }
-    ensures there { IfOk result (λ next. 0 < count_of doc.new.state.trees next.at.label) }
-    ensures keeps { Keeps doc.old doc.new }
-{
-    match out_of_node(doc, node, way.at) {
-        Some(at) => Ok(Approach { at, ..way }),
-        None => unlink_or_enter(alloc, doc, node, way),
-    }
-}
-
-// From step 3 b on.
-#[tactic(auto, using(edit_model::proofs::Steps::steps, edit_model::proofs::Steps::exits), unfolding(crate::specs::Approach::hide_or_move))]
-fn hide_or_move(
-    alloc: Global,
-    doc: &mut Doc,
-    node: NodeRef,
-    way: Approach,
-) -> Result<Approach, EditFault>
-    requires open { IsOpen doc.old }
-    requires node_held { Holds doc.old node }
-    requires label { way.at.label ≡ node.label }
-    ensures gives { Gives result doc.old.state doc.new.state (back.hide_or_move way) }
-    ensures there { IfOk result (λ next. 0 < count_of doc.new.state.trees next.at.label) }
-    ensures keeps { Keeps doc.old doc.new }
-{
-    match hidden_child(doc, node, way.at) {
-        Some(child) => drop_child(doc, node, way, child),
-        None => leave_or_enter(alloc, doc, node, way),
-    }
-}
-
-// Step 3: one turn.
+// Step 3: one turn, in which the first line that applies is done.
 #[tactic(auto, using(edit_model::proofs::Steps::steps, edit_model::proofs::Steps::exits), unfolding(crate::specs::Approach::back_turn))]
 fn back_turn(alloc: Global, doc: &mut Doc, way: Approach) -> Result<Approach, EditFault>
     requires open { IsOpen doc.old }
@@ -294,9 +144,35 @@ fn back_turn(alloc: Global, doc: &mut Doc, way: Approach) -> Result<Approach, Ed
     ensures keeps { Keeps doc.old doc.new }
 {
     let node = node_of(doc, way.at);
-    match hidden_prev(doc, node, way.at) {
-        Some(prev) => drop_prev(doc, node, way, prev),
-        None => hide_or_move(alloc, doc, node, way),
+    // a
+    if let Some(prev) = hidden_prev(doc, node, way.at) {
+        doc.remove(prev)?;
+        return Ok(way);
+    }
+    // b
+    if let Some(child) = hidden_child(doc, node, way.at) {
+        return drop_child(doc, node, way, child);
+    }
+    // c
+    if let Some(at) = out_of_node(doc, node, way.at) {
+        return Ok(Approach { at, ..way });
+    }
+    // d
+    if let Some(link) = link_before(doc, node, way.at) {
+        remove_keeping_children(alloc, doc, link)?;
+        return Ok(Approach {
+            going: false,
+            unlinked: true,
+            ..way
+        });
+    }
+    // e, and otherwise f
+    match into_child(doc, node, way.at) {
+        Some(at) => Ok(Approach { at, ..way }),
+        None => Ok(Approach {
+            going: false,
+            ..way
+        }),
     }
 }
 
@@ -347,25 +223,6 @@ fn out_of_start(doc: &Doc, node: NodeRef, at: Point) -> Option<Point>
     }
 }
 
-// Step 7: the child before the point goes, or it stops.
-#[tactic(auto, using(edit_model::proofs::Steps::steps, edit_model::proofs::Steps::exits), unfolding(crate::specs::Approach::hide_or_stop))]
-fn hide_or_stop(doc: &mut Doc, node: NodeRef, way: Approach) -> Result<Approach, EditFault>
-    requires open { IsOpen doc.old }
-    requires node_held { Holds doc.old node }
-    requires label { way.at.label ≡ node.label }
-    ensures gives { Gives result doc.old.state doc.new.state (back.hide_or_stop way) }
-    ensures there { IfOk result (λ next. 0 < count_of doc.new.state.trees next.at.label) }
-    ensures keeps { Keeps doc.old doc.new }
-{
-    match hidden_child(doc, node, way.at) {
-        Some(child) => drop_child(doc, node, way, child),
-        None => Ok(Approach {
-            going: false,
-            ..way
-        }),
-    }
-}
-
 // Step 7: one turn.
 #[tactic(auto, using(edit_model::proofs::Steps::steps, edit_model::proofs::Steps::exits), unfolding(crate::specs::Approach::climb_turn))]
 fn climb_turn(doc: &mut Doc, way: Approach) -> Result<Approach, EditFault>
@@ -376,9 +233,15 @@ fn climb_turn(doc: &mut Doc, way: Approach) -> Result<Approach, EditFault>
     ensures keeps { Keeps doc.old doc.new }
 {
     let node = node_of(doc, way.at);
-    match out_of_start(doc, node, way.at) {
-        Some(at) => Ok(Approach { at, ..way }),
-        None => hide_or_stop(doc, node, way),
+    if let Some(at) = out_of_start(doc, node, way.at) {
+        return Ok(Approach { at, ..way });
+    }
+    match hidden_child(doc, node, way.at) {
+        Some(child) => drop_child(doc, node, way, child),
+        None => Ok(Approach {
+            going: false,
+            ..way
+        }),
     }
 }
 

@@ -1,162 +1,91 @@
 //! The command delete. The steps are those of docs/ALGORITHMS.md.
 
-ghost use Rattle.std.specs.Prelude.{◌≡◌, ◌<◌, IfOk, true};
-ghost use Rattle.dom_model.specs.Forest.{count_of};
+ghost use Rattle.std.specs.Prelude.{◌≡◌, IfOk, true};
 ghost use Rattle.edit_model.specs.Gives.{Gives};
 ghost use Rattle.edit_doc.specs.Whole.{IsOpen};
 ghost use Rattle.edit_doc.specs.Held.{Holds, Keeps};
 ghost use Rattle.text_commands.specs.Delete as command;
 
-use crate::approach::{Approach, climb, go_back};
-use crate::entries::{lift_entry, starts_entry};
-use crate::erasing::{erase_single, erased, follows_single};
-use crate::joining::select_or_join;
+use crate::approach::{climb, go_back};
+use crate::entries::{lift_entry, part_entries, starts_entry};
+use crate::erasing::{erase_line, extend, follows_single};
+use crate::joining::{follows_line, follows_table, is_kept_from, joined};
 use crate::outdents::{outdent_line, starts_indented};
-use delete_core::canonicalize_start;
+use crate::places::one_before;
+use delete_core::{canonicalize_start, select};
 use edit_actions::ends_of;
 use edit_doc::{Doc, EditFault, NodeRef, Point};
 use edit_query::is_caret;
 use node_tests::is_block;
 use point_order::node_of;
 use std::alloc::Global;
+use text_insertion::erase;
 
-// Step 8, or from 9 on.
-#[tactic(auto, using(edit_model::proofs::Steps::steps, edit_model::proofs::Steps::exits), unfolding(crate::specs::Delete::outdent_or_join))]
-fn outdent_or_join(
-    alloc: Global,
-    doc: &mut Doc,
-    node: NodeRef,
-    caret: Point,
-    at: Point,
-) -> Result<bool, EditFault>
-    requires open { IsOpen doc.old }
-    requires node_held { Holds doc.old node }
-    requires label { caret.label ≡ node.label }
-    requires here { 0 < count_of doc.old.state.trees at.label }
-    ensures gives { Gives result doc.old.state doc.new.state (command.outdent_or_join caret at) }
-    ensures keeps { Keeps doc.old doc.new }
-{
-    if starts_indented(doc, node, caret) {
-        return outdent_line(alloc, doc, caret);
-    }
-    let outer = node_of(doc, at);
-    select_or_join(alloc, doc, caret, outer, at)
-}
-
-// Step 7, and then from 8 on.
-#[tactic(auto, using(edit_model::proofs::Steps::steps, edit_model::proofs::Steps::exits), unfolding(crate::specs::Delete::delete_across))]
-fn delete_across(
-    alloc: Global,
-    doc: &mut Doc,
-    node: NodeRef,
-    caret: Point,
-) -> Result<bool, EditFault>
+// Steps 7 to 13, with a caret in a node.
+#[tactic(auto, using(edit_model::proofs::Steps::steps, edit_model::proofs::Steps::exits, edit_model::proofs::Steps::actions), unfolding(crate::specs::Delete::join, crate::specs::Delete::delete_across))]
+fn delete_across(alloc: Global, doc: &mut Doc, node: NodeRef, caret: Point) -> Result<(), EditFault>
     requires open { IsOpen doc.old }
     requires node_held { Holds doc.old node }
     requires label { caret.label ≡ node.label }
     ensures gives { Gives result doc.old.state doc.new.state (command.delete_across caret) }
     ensures keeps { Keeps doc.old doc.new }
 {
-    let way = climb(doc, caret)?;
-    outdent_or_join(alloc, doc, node, caret, way.at)
-}
-
-// Step 6, or from 7 on.
-#[tactic(auto, using(edit_model::proofs::Steps::steps, edit_model::proofs::Steps::exits), unfolding(crate::specs::Delete::lift_or_cross))]
-fn lift_or_cross(
-    alloc: Global,
-    doc: &mut Doc,
-    node: NodeRef,
-    caret: Point,
-) -> Result<bool, EditFault>
-    requires open { IsOpen doc.old }
-    requires node_held { Holds doc.old node }
-    requires label { caret.label ≡ node.label }
-    ensures gives { Gives result doc.old.state doc.new.state (command.lift_or_cross caret) }
-    ensures keeps { Keeps doc.old doc.new }
-{
-    if starts_entry(doc, node, caret) {
-        lift_entry(alloc, doc, node)
-    } else {
-        delete_across(alloc, doc, node, caret)
+    let way = climb(doc, caret)?; // step 7
+    if starts_indented(doc, node, caret) {
+        return outdent_line(alloc, doc, caret); // step 8
     }
-}
-
-// Step 4 or 5, or from 6 on.
-#[tactic(auto, using(edit_model::proofs::Steps::steps, edit_model::proofs::Steps::exits), unfolding(crate::specs::Delete::delete_before))]
-fn delete_before(
-    alloc: Global,
-    doc: &mut Doc,
-    node: NodeRef,
-    caret: Point,
-) -> Result<bool, EditFault>
-    requires open { IsOpen doc.old }
-    requires node_held { Holds doc.old node }
-    requires label { caret.label ≡ node.label }
-    ensures gives { Gives result doc.old.state doc.new.state (command.delete_before caret) }
-    ensures keeps { Keeps doc.old doc.new }
-{
-    if follows_single(doc, node, caret) {
-        return erase_single(alloc, doc, caret);
+    let at = way.at;
+    let outer = node_of(doc, at);
+    // step 9
+    if is_kept_from(doc, outer, at) {
+        return Ok(());
     }
-    if is_block(doc, node) {
-        lift_or_cross(alloc, doc, node, caret)
-    } else {
-        Ok(true)
+    if follows_table(doc, outer, at) {
+        select(doc, one_before(at), at);
+        return Ok(());
     }
-}
-
-// After step 3.
-#[tactic(auto, using(edit_model::proofs::Steps::steps, edit_model::proofs::Steps::exits), unfolding(crate::specs::Delete::delete_approached))]
-fn delete_approached(alloc: Global, doc: &mut Doc, way: Approach) -> Result<bool, EditFault>
-    requires open { IsOpen doc.old }
-    requires here { 0 < count_of doc.old.state.trees way.at.label }
-    ensures gives { Gives result doc.old.state doc.new.state (command.delete_approached way) }
-    ensures keeps { Keeps doc.old doc.new }
-{
-    if way.unlinked {
-        return Ok(true);
+    if follows_line(doc, caret, outer, at) {
+        return erase_line(alloc, doc, caret, at); // step 10
     }
-    let node = node_of(doc, way.at);
-    delete_before(alloc, doc, node, way.at)
-}
-
-// Steps 3 to 13.
-#[tactic(auto, using(edit_model::proofs::Steps::steps, edit_model::proofs::Steps::exits), unfolding(crate::specs::Delete::delete_from))]
-fn delete_from(alloc: Global, doc: &mut Doc, caret: Point) -> Result<bool, EditFault>
-    requires open { IsOpen doc.old }
-    requires here { 0 < count_of doc.old.state.trees caret.label }
-    ensures gives { Gives result doc.old.state doc.new.state (command.delete_from caret) }
-    ensures keeps { Keeps doc.old doc.new }
-{
-    let way = go_back(alloc, doc, caret)?;
-    delete_approached(alloc, doc, way)
-}
-
-// From step 3 on, with the start of the active range.
-#[tactic(auto, using(edit_model::proofs::Steps::steps, edit_model::proofs::Steps::exits, edit_actions::proofs::Placed::placed_here), unfolding(crate::specs::Delete::delete_at_start))]
-fn delete_at_start(alloc: Global, doc: &mut Doc) -> Result<bool, EditFault>
-    requires open { IsOpen doc.old }
-    ensures gives { Gives result doc.old.state doc.new.state command.delete_at_start }
-    ensures keeps { Keeps doc.old doc.new }
-{
-    doc.valid();
-    let Some(pair) = doc.points().selection() else {
-        return Ok(true);
-    };
-    let (start, _) = ends_of(doc, pair);
-    delete_from(alloc, doc, start)
+    part_entries(alloc, doc, outer, at)?; // step 11
+    let (from, to) = joined(doc, caret, outer, at); // step 12
+    select(doc, from, to);
+    erase(alloc, doc, true, true, true) // step 13
 }
 
 // Steps 2 to 13.
-#[tactic(auto, using(edit_model::proofs::Steps::steps, edit_model::proofs::Steps::exits), unfolding(crate::specs::Delete::delete_at_caret))]
-fn delete_at_caret(alloc: Global, doc: &mut Doc) -> Result<bool, EditFault>
+#[tactic(auto, using(edit_model::proofs::Steps::steps, edit_model::proofs::Steps::exits, edit_model::proofs::Steps::actions, edit_actions::proofs::Placed::placed_here), unfolding(crate::specs::Delete::erase_single, crate::specs::Delete::delete_from, crate::specs::Delete::delete_at_caret))]
+fn delete_at_caret(alloc: Global, doc: &mut Doc) -> Result<(), EditFault>
     requires open { IsOpen doc.old }
     ensures gives { Gives result doc.old.state doc.new.state command.delete_at_caret }
     ensures keeps { Keeps doc.old doc.new }
 {
     canonicalize_start(alloc, doc, true)?; // step 2
-    delete_at_start(alloc, doc)
+    doc.valid();
+    let Some(pair) = doc.points().selection() else {
+        return Ok(());
+    };
+    let (start, _) = ends_of(doc, pair);
+    let way = go_back(alloc, doc, start)?; // step 3
+    if way.unlinked {
+        return Ok(());
+    }
+    let caret = way.at;
+    let node = node_of(doc, caret);
+    if follows_single(doc, node, caret) {
+        // step 4
+        select(doc, caret, caret);
+        extend(doc, one_before(caret));
+        return erase(alloc, doc, true, true, false);
+    }
+    // step 5
+    if !is_block(doc, node) {
+        return Ok(());
+    }
+    if starts_entry(doc, node, caret) {
+        return lift_entry(alloc, doc, node); // step 6
+    }
+    delete_across(alloc, doc, node, caret)
 }
 
 /// The command delete: what is selected goes. At a caret it is what stands before it: a character,
@@ -169,10 +98,10 @@ pub fn delete(alloc: Global, doc: &mut Doc) -> Result<bool, EditFault>
     ensures taken { IfOk result (λ answer. answer ≡ true) }
     ensures keeps { Keeps doc.old doc.new }
 {
-    // step 1
     if is_caret(doc) {
-        delete_at_caret(alloc, doc)
+        delete_at_caret(alloc, doc)?;
     } else {
-        erased(alloc, doc, false)
+        erase(alloc, doc, true, true, false)?; // step 1
     }
+    Ok(true)
 }

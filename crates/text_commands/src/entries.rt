@@ -15,14 +15,6 @@ use std::alloc::{AllocError, Global};
 use text_insertion::{is_entry, rename_stray};
 use wrap_split::{append_break, is_inline};
 
-#[tactic(auto, unfolding(crate::specs::Entries::is_first_child))]
-fn is_first_child(doc: &Doc, node: NodeRef) -> bool
-    requires { Holds doc.now node }
-    ensures { result ≡ entries.is_first_child doc.now.state node.label }
-{
-    doc.parent(node).is_some() && doc.prev(node).is_none()
-}
-
 /// Step 6: whether a point is the start of an entry that is the first child of its parent.
 #[tactic(auto, unfolding(crate::specs::Entries::starts_entry))]
 pub(crate) fn starts_entry(doc: &Doc, node: NodeRef, at: Point) -> bool
@@ -30,7 +22,7 @@ pub(crate) fn starts_entry(doc: &Doc, node: NodeRef, at: Point) -> bool
     requires label { at.label ≡ node.label }
     ensures { result ≡ entries.starts_entry doc.now.state at }
 {
-    at.offset == 0 && is_entry(doc, node) && is_first_child(doc, node)
+    at.offset == 0 && is_entry(doc, node) && doc.parent(node).is_some() && doc.prev(node).is_none()
 }
 
 // Step 6: the items among a node that there may be and its ancestors.
@@ -47,41 +39,19 @@ fn items_from(alloc: Global, doc: &Doc, node: Option<NodeRef>) -> Result<Vec<Nod
     Ok(list)
 }
 
-// Step 6: the sublists of the items around an entry are taken out of these.
-#[tactic(auto, using(edit_model::proofs::Steps::steps, edit_model::proofs::Steps::exits), unfolding(crate::specs::Entries::normalize_around))]
-fn normalize_around(alloc: Global, doc: &mut Doc, node: NodeRef) -> Result<(), EditFault>
-    requires open { IsOpen doc.old }
-    requires node_held { Holds doc.old node }
-    ensures gives { Gives result doc.old.state doc.new.state (entries.normalize_around node.label) }
-    ensures keeps { Keeps doc.old doc.new }
-{
-    let items = items_from(alloc, doc, doc.parent(node))?;
-    normalize_each(alloc, doc, &items)
-}
-
-/// Step 6: an entry leaves its list.
+/// Step 6: the sublists of the items around an entry are taken out of these, and it leaves its list.
 #[tactic(auto, using(edit_model::proofs::Steps::steps, edit_model::proofs::Steps::exits), unfolding(crate::specs::Entries::lift_entry))]
-pub(crate) fn lift_entry(alloc: Global, doc: &mut Doc, node: NodeRef) -> Result<bool, EditFault>
+pub(crate) fn lift_entry(alloc: Global, doc: &mut Doc, node: NodeRef) -> Result<(), EditFault>
     requires open { IsOpen doc.old }
     requires node_held { Holds doc.old node }
     ensures gives { Gives result doc.old.state doc.new.state (entries.lift_entry node.label) }
     ensures keeps { Keeps doc.old doc.new }
 {
-    normalize_around(alloc, doc, node)?;
+    let items = items_from(alloc, doc, doc.parent(node))?;
+    normalize_each(alloc, doc, &items)?;
     split_out(alloc, doc, node)?;
     let kept = rename_stray(alloc, doc, node)?;
-    fix_ancestors(alloc, doc, kept)?;
-    Ok(true)
-}
-
-fn opens_inline(doc: &Doc, node: Option<NodeRef>) -> bool
-    requires { IfHeld doc.now node }
-    ensures { result ≡ entries.opens_inline doc.now.state (label_of node) }
-{
-    match node {
-        Some(node) => is_entry(doc, node) && is_inline(doc, doc.first_child(node)),
-        None => false,
-    }
+    fix_ancestors(alloc, doc, kept)
 }
 
 // Step 11: whether an entry that begins with an inline node stands after a point.
@@ -91,7 +61,11 @@ fn opens_entry(doc: &Doc, node: NodeRef, at: Point) -> bool
     requires label { at.label ≡ node.label }
     ensures { result ≡ entries.opens_entry doc.now.state at }
 {
-    at.offset != 0 && opens_inline(doc, child_at(doc, node, at.offset))
+    at.offset != 0
+        && match child_at(doc, node, at.offset) {
+            Some(child) => is_entry(doc, child) && is_inline(doc, doc.first_child(child)),
+            None => false,
+        }
 }
 
 // Whether a node, if there is one, is inline and no br.
@@ -105,48 +79,8 @@ fn is_open_line(doc: &Doc, node: Option<NodeRef>) -> bool
     }
 }
 
-// Step 11: the last line of a node ends with a br.
-#[tactic(auto, using(edit_model::proofs::Steps::steps, edit_model::proofs::Steps::exits), unfolding(crate::specs::Entries::close_line))]
-fn close_line(alloc: Global, doc: &mut Doc, node: NodeRef) -> Result<(), EditFault>
-    requires open { IsOpen doc.old }
-    requires node_held { Holds doc.old node }
-    ensures gives { Gives result doc.old.state doc.new.state (entries.close_line node.label) }
-    ensures keeps { Keeps doc.old doc.new }
-{
-    if is_open_line(doc, doc.last_child(node)) {
-        append_break(alloc, doc, node)?;
-    }
-    Ok(())
-}
-
-// Step 11: an empty line after it.
-#[tactic(auto, using(edit_model::proofs::Steps::steps, edit_model::proofs::Steps::exits), unfolding(crate::specs::Entries::add_line))]
-fn add_line(alloc: Global, doc: &mut Doc, node: NodeRef) -> Result<(), EditFault>
-    requires open { IsOpen doc.old }
-    requires node_held { Holds doc.old node }
-    ensures gives { Gives result doc.old.state doc.new.state (entries.add_line node.label) }
-    ensures keeps { Keeps doc.old doc.new }
-{
-    if is_inline(doc, doc.last_child(node)) {
-        append_break(alloc, doc, node)?;
-    }
-    Ok(())
-}
-
-// Step 11: both, in what stands before the entry.
-#[tactic(auto, using(edit_model::proofs::Steps::steps, edit_model::proofs::Steps::exits), unfolding(crate::specs::Entries::part_entry))]
-fn part_entry(alloc: Global, doc: &mut Doc, node: NodeRef) -> Result<(), EditFault>
-    requires open { IsOpen doc.old }
-    requires node_held { Holds doc.old node }
-    ensures gives { Gives result doc.old.state doc.new.state (entries.part_entry node.label) }
-    ensures keeps { Keeps doc.old doc.new }
-{
-    close_line(alloc, doc, node)?;
-    add_line(alloc, doc, node)
-}
-
 /// Step 11: what stands before an entry with a line of its own ends with an empty line.
-#[tactic(auto, using(edit_model::proofs::Steps::steps, edit_model::proofs::Steps::exits), unfolding(crate::specs::Entries::part_entries))]
+#[tactic(auto, using(edit_model::proofs::Steps::steps, edit_model::proofs::Steps::exits), unfolding(crate::specs::Entries::part_entry, crate::specs::Entries::part_entries))]
 pub(crate) fn part_entries(
     alloc: Global,
     doc: &mut Doc,
@@ -165,5 +99,11 @@ pub(crate) fn part_entries(
     let Some(before) = child_before(doc, node, at.offset) else {
         return Ok(());
     };
-    part_entry(alloc, doc, before)
+    if is_open_line(doc, doc.last_child(before)) {
+        append_break(alloc, doc, before)?;
+    }
+    if is_inline(doc, doc.last_child(before)) {
+        append_break(alloc, doc, before)?;
+    }
+    Ok(())
 }

@@ -1,10 +1,10 @@
-//! Delete, steps 1, 4, 9 and 10: what goes at once. The steps are those of docs/ALGORITHMS.md.
+//! Delete, steps 4 and 10: what goes at once. The steps are those of docs/ALGORITHMS.md.
 
 ghost use Rattle.std.specs.Prelude.{◌≡◌};
 ghost use Rattle.edit_model.specs.Action.{Extend, Scratch, acted};
-ghost use Rattle.edit_model.specs.Gives.{Gives, label_of};
+ghost use Rattle.edit_model.specs.Gives.{Gives};
 ghost use Rattle.edit_doc.specs.Whole.{IsOpen, with_state};
-ghost use Rattle.edit_doc.specs.Held.{Holds, IfHeld, Keeps};
+ghost use Rattle.edit_doc.specs.Held.{Holds, Keeps};
 ghost use Rattle.text_commands.specs.Delete as command;
 
 use crate::places::one_before;
@@ -14,8 +14,8 @@ use node_tests::{has_name, is_block, is_break, is_image, is_words};
 use std::alloc::Global;
 use text_insertion::erase;
 
-// Takes the focus of the selection to another point.
-fn extend(doc: &mut Doc, focus: Point)
+/// Takes the focus of the selection to another point.
+pub(crate) fn extend(doc: &mut Doc, focus: Point)
     ensures extended { doc.new ≡ with_state doc.old (acted (Extend focus) doc.old.state) }
     ensures keeps { Keeps doc.old doc.new }
 {
@@ -35,29 +35,6 @@ fn keep(doc: &mut Doc, at: Point)
     });
 }
 
-/// Steps 1, 4 and 13: deletes what is selected, with its states and values restored, and answers
-/// true.
-#[tactic(auto, using(edit_model::proofs::Steps::steps, edit_model::proofs::Steps::exits), unfolding(crate::specs::Delete::erased))]
-pub(crate) fn erased(alloc: Global, doc: &mut Doc, backward: bool) -> Result<bool, EditFault>
-    requires open { IsOpen doc.old }
-    ensures gives { Gives result doc.old.state doc.new.state (command.erased backward) }
-    ensures keeps { Keeps doc.old doc.new }
-{
-    erase(alloc, doc, true, true, backward)?;
-    Ok(true)
-}
-
-// Step 4: a br, hr or img.
-fn is_single(doc: &Doc, node: Option<NodeRef>) -> bool
-    requires { IfHeld doc.now node }
-    ensures { result ≡ command.is_single doc.now.state (label_of node) }
-{
-    match node {
-        Some(node) => { is_break(doc, node) || has_name(doc, node, b"hr") || is_image(doc, node) }
-        None => false,
-    }
-}
-
 /// Step 4: whether one character, or a br, hr or img of a block, stands before a point.
 #[tactic(auto, unfolding(crate::specs::Delete::follows_single))]
 pub(crate) fn follows_single(doc: &Doc, node: NodeRef, at: Point) -> bool
@@ -66,43 +43,11 @@ pub(crate) fn follows_single(doc: &Doc, node: NodeRef, at: Point) -> bool
     ensures { result ≡ command.follows_single doc.now.state at }
 {
     (is_words(doc, node) && at.offset != 0)
-        || (is_block(doc, node) && is_single(doc, child_before(doc, node, at.offset)))
-}
-
-/// Step 4: deletes it.
-#[tactic(auto, using(edit_model::proofs::Steps::steps, edit_model::proofs::Steps::exits, edit_model::proofs::Steps::actions), unfolding(crate::specs::Delete::erase_single))]
-pub(crate) fn erase_single(alloc: Global, doc: &mut Doc, at: Point) -> Result<bool, EditFault>
-    requires open { IsOpen doc.old }
-    ensures gives { Gives result doc.old.state doc.new.state (command.erase_single at) }
-    ensures keeps { Keeps doc.old doc.new }
-{
-    select(doc, at, at);
-    extend(doc, one_before(at));
-    erased(alloc, doc, false)
-}
-
-/// Step 9: selects the node before a point.
-#[tactic(auto, using(edit_model::proofs::Steps::steps, edit_model::proofs::Steps::exits, edit_model::proofs::Steps::actions), unfolding(crate::specs::Delete::select_before))]
-pub(crate) fn select_before(doc: &mut Doc, at: Point) -> Result<bool, EditFault>
-    requires open { IsOpen doc.old }
-    ensures gives { Gives result doc.old.state doc.new.state (command.select_before at) }
-    ensures keeps { Keeps doc.old doc.new }
-{
-    select(doc, one_before(at), at);
-    Ok(true)
-}
-
-// Step 10: back to the point that was kept.
-#[tactic(auto, using(edit_model::proofs::Steps::actions), unfolding(crate::specs::Delete::collapse_kept))]
-fn collapse_kept(doc: &mut Doc) -> Result<(), EditFault>
-    requires open { IsOpen doc.old }
-    ensures gives { Gives result doc.old.state doc.new.state command.collapse_kept }
-    ensures keeps { Keeps doc.old doc.new }
-{
-    if let Some(pair) = doc.points().scratch() {
-        select(doc, pair.anchor, pair.anchor);
-    }
-    Ok(())
+        || (is_block(doc, node)
+            && match child_before(doc, node, at.offset) {
+                Some(k) => is_break(doc, k) || has_name(doc, k, b"hr") || is_image(doc, k),
+                None => false,
+            })
 }
 
 /// Step 10: deletes the node before a point. The caret stays where it is.
@@ -112,7 +57,7 @@ pub(crate) fn erase_line(
     doc: &mut Doc,
     caret: Point,
     at: Point,
-) -> Result<bool, EditFault>
+) -> Result<(), EditFault>
     requires open { IsOpen doc.old }
     ensures gives { Gives result doc.old.state doc.new.state (command.erase_line caret at) }
     ensures keeps { Keeps doc.old doc.new }
@@ -120,6 +65,8 @@ pub(crate) fn erase_line(
     keep(doc, caret);
     select(doc, one_before(at), at);
     erase(alloc, doc, true, true, false)?;
-    collapse_kept(doc)?;
-    Ok(true)
+    if let Some(pair) = doc.points().scratch() {
+        select(doc, pair.anchor, pair.anchor);
+    }
+    Ok(())
 }

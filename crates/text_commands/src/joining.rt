@@ -1,20 +1,15 @@
-//! Delete, steps 9 to 13: what stands before the start of a block. The steps are those of
+//! Delete, steps 9, 10 and 12: what stands before the start of a block. The steps are those of
 //! docs/ALGORITHMS.md.
 
-ghost use Rattle.std.specs.Prelude.{◌≡◌, ◌<◌};
-ghost use Rattle.dom_model.specs.Forest.{count_of};
-ghost use Rattle.edit_model.specs.Gives.{Gives, label_of};
-ghost use Rattle.edit_doc.specs.Whole.{IsOpen};
-ghost use Rattle.edit_doc.specs.Held.{Holds, IfHeld, Keeps};
+ghost use Rattle.std.specs.Prelude.{◌≡◌};
+ghost use Rattle.edit_model.specs.Gives.{label_of};
+ghost use Rattle.edit_doc.specs.Held.{Holds, IfHeld};
 ghost use Rattle.text_commands.specs.Delete as command;
 
-use crate::entries::part_entries;
-use crate::erasing::{erase_line, erased, select_before};
 use crate::places::is_affected_host;
-use delete_core::{child_at, child_before, end_in, select, start_in};
-use edit_doc::{Doc, EditFault, NodeRef, Point};
+use delete_core::{child_at, child_before, end_in, start_in};
+use edit_doc::{Doc, NodeRef, Point};
 use node_tests::{has_name, is_block, is_break};
-use std::alloc::Global;
 use text_insertion::is_entry;
 use wrap_split::turn_bound;
 
@@ -29,9 +24,9 @@ fn is_table(doc: &Doc, node: Option<NodeRef>) -> bool
     }
 }
 
-// Step 9: whether a point is the start of the host, or just before a table.
+/// Step 9: whether a point is the start of the host, or just before a table.
 #[tactic(auto, unfolding(crate::specs::Delete::is_kept_from))]
-fn is_kept_from(doc: &Doc, node: NodeRef, at: Point) -> bool
+pub(crate) fn is_kept_from(doc: &Doc, node: NodeRef, at: Point) -> bool
     requires held { Holds doc.now node }
     requires label { at.label ≡ node.label }
     ensures { result ≡ command.is_kept_from doc.now.state at }
@@ -39,9 +34,9 @@ fn is_kept_from(doc: &Doc, node: NodeRef, at: Point) -> bool
     (is_affected_host(doc, node) && at.offset == 0) || is_table(doc, child_at(doc, node, at.offset))
 }
 
-// Step 9: whether a table stands before a point.
+/// Step 9: whether a table stands before a point.
 #[tactic(auto, unfolding(crate::specs::Delete::follows_table))]
-fn follows_table(doc: &Doc, node: NodeRef, at: Point) -> bool
+pub(crate) fn follows_table(doc: &Doc, node: NodeRef, at: Point) -> bool
     requires held { Holds doc.now node }
     requires label { at.label ≡ node.label }
     ensures { result ≡ command.follows_table doc.now.state at }
@@ -62,46 +57,19 @@ fn is_empty_line(doc: &Doc, node: NodeRef) -> bool
         }
 }
 
-fn is_line(doc: &Doc, node: Option<NodeRef>) -> bool
-    requires { IfHeld doc.now node }
-    ensures { result ≡ command.is_line doc.now.state (label_of node) }
-{
-    match node {
-        Some(node) => has_name(doc, node, b"hr") || is_empty_line(doc, node),
-        None => false,
-    }
-}
-
-// Step 10: whether a rule or an empty line stands before a point, and the caret is at the start of
-// its node.
+/// Step 10: whether a rule or an empty line stands before a point, and the caret is at the start of
+/// its node.
 #[tactic(auto, unfolding(crate::specs::Delete::follows_line))]
-fn follows_line(doc: &Doc, caret: Point, node: NodeRef, at: Point) -> bool
+pub(crate) fn follows_line(doc: &Doc, caret: Point, node: NodeRef, at: Point) -> bool
     requires held { Holds doc.now node }
     requires label { at.label ≡ node.label }
     ensures { result ≡ command.follows_line doc.now.state caret at }
 {
-    caret.offset == 0 && is_line(doc, child_before(doc, node, at.offset))
-}
-
-fn is_entry_at(doc: &Doc, node: Option<NodeRef>) -> bool
-    requires { IfHeld doc.now node }
-    ensures { result ≡ command.is_entry_at doc.now.state (label_of node) }
-{
-    match node {
-        Some(node) => is_entry(doc, node),
-        None => false,
-    }
-}
-
-// Step 12: whether entries stand on both sides of a point.
-#[tactic(auto, unfolding(crate::specs::Delete::parts_entries))]
-fn parts_entries(doc: &Doc, node: NodeRef, at: Point) -> bool
-    requires held { Holds doc.now node }
-    requires label { at.label ≡ node.label }
-    ensures { result ≡ command.parts_entries doc.now.state at }
-{
-    is_entry_at(doc, child_at(doc, node, at.offset))
-        && is_entry_at(doc, child_before(doc, node, at.offset))
+    caret.offset == 0
+        && match child_before(doc, node, at.offset) {
+            Some(child) => has_name(doc, child, b"hr") || is_empty_line(doc, child),
+            None => false,
+        }
 }
 
 // Step 12: to the end of the child before a point.
@@ -131,137 +99,20 @@ fn deepest_before(doc: &Doc, at: Point) -> Point
     at
 }
 
-// The end of a node, or another point where there is none.
-fn end_or(doc: &Doc, node: Option<NodeRef>, at: Point) -> Point
-    requires { IfHeld doc.now node }
-    ensures { result ≡ command.end_or doc.now.state.trees at (label_of node) }
-{
-    match node {
-        Some(node) => end_in(doc, node),
-        None => at,
-    }
-}
-
-// The start of a node, or another point where there is none.
-fn start_or(node: Option<NodeRef>, at: Point) -> Point
-    ensures { result ≡ command.start_or at (label_of node) }
-{
-    match node {
-        Some(node) => start_in(node),
-        None => at,
-    }
-}
-
-// Steps 12 and 13, between entries.
-#[tactic(auto, using(edit_model::proofs::Steps::steps, edit_model::proofs::Steps::exits, edit_model::proofs::Steps::actions), unfolding(crate::specs::Delete::join_entries))]
-fn join_entries(alloc: Global, doc: &mut Doc, node: NodeRef, at: Point) -> Result<bool, EditFault>
-    requires open { IsOpen doc.old }
-    requires node_held { Holds doc.old node }
+/// Step 12: from where to where is deleted, with a caret and the point that something stands before.
+#[tactic(auto, unfolding(crate::specs::Delete::joined))]
+pub(crate) fn joined(doc: &Doc, caret: Point, node: NodeRef, at: Point) -> (Point, Point)
+    requires held { Holds doc.now node }
     requires label { at.label ≡ node.label }
-    ensures gives { Gives result doc.old.state doc.new.state (command.join_entries at) }
-    ensures keeps { Keeps doc.old doc.new }
+    ensures { result ≡ command.joined doc.now.state caret at }
 {
-    let end = end_or(doc, child_before(doc, node, at.offset), at);
-    let start = start_or(child_at(doc, node, at.offset), at);
-    select(doc, end, start);
-    erased(alloc, doc, true)
-}
-
-// Steps 12 and 13, elsewhere.
-#[tactic(auto, using(edit_model::proofs::Steps::steps, edit_model::proofs::Steps::exits, edit_model::proofs::Steps::actions), unfolding(crate::specs::Delete::join_lines))]
-fn join_lines(alloc: Global, doc: &mut Doc, caret: Point, at: Point) -> Result<bool, EditFault>
-    requires open { IsOpen doc.old }
-    ensures gives { Gives result doc.old.state doc.new.state (command.join_lines caret at) }
-    ensures keeps { Keeps doc.old doc.new }
-{
-    let end = deepest_before(doc, at);
-    select(doc, end, caret);
-    erased(alloc, doc, true)
-}
-
-// Steps 12 and 13.
-#[tactic(auto, using(edit_model::proofs::Steps::steps, edit_model::proofs::Steps::exits), unfolding(crate::specs::Delete::join_from))]
-fn join_from(
-    alloc: Global,
-    doc: &mut Doc,
-    caret: Point,
-    node: NodeRef,
-    at: Point,
-) -> Result<bool, EditFault>
-    requires open { IsOpen doc.old }
-    requires node_held { Holds doc.old node }
-    requires label { at.label ≡ node.label }
-    ensures gives { Gives result doc.old.state doc.new.state (command.join_from caret at) }
-    ensures keeps { Keeps doc.old doc.new }
-{
-    if parts_entries(doc, node, at) {
-        join_entries(alloc, doc, node, at)
-    } else {
-        join_lines(alloc, doc, caret, at)
+    match (
+        child_before(doc, node, at.offset),
+        child_at(doc, node, at.offset),
+    ) {
+        (Some(before), Some(after)) if is_entry(doc, before) && is_entry(doc, after) => {
+            (end_in(doc, before), start_in(after))
+        }
+        _ => (deepest_before(doc, at), caret),
     }
-}
-
-// Steps 11 to 13.
-#[tactic(auto, using(edit_model::proofs::Steps::steps, edit_model::proofs::Steps::exits), unfolding(crate::specs::Delete::join))]
-fn join(
-    alloc: Global,
-    doc: &mut Doc,
-    caret: Point,
-    node: NodeRef,
-    at: Point,
-) -> Result<bool, EditFault>
-    requires open { IsOpen doc.old }
-    requires node_held { Holds doc.old node }
-    requires label { at.label ≡ node.label }
-    ensures gives { Gives result doc.old.state doc.new.state (command.join caret at) }
-    ensures keeps { Keeps doc.old doc.new }
-{
-    part_entries(alloc, doc, node, at)?;
-    join_from(alloc, doc, caret, node, at)
-}
-
-// Step 10, or from 11 on.
-#[tactic(auto, using(edit_model::proofs::Steps::steps, edit_model::proofs::Steps::exits), unfolding(crate::specs::Delete::erase_or_join))]
-fn erase_or_join(
-    alloc: Global,
-    doc: &mut Doc,
-    caret: Point,
-    node: NodeRef,
-    at: Point,
-) -> Result<bool, EditFault>
-    requires open { IsOpen doc.old }
-    requires node_held { Holds doc.old node }
-    requires label { at.label ≡ node.label }
-    ensures gives { Gives result doc.old.state doc.new.state (command.erase_or_join caret at) }
-    ensures keeps { Keeps doc.old doc.new }
-{
-    if follows_line(doc, caret, node, at) {
-        erase_line(alloc, doc, caret, at)
-    } else {
-        join(alloc, doc, caret, node, at)
-    }
-}
-
-/// Step 9, or from 10 on, with a caret and the point that something stands before.
-#[tactic(auto, using(edit_model::proofs::Steps::steps, edit_model::proofs::Steps::exits), unfolding(crate::specs::Delete::select_or_join))]
-pub(crate) fn select_or_join(
-    alloc: Global,
-    doc: &mut Doc,
-    caret: Point,
-    node: NodeRef,
-    at: Point,
-) -> Result<bool, EditFault>
-    requires open { IsOpen doc.old }
-    requires node_held { Holds doc.old node }
-    requires label { at.label ≡ node.label }
-    ensures gives { Gives result doc.old.state doc.new.state (command.select_or_join caret at) }
-    ensures keeps { Keeps doc.old doc.new }
-{
-    if is_kept_from(doc, node, at) {
-        return Ok(true);
-    }
-    if follows_table(doc, node, at) {
-        return select_before(doc, at);
-    }
-    erase_or_join(alloc, doc, caret, node, at)
 }

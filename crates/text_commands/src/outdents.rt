@@ -92,13 +92,12 @@ fn outdent_each(alloc: Global, doc: &mut Doc, list: &[NodeRef]) -> Result<(), Ed
 
 /// Step 8: outdents the line of a point.
 #[tactic(auto, using(edit_model::proofs::Steps::steps, edit_model::proofs::Steps::exits), unfolding(crate::specs::Entries::outdent_line))]
-pub(crate) fn outdent_line(alloc: Global, doc: &mut Doc, at: Point) -> Result<bool, EditFault>
+pub(crate) fn outdent_line(alloc: Global, doc: &mut Doc, at: Point) -> Result<(), EditFault>
     requires open { IsOpen doc.old }
     requires here { 0 < count_of doc.old.state.trees at.label }
     ensures gives { Gives result doc.old.state doc.new.state (entries.outdent_line at) }
     ensures keeps { Keeps doc.old doc.new }
 {
     let list = bare_nodes(alloc, doc, at)?;
-    outdent_each(alloc, doc, list.as_slice())?;
-    Ok(true)
+    outdent_each(alloc, doc, list.as_slice())
 }

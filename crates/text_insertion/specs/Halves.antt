@@ -11,7 +11,7 @@ use Rattle.live_range.specs.declared.places.Point.{Point}
 use Rattle.edit_model.specs.State.{State}
 use Rattle.edit_model.specs.Compositions.{tag_of, attribute_list_of}
 use Rattle.edit_model.specs.Moves.{insert_after}
-use Rattle.edit_model.specs.Run.{Run, ◌>>=◌, ◌>>◌, answer, done, look, given, make_element, collapse, extract_tail}
+use Rattle.edit_model.specs.Run.{Run, ◌>>=◌, ◌>>◌, done, look, given, make_element, collapse, extract_tail}
 use Rattle.edit_query.specs.Leaves.{nodes_in}
 use Rattle.edit_query.specs.Rows.{container_name}
 use Rattle.inline_value.specs.Ancestors.{is_prohibited}
@@ -75,14 +75,6 @@ unfoldable pub make_second : Point → ℕ → Run ℕ
 make_second q c =
     look λ s. make_element (second_name s q c) (unset_in (attribute_list_of s.trees c) (codes "id"))
 
--- step 8
-unfoldable pub part_at : Point → ℕ → Run ℕ
-part_at q c = do
-  d ← make_second q c
-  insert_after c d
-  extract_tail q c d
-  answer d
-
 -- ---- insert a paragraph, step 9: both get a line, with the caret at the start of the second one
 
 abbrev pub if_prohibited : State → Option ℕ → Option ℕ
@@ -101,21 +93,21 @@ deepest_last s l = walk (into_last_block s) (turn_bound s) l
 unfoldable pub fill_hidden : ℕ → Run (Unit {0})
 fill_hidden c = look λ s. if shows_child s.trees c then done else append_break c
 
--- insert a paragraph, step 9: in both, with the caret at the start of the second one
-unfoldable pub fill_both : ℕ → ℕ → Run (Unit {0})
-fill_both c d = do
-  fill_hidden c
-  fill_hidden d
-  collapse (start_in d)
-
--- step 9
+-- in both, with the caret at the start of the second one
 unfoldable pub close_both : ℕ → ℕ → Run (Unit {0})
-close_both c d = look λ s. fill_both (deepest_last s c) (deepest_last s d)
+close_both c d = look λ s. do
+  fill_hidden (deepest_last s c)
+  fill_hidden (deepest_last s d)
+  collapse (start_in (deepest_last s d))
 
 -- steps 8 and 9
-unfoldable pub part_from : ℕ → Point → Run (Unit {0})
-part_from c q = part_at q c >>= close_both c
+unfoldable pub part_at : Point → ℕ → Run (Unit {0})
+part_at q c = do
+  d ← make_second q c
+  insert_after c d
+  extract_tail q c d
+  close_both c d
 
 -- steps 7 to 9
 unfoldable pub part_container : ℕ → Run (Unit {0})
-part_container c = look λ s. given (active_start s) done λ p. part_from c (parting_point s p)
+part_container c = look λ s. given (active_start s) done λ p. part_at (parting_point s p) c

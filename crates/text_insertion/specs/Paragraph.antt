@@ -1,6 +1,6 @@
 -- Inserting a paragraph (HTML Editing APIs, "the insertParagraph command"): what is selected goes,
 -- and the line is parted there. The steps are those of docs/ALGORITHMS.md. It answers true.
-use Rattle.std.specs.Prelude.{ℕ, ◌+◌, ◌==◌, Bool, true, false, ◌||◌, ◌&&◌, not, codes, Option, None, if◌then◌else◌, unwrap_or}
+use Rattle.std.specs.Prelude.{ℕ, ◌+◌, ◌==◌, Bool, true, false, ◌||◌, ◌&&◌, codes, Option, None, if◌then◌else◌, unwrap_or}
 use Rattle.dom_model.specs.declared.Content.{Content}
 use Rattle.dom_model.specs.Contents.{has_name, has_chars_at, length_of}
 use Rattle.dom_model.specs.Forest.{Forest}
@@ -18,10 +18,6 @@ use Rattle.text_insertion.specs.Halves.{part_container}
 use Rattle.text_insertion.specs.Start.{start_inside, insert_at_start, erase, cuts_text}
 
 -- ---- insert a paragraph, step 2: a text is split, and the point leaves a text or a comment
-
--- insert a paragraph, step 2: a text is split at a point amid it
-unfoldable pub cut_text : Point → Run (Unit {0})
-cut_text p = look λ s. if cuts_text s.trees p then split_words p.label p.offset >> done else done
 
 -- step 2: from the end of a text to after it, and else to before the text or comment
 unfoldable pub out_of_text : Forest Content → Point → Option Point
@@ -42,7 +38,9 @@ leave_text p = look λ s. collapsed_at (left_text s.trees p)
 
 -- step 2
 unfoldable pub split_text : Point → Run Point
-split_text p = cut_text p >> leave_text p
+split_text p = do
+  look λ s. if cuts_text s.trees p then split_words p.label p.offset >> done else done
+  leave_text p
 
 -- ---- insert a paragraph, step 5: in an address, listing or pre, a line ends with a br
 
@@ -51,24 +49,13 @@ holds_lines s c =
     has_name s.trees c (codes "address")
     || (has_name s.trees c (codes "listing") || has_name s.trees c (codes "pre"))
 
--- step 5: a br at the end of c shows a line only with another one after it
-unfoldable pub is_last_below : State → ℕ → ℕ → Bool
-is_last_below s c x = last_below s c == x
-
--- insert a paragraph, step 5: another br where x is the last descendant of c
-unfoldable pub break_again : ℕ → ℕ → Run (Unit {0})
-break_again c x = look λ s. if is_last_below s c x then (make_break >>= insert_at_start) else done
-
--- step 5, where x is a new br
-unfoldable pub break_with : Point → ℕ → ℕ → Run (Unit {0})
-break_with p c x = do
+-- a br at the end of c shows a line only with another one after it
+unfoldable pub break_line : Point → ℕ → Run (Unit {0})
+break_line p c = do
+  x ← make_break
   insert_at_start x
   collapse (at p.label (p.offset + 1))
-  break_again c x
-
--- step 5
-unfoldable pub break_line : Point → ℕ → Run (Unit {0})
-break_line p c = make_break >>= break_with p c
+  look λ s. if last_below s c == x then (make_break >>= insert_at_start) else done
 
 -- ---- the whole
 
@@ -82,17 +69,14 @@ part_line p c = look λ s.
 abbrev pub part_line_if : Point → Option ℕ → Run (Unit {0})
 part_line_if p c = given c done (part_line p)
 
--- step 3, and then from 4 on
+-- steps 3 to 9
 unfoldable pub part_paragraph : Point → Run (Unit {0})
 part_paragraph p = look λ s. own_container (container_of s p.label) >>= part_line_if p
 
--- from step 2 on
-unfoldable pub insert_paragraph_at : Point → Run (Unit {0})
-insert_paragraph_at p = split_text p >>= part_paragraph
-
--- insert a paragraph, from step 2 on, where the start's node is inside
+-- steps 2 to 9, where the start's node is inside
 unfoldable pub insert_paragraph_inside : Run (Unit {0})
-insert_paragraph_inside = look λ s. given (start_inside s) done insert_paragraph_at
+insert_paragraph_inside =
+    look λ s. given (start_inside s) done λ p. split_text p >>= part_paragraph
 
 -- step 1, and then from 2 on
 unfoldable pub insert_paragraph : Run Bool

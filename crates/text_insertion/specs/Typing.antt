@@ -11,7 +11,6 @@ use Rattle.node_tests.specs.CollapsedWhitespace.{is_words}
 use Rattle.node_tests.specs.SolidNeighbours.{is_collapsed_break}
 use Rattle.edit_model.specs.Run.{Run, ◌>>=◌, ◌>>◌, answer, done, look, given, for_each, remove, replace, make_words, select, collapse}
 use Rattle.inline_commands.specs.RestoringStates.{restore_states}
-use Rattle.inline_value.specs.declared.overrides.Override.{Override}
 use Rattle.inline_value.specs.Overrides.{overrides_of}
 use Rattle.delete_core.specs.Ends.{collapse_selection, canonicalize_start, canonicalize_end}
 use Rattle.delete_core.specs.Places.{at, start_in, end_in}
@@ -37,32 +36,21 @@ into_text f p = unwrap_or (either (end_before f p) (start_after f p)) p
 -- ---- insert text, step 5: the character goes into the text at the start of the active range, or
 -- into a new one there
 
--- insert text, step 5: the value goes into a text, and is selected
-unfoldable pub put_in_text : ℕ → Point → Run (Unit {0})
-put_in_text c p = replace p.label p.offset 0 (c ∷ []) >> select p (at p.label (p.offset + 1))
-
 -- step 5: the one child of n goes, where it is a collapsed line break
 unfoldable pub drop_sole_break : ℕ → Run (Unit {0})
 drop_sole_break n = look λ s. given (first_of s.trees n) done λ k.
     if is_none (next_of s.trees k) && is_collapsed_break s.trees k then remove k >> done else done
 
--- insert text, step 5: the new text is selected
-unfoldable pub select_whole : ℕ → Run (Unit {0})
-select_whole x = look λ s. select (start_in x) (end_in s.trees x)
-
--- insert text, step 5: a new text at the start of the active range
-unfoldable pub put_text : ℕ → Run (Unit {0})
-put_text c = do
-  x ← make_words (c ∷ [])
-  insert_at_start x
-  select_whole x
-
--- insert text, step 5: with the start of the active range
+-- at a point: what is put is selected
 unfoldable pub put_at : ℕ → Point → Run (Unit {0})
-put_at c p = look λ s. if is_words s.trees p.label then put_in_text c p
-    else (drop_sole_break p.label >> put_text c)
+put_at c p = look λ s. if is_words s.trees p.label
+    then (replace p.label p.offset 0 (c ∷ []) >> select p (at p.label (p.offset + 1)))
+    else do
+      drop_sole_break p.label
+      x ← make_words (c ∷ [])
+      insert_at_start x
+      look λ t. select (start_in x) (end_in t.trees x)
 
--- step 5
 unfoldable pub put_char : ℕ → Run (Unit {0})
 put_char c = look λ s. given (active_start s) done (put_at c)
 
@@ -75,18 +63,14 @@ close_text = do
   canonicalize_end false
   collapse_selection true
 
--- steps 4 to 7, with the overrides that were set
-unfoldable pub type_with : ℕ → Point → List Override → Run (Unit {0})
-type_with c p overrides = do
-  collapse p
-  canonicalize true p
-  put_char c
-  restore_states overrides  -- step 6
-  close_text
-
 -- steps 3 to 7
 unfoldable pub type_char : ℕ → Point → Run (Unit {0})
-type_char c p = look λ s. type_with c (into_text s.trees p) (overrides_of s)
+type_char c p = look λ s. do
+  collapse (into_text s.trees p)
+  canonicalize true (into_text s.trees p)
+  put_char c
+  restore_states (overrides_of s)  -- step 6
+  close_text
 
 -- ---- the whole
 

@@ -203,28 +203,6 @@ fn make_second(
     doc.make_element(&name, &attributes)
 }
 
-// Step 8: what stands in a container from a point on comes to stand in a second one after it.
-#[tactic(auto, using(edit_model::proofs::Steps::steps, edit_model::proofs::Steps::exits), unfolding(crate::specs::Halves::part_at))]
-fn part_at(
-    alloc: Global,
-    doc: &mut Doc,
-    at: Point,
-    container: NodeRef,
-) -> Result<NodeRef, EditFault>
-    requires open { IsOpen doc.old }
-    requires here { 0 < count_of doc.old.state.trees at.label }
-    requires container_held { Holds doc.old container }
-    ensures gives { GivesNode result doc.old.state doc.new.state
-        (halves.part_at at container.label) }
-    ensures held { IfOk result (λ r. Holds doc.new r) }
-    ensures keeps { Keeps doc.old doc.new }
-{
-    let second = make_second(alloc, doc, at, container)?;
-    insert_after(doc, container, second)?;
-    doc.extract_tail(at, container, second)?;
-    Ok(second)
-}
-
 // Step 9: the last child of a node, where it is a prohibited paragraph child.
 #[tactic(auto, unfolding(crate::specs::Halves::into_last_block))]
 fn into_last_block(doc: &Doc, node: NodeRef) -> Option<NodeRef>
@@ -272,25 +250,8 @@ fn fill_hidden(alloc: Global, doc: &mut Doc, node: NodeRef) -> Result<(), EditFa
     Ok(())
 }
 
-// Step 9, from the innermost nodes at the end of both.
-#[tactic(auto, using(edit_model::proofs::Steps::steps, edit_model::proofs::Steps::exits, edit_model::proofs::Steps::actions), unfolding(crate::specs::Halves::fill_both))]
-fn fill_both(alloc: Global, doc: &mut Doc, first: NodeRef, second: NodeRef) -> Result<(), EditFault>
-    requires open { IsOpen doc.old }
-    requires first_held { Holds doc.old first }
-    requires second_held { Holds doc.old second }
-    ensures gives { Gives result doc.old.state doc.new.state
-        (halves.fill_both first.label second.label) }
-    ensures keeps { Keeps doc.old doc.new }
-{
-    fill_hidden(alloc, doc, first)?;
-    fill_hidden(alloc, doc, second)?;
-    let caret = start_in(second);
-    select(doc, caret, caret);
-    Ok(())
-}
-
-// Step 9.
-#[tactic(auto, using(edit_model::proofs::Steps::steps, edit_model::proofs::Steps::exits), unfolding(crate::specs::Halves::close_both))]
+// Step 9: both get a line at their ends, with the caret at the start of the second one.
+#[tactic(auto, using(edit_model::proofs::Steps::steps, edit_model::proofs::Steps::exits, edit_model::proofs::Steps::actions), unfolding(crate::specs::Halves::close_both))]
 fn close_both(
     alloc: Global,
     doc: &mut Doc,
@@ -306,24 +267,15 @@ fn close_both(
 {
     let first = deepest_last(doc, first);
     let second = deepest_last(doc, second);
-    fill_both(alloc, doc, first, second)
-}
-
-// Steps 8 and 9.
-#[tactic(auto, using(edit_model::proofs::Steps::steps, edit_model::proofs::Steps::exits), unfolding(crate::specs::Halves::part_from))]
-fn part_from(alloc: Global, doc: &mut Doc, container: NodeRef, at: Point) -> Result<(), EditFault>
-    requires open { IsOpen doc.old }
-    requires container_held { Holds doc.old container }
-    requires here { 0 < count_of doc.old.state.trees at.label }
-    ensures gives { Gives result doc.old.state doc.new.state (halves.part_from container.label at) }
-    ensures keeps { Keeps doc.old doc.new }
-{
-    let second = part_at(alloc, doc, at, container)?;
-    close_both(alloc, doc, container, second)
+    fill_hidden(alloc, doc, first)?;
+    fill_hidden(alloc, doc, second)?;
+    let caret = start_in(second);
+    select(doc, caret, caret);
+    Ok(())
 }
 
 /// Steps 7 to 9: parts a container in two at the start of the active range.
-#[tactic(auto, using(edit_model::proofs::Steps::steps, edit_model::proofs::Steps::exits), unfolding(crate::specs::Halves::part_container))]
+#[tactic(auto, using(edit_model::proofs::Steps::steps, edit_model::proofs::Steps::exits), unfolding(crate::specs::Halves::part_at, crate::specs::Halves::part_container))]
 pub(crate) fn part_container(
     alloc: Global,
     doc: &mut Doc,
@@ -338,6 +290,10 @@ pub(crate) fn part_container(
     let Some(start) = active_start(doc) else {
         return Ok(());
     };
-    let at = parting_point(doc, start);
-    part_from(alloc, doc, container, at)
+    let at = parting_point(doc, start); // step 7
+    // step 8
+    let second = make_second(alloc, doc, at, container)?;
+    insert_after(doc, container, second)?;
+    doc.extract_tail(at, container, second)?;
+    close_both(alloc, doc, container, second) // step 9
 }

@@ -4,7 +4,7 @@
 ghost use Rattle.std.specs.Prelude.{◌≡◌, ◌<◌, ◌++◌, IfOk};
 ghost use Rattle.std.specs.List.{find};
 ghost use Rattle.dom_model.specs.Forest.{count_of};
-ghost use Rattle.edit_model.specs.Gives.{Gives, GivesNode, GivesMaybe, label_of, labels_of};
+ghost use Rattle.edit_model.specs.Gives.{GivesMaybe, label_of, labels_of};
 ghost use Rattle.edit_doc.specs.Whole.{IsOpen};
 ghost use Rattle.edit_doc.specs.Held.{Holds, IfHeld, EachHeld, Finds, Keeps};
 ghost use Rattle.wrap_split.specs.Walks.{turn_bound};
@@ -82,34 +82,6 @@ fn first_content(alloc: Global, doc: &Doc) -> Result<Option<NodeRef>, AllocError
     first_between(alloc, doc, range)
 }
 
-// Step 4: a loose default container with a br.
-#[tactic(auto, using(edit_model::proofs::Steps::steps, edit_model::proofs::Steps::exits), unfolding(crate::specs::Containers::make_container))]
-fn make_container(alloc: Global, doc: &mut Doc) -> Result<NodeRef, EditFault>
-    requires open { IsOpen doc.old }
-    ensures gives { GivesNode result doc.old.state doc.new.state containers.make_container }
-    ensures held { IfOk result (λ r. Holds doc.new r) }
-    ensures keeps { Keeps doc.old doc.new }
-{
-    let name = container_name(alloc, doc.flags().paragraphs)?;
-    let container = doc.make_element(&name, &Attributes::new(alloc))?;
-    append_break(alloc, doc, container)?;
-    Ok(container)
-}
-
-// Step 4: inserts it, with the caret at the start of it.
-#[tactic(auto, using(edit_model::proofs::Steps::steps, edit_model::proofs::Steps::exits, edit_model::proofs::Steps::actions), unfolding(crate::specs::Containers::insert_container))]
-fn insert_container(alloc: Global, doc: &mut Doc) -> Result<(), EditFault>
-    requires open { IsOpen doc.old }
-    ensures gives { Gives result doc.old.state doc.new.state containers.insert_container }
-    ensures keeps { Keeps doc.old doc.new }
-{
-    let container = make_container(alloc, doc)?;
-    insert_at_start(doc, container)?;
-    let caret = start_in(container);
-    select(doc, caret, caret);
-    Ok(())
-}
-
 // Whether a default container may stand in the node of the start of the active range.
 #[tactic(auto, unfolding(crate::specs::Containers::takes_container))]
 fn takes_container(doc: &Doc) -> bool
@@ -126,17 +98,24 @@ fn takes_container(doc: &Doc) -> bool
     }
 }
 
-// Step 4: where nothing can be wrapped, an empty container at the start of the active range.
-#[tactic(auto, using(edit_model::proofs::Steps::steps, edit_model::proofs::Steps::exits), unfolding(crate::specs::Containers::add_container))]
+// Step 4: where nothing can be wrapped, an empty container at the start of the active range, with the
+// caret at the start of it.
+#[tactic(auto, using(edit_model::proofs::Steps::steps, edit_model::proofs::Steps::exits, edit_model::proofs::Steps::actions), unfolding(crate::specs::Containers::make_container, crate::specs::Containers::insert_container, crate::specs::Containers::add_container))]
 fn add_container(alloc: Global, doc: &mut Doc) -> Result<Option<NodeRef>, EditFault>
     requires open { IsOpen doc.old }
     ensures gives { GivesMaybe result doc.old.state doc.new.state containers.add_container }
     ensures held { IfOk result (λ made. IfHeld doc.new made) }
     ensures keeps { Keeps doc.old doc.new }
 {
-    if takes_container(doc) {
-        insert_container(alloc, doc)?;
+    if !takes_container(doc) {
+        return Ok(None);
     }
+    let name = container_name(alloc, doc.flags().paragraphs)?;
+    let container = doc.make_element(&name, &Attributes::new(alloc))?;
+    append_break(alloc, doc, container)?;
+    insert_at_start(doc, container)?;
+    let caret = start_in(container);
+    select(doc, caret, caret);
     Ok(None)
 }
 
@@ -218,23 +197,9 @@ fn wrap_line(alloc: Global, doc: &mut Doc, first: NodeRef) -> Result<Option<Node
     )
 }
 
-// Step 4: wraps a line, or puts an empty container there.
-#[tactic(auto, using(edit_model::proofs::Steps::steps, edit_model::proofs::Steps::exits), unfolding(crate::specs::Containers::make_line))]
-fn make_line(alloc: Global, doc: &mut Doc) -> Result<Option<NodeRef>, EditFault>
-    requires open { IsOpen doc.old }
-    ensures gives { GivesMaybe result doc.old.state doc.new.state containers.make_line }
-    ensures held { IfOk result (λ made. IfHeld doc.new made) }
-    ensures keeps { Keeps doc.old doc.new }
-{
-    match first_content(alloc, doc)? {
-        Some(first) => wrap_line(alloc, doc, first),
-        None => add_container(alloc, doc),
-    }
-}
-
 /// Step 4: the container of a line, the node that was found, where it is one that is editable, or
 /// else one that is put round the line. None where the algorithm ends.
-#[tactic(auto, using(edit_model::proofs::Steps::steps, edit_model::proofs::Steps::exits), unfolding(crate::specs::Containers::own_container))]
+#[tactic(auto, using(edit_model::proofs::Steps::steps, edit_model::proofs::Steps::exits), unfolding(crate::specs::Containers::make_line, crate::specs::Containers::own_container))]
 pub(crate) fn own_container(
     alloc: Global,
     doc: &mut Doc,
@@ -248,8 +213,10 @@ pub(crate) fn own_container(
     ensures keeps { Keeps doc.old doc.new }
 {
     if is_own_container(doc, node) {
-        Ok(Some(node))
-    } else {
-        make_line(alloc, doc)
+        return Ok(Some(node));
+    }
+    match first_content(alloc, doc)? {
+        Some(first) => wrap_line(alloc, doc, first),
+        None => add_container(alloc, doc),
     }
 }

@@ -20,21 +20,6 @@ use point_order::node_of;
 use std::alloc::{AllocError, Global};
 use wrap_split::last_below;
 
-// Step 2: a text is split there.
-#[tactic(auto, using(edit_model::proofs::Steps::steps, edit_model::proofs::Steps::exits), unfolding(crate::specs::Paragraph::cut_text))]
-fn cut_text(doc: &mut Doc, node: NodeRef, at: Point) -> Result<(), EditFault>
-    requires open { IsOpen doc.old }
-    requires node_held { Holds doc.old node }
-    requires label { at.label ≡ node.label }
-    ensures gives { Gives result doc.old.state doc.new.state (command.cut_text at) }
-    ensures keeps { Keeps doc.old doc.new }
-{
-    if cuts_text(doc, node, at) {
-        doc.split_words(node, at.offset)?;
-    }
-    Ok(())
-}
-
 // Step 2: from the end of a text to after it, and else to before the text or comment.
 #[tactic(auto, unfolding(crate::specs::Paragraph::out_of_text))]
 fn out_of_text(doc: &Doc, node: NodeRef, at: Point) -> Option<Point>
@@ -81,7 +66,7 @@ fn leave_text(doc: &mut Doc, node: NodeRef, at: Point) -> Result<Point, EditFaul
     Ok(caret)
 }
 
-// Step 2.
+// Step 2: a text is split there, and the point leaves it.
 #[tactic(auto, using(edit_model::proofs::Steps::steps, edit_model::proofs::Steps::exits), unfolding(crate::specs::Paragraph::split_text))]
 fn split_text(doc: &mut Doc, at: Point) -> Result<Point, EditFault>
     requires open { IsOpen doc.old }
@@ -91,7 +76,9 @@ fn split_text(doc: &mut Doc, at: Point) -> Result<Point, EditFault>
     ensures keeps { Keeps doc.old doc.new }
 {
     let node = node_of(doc, at);
-    cut_text(doc, node, at)?;
+    if cuts_text(doc, node, at) {
+        doc.split_words(node, at.offset)?;
+    }
     leave_text(doc, node, at)
 }
 
@@ -106,55 +93,8 @@ fn holds_lines(doc: &Doc, node: NodeRef) -> bool
         || has_name(doc, node, b"pre")
 }
 
-// Step 5: a second br, where the first one is the last node of its container.
-#[tactic(auto, using(edit_model::proofs::Steps::steps, edit_model::proofs::Steps::exits), unfolding(crate::specs::Paragraph::break_again, crate::specs::Paragraph::is_last_below))]
-fn break_again(
-    alloc: Global,
-    doc: &mut Doc,
-    container: NodeRef,
-    made: NodeRef,
-) -> Result<(), EditFault>
-    requires open { IsOpen doc.old }
-    requires container_held { Holds doc.old container }
-    ensures gives { Gives result doc.old.state doc.new.state
-        (command.break_again container.label made.label) }
-    ensures keeps { Keeps doc.old doc.new }
-{
-    if last_below(doc, container).label == made.label {
-        let second = make_break(alloc, doc)?;
-        insert_at_start(doc, second)?;
-    }
-    Ok(())
-}
-
-// Step 5, with a new br.
-#[tactic(auto, using(edit_model::proofs::Steps::steps, edit_model::proofs::Steps::exits, edit_model::proofs::Steps::actions), unfolding(crate::specs::Paragraph::break_with))]
-fn break_with(
-    alloc: Global,
-    doc: &mut Doc,
-    at: Point,
-    container: NodeRef,
-    made: NodeRef,
-) -> Result<(), EditFault>
-    requires open { IsOpen doc.old }
-    requires container_held { Holds doc.old container }
-    requires made_held { Holds doc.old made }
-    ensures gives { Gives result doc.old.state doc.new.state
-        (command.break_with at container.label made.label) }
-    ensures keeps { Keeps doc.old doc.new }
-{
-    let offset = at.offset.checked_add(1).ok_or(AllocError)?;
-    insert_at_start(doc, made)?;
-    let caret = Point {
-        label: at.label,
-        offset,
-    };
-    select(doc, caret, caret);
-    break_again(alloc, doc, container, made)
-}
-
-// Step 5.
-#[tactic(auto, using(edit_model::proofs::Steps::steps, edit_model::proofs::Steps::exits), unfolding(crate::specs::Paragraph::break_line))]
+// Step 5: a br ends the line. Where it is the last node of its container, another one follows it.
+#[tactic(auto, using(edit_model::proofs::Steps::steps, edit_model::proofs::Steps::exits, edit_model::proofs::Steps::actions), unfolding(crate::specs::Paragraph::break_line))]
 fn break_line(alloc: Global, doc: &mut Doc, at: Point, container: NodeRef) -> Result<(), EditFault>
     requires open { IsOpen doc.old }
     requires container_held { Holds doc.old container }
@@ -162,65 +102,42 @@ fn break_line(alloc: Global, doc: &mut Doc, at: Point, container: NodeRef) -> Re
         (command.break_line at container.label) }
     ensures keeps { Keeps doc.old doc.new }
 {
+    let offset = at.offset.checked_add(1).ok_or(AllocError)?;
     let made = make_break(alloc, doc)?;
-    break_with(alloc, doc, at, container, made)
-}
-
-// Step 5 or 6, or from 7 on.
-#[tactic(auto, using(edit_model::proofs::Steps::steps, edit_model::proofs::Steps::exits), unfolding(crate::specs::Paragraph::part_line))]
-fn part_line(alloc: Global, doc: &mut Doc, at: Point, container: NodeRef) -> Result<(), EditFault>
-    requires open { IsOpen doc.old }
-    requires container_held { Holds doc.old container }
-    ensures gives { Gives result doc.old.state doc.new.state
-        (command.part_line at container.label) }
-    ensures keeps { Keeps doc.old doc.new }
-{
-    if holds_lines(doc, container) {
-        break_line(alloc, doc, at, container)
-    } else if is_empty_entry(doc, container) {
-        leave_list(alloc, doc, container)
-    } else {
-        part_container(alloc, doc, container)
+    insert_at_start(doc, made)?;
+    let caret = Point {
+        label: at.label,
+        offset,
+    };
+    select(doc, caret, caret);
+    if last_below(doc, container).label == made.label {
+        let second = make_break(alloc, doc)?;
+        insert_at_start(doc, second)?;
     }
+    Ok(())
 }
 
-// Step 3, and then from 4 on.
-#[tactic(auto, using(edit_model::proofs::Steps::steps, edit_model::proofs::Steps::exits), unfolding(crate::specs::Paragraph::part_paragraph))]
-fn part_paragraph(alloc: Global, doc: &mut Doc, at: Point) -> Result<(), EditFault>
-    requires open { IsOpen doc.old }
-    requires here { 0 < count_of doc.old.state.trees at.label }
-    ensures gives { Gives result doc.old.state doc.new.state (command.part_paragraph at) }
-    ensures keeps { Keeps doc.old doc.new }
-{
-    let found = container_of(doc, node_of(doc, at));
-    match own_container(alloc, doc, found)? {
-        Some(container) => part_line(alloc, doc, at, container),
-        None => Ok(()),
-    }
-}
-
-// From step 2 on.
-#[tactic(auto, using(edit_model::proofs::Steps::steps, edit_model::proofs::Steps::exits), unfolding(crate::specs::Paragraph::insert_paragraph_at))]
-fn insert_paragraph_at(alloc: Global, doc: &mut Doc, at: Point) -> Result<(), EditFault>
-    requires open { IsOpen doc.old }
-    requires here { 0 < count_of doc.old.state.trees at.label }
-    ensures gives { Gives result doc.old.state doc.new.state (command.insert_paragraph_at at) }
-    ensures keeps { Keeps doc.old doc.new }
-{
-    let caret = split_text(doc, at)?;
-    part_paragraph(alloc, doc, caret)
-}
-
-// From step 2 on, where the start's node is inside.
-#[tactic(auto, using(edit_model::proofs::Steps::steps, edit_model::proofs::Steps::exits), unfolding(crate::specs::Paragraph::insert_paragraph_inside))]
+// Steps 2 to 9, where the start's node is inside.
+#[tactic(auto, using(edit_model::proofs::Steps::steps, edit_model::proofs::Steps::exits), unfolding(crate::specs::Paragraph::part_line, crate::specs::Paragraph::part_paragraph, crate::specs::Paragraph::insert_paragraph_inside))]
 fn insert_paragraph_inside(alloc: Global, doc: &mut Doc) -> Result<(), EditFault>
     requires open { IsOpen doc.old }
     ensures gives { Gives result doc.old.state doc.new.state command.insert_paragraph_inside }
     ensures keeps { Keeps doc.old doc.new }
 {
-    match start_inside(doc) {
-        Some(at) => insert_paragraph_at(alloc, doc, at),
-        None => Ok(()),
+    let Some(start) = start_inside(doc) else {
+        return Ok(());
+    };
+    let at = split_text(doc, start)?; // step 2
+    let found = container_of(doc, node_of(doc, at)); // step 3
+    let Some(container) = own_container(alloc, doc, found)? else {
+        return Ok(()); // step 4
+    };
+    if holds_lines(doc, container) {
+        break_line(alloc, doc, at, container) // step 5
+    } else if is_empty_entry(doc, container) {
+        leave_list(alloc, doc, container) // step 6
+    } else {
+        part_container(alloc, doc, container) // steps 7 to 9
     }
 }
 
@@ -233,7 +150,7 @@ pub fn insert_paragraph(alloc: Global, doc: &mut Doc) -> Result<bool, EditFault>
     ensures taken { IfOk result (λ answer. answer ≡ true) }
     ensures keeps { Keeps doc.old doc.new }
 {
-    erase(alloc, doc, true, true, false)?;
+    erase(alloc, doc, true, true, false)?; // step 1
     insert_paragraph_inside(alloc, doc)?;
     Ok(true)
 }

@@ -16,7 +16,7 @@ use delete_core::{
 };
 use edit_doc::{Doc, EditFault, NodeRef, Point};
 use inline_commands::restore_states;
-use inline_value::{Overrides, record_overrides};
+use inline_value::record_overrides;
 use node_tests::{is_collapsed_break, is_words};
 use point_order::node_of;
 use std::alloc::{AllocError, Global};
@@ -69,25 +69,6 @@ fn into_text(doc: &Doc, at: Point) -> Point
     start_after(doc, node, at).unwrap_or(at)
 }
 
-// Step 5: a character goes into a text.
-#[tactic(auto, using(edit_model::proofs::Steps::steps, edit_model::proofs::Steps::exits, edit_model::proofs::Steps::actions), unfolding(crate::specs::Typing::put_in_text))]
-fn put_in_text(doc: &mut Doc, put: char, node: NodeRef, at: Point) -> Result<(), EditFault>
-    requires open { IsOpen doc.old }
-    requires node_held { Holds doc.old node }
-    requires label { at.label ≡ node.label }
-    ensures gives { Gives result doc.old.state doc.new.state (typing.put_in_text put at) }
-    ensures keeps { Keeps doc.old doc.new }
-{
-    let offset = at.offset.checked_add(1).ok_or(AllocError)?;
-    doc.replace_words(node, at.offset, 0, &[put])?;
-    let end = Point {
-        label: at.label,
-        offset,
-    };
-    select(doc, at, end);
-    Ok(())
-}
-
 // Step 5: the one child of a node goes, where it is a collapsed line break.
 #[tactic(auto, using(edit_model::proofs::Steps::steps, edit_model::proofs::Steps::exits), unfolding(crate::specs::Typing::drop_sole_break))]
 fn drop_sole_break(doc: &mut Doc, node: NodeRef) -> Result<(), EditFault>
@@ -105,58 +86,33 @@ fn drop_sole_break(doc: &mut Doc, node: NodeRef) -> Result<(), EditFault>
     Ok(())
 }
 
-// Step 5: selects what is in a text.
-#[tactic(auto, using(edit_model::proofs::Steps::actions), unfolding(crate::specs::Typing::select_whole))]
-fn select_whole(doc: &mut Doc, text: NodeRef) -> Result<(), EditFault>
-    requires open { IsOpen doc.old }
-    requires held { Holds doc.old text }
-    ensures gives { Gives result doc.old.state doc.new.state (typing.select_whole text.label) }
-    ensures keeps { Keeps doc.old doc.new }
-{
-    let end = end_in(doc, text);
-    select(doc, start_in(text), end);
-    Ok(())
-}
-
-// Step 5: a new text with a character at the start of the active range.
-#[tactic(auto, using(edit_model::proofs::Steps::steps, edit_model::proofs::Steps::exits), unfolding(crate::specs::Typing::put_text))]
-fn put_text(doc: &mut Doc, put: char) -> Result<(), EditFault>
-    requires open { IsOpen doc.old }
-    ensures gives { Gives result doc.old.state doc.new.state (typing.put_text put) }
-    ensures keeps { Keeps doc.old doc.new }
-{
-    let text = doc.make_words(&[put])?;
-    insert_at_start(doc, text)?;
-    select_whole(doc, text)
-}
-
-// Step 5, at a point.
-#[tactic(auto, using(edit_model::proofs::Steps::steps, edit_model::proofs::Steps::exits), unfolding(crate::specs::Typing::put_at))]
-fn put_at(doc: &mut Doc, put: char, at: Point) -> Result<(), EditFault>
-    requires open { IsOpen doc.old }
-    requires here { 0 < count_of doc.old.state.trees at.label }
-    ensures gives { Gives result doc.old.state doc.new.state (typing.put_at put at) }
-    ensures keeps { Keeps doc.old doc.new }
-{
-    let node = node_of(doc, at);
-    if is_words(doc, node) {
-        return put_in_text(doc, put, node, at);
-    }
-    drop_sole_break(doc, node)?;
-    put_text(doc, put)
-}
-
-// Step 5.
-#[tactic(auto, using(edit_model::proofs::Steps::steps, edit_model::proofs::Steps::exits), unfolding(crate::specs::Typing::put_char))]
+// Step 5: a character goes into the text at the start of the active range, or into a new one there.
+#[tactic(auto, using(edit_model::proofs::Steps::steps, edit_model::proofs::Steps::exits, edit_model::proofs::Steps::actions), unfolding(crate::specs::Typing::put_at, crate::specs::Typing::put_char))]
 fn put_char(doc: &mut Doc, put: char) -> Result<(), EditFault>
     requires open { IsOpen doc.old }
     ensures gives { Gives result doc.old.state doc.new.state (typing.put_char put) }
     ensures keeps { Keeps doc.old doc.new }
 {
-    match active_start(doc) {
-        Some(at) => put_at(doc, put, at),
-        None => Ok(()),
+    let Some(at) = active_start(doc) else {
+        return Ok(());
+    };
+    let node = node_of(doc, at);
+    if is_words(doc, node) {
+        let offset = at.offset.checked_add(1).ok_or(AllocError)?;
+        doc.replace_words(node, at.offset, 0, &[put])?;
+        let end = Point {
+            label: at.label,
+            offset,
+        };
+        select(doc, at, end);
+        return Ok(());
     }
+    drop_sole_break(doc, node)?;
+    let text = doc.make_words(&[put])?;
+    insert_at_start(doc, text)?;
+    let end = end_in(doc, text);
+    select(doc, start_in(text), end);
+    Ok(())
 }
 
 // Step 7.
@@ -171,66 +127,40 @@ fn close_text(alloc: Global, doc: &mut Doc) -> Result<(), EditFault>
     collapse_selection(doc, true)
 }
 
-// Steps 4 to 7, with the overrides that were set.
-#[tactic(auto, using(edit_model::proofs::Steps::steps, edit_model::proofs::Steps::exits, edit_model::proofs::Steps::actions), unfolding(crate::specs::Typing::type_with))]
-fn type_with(
-    alloc: Global,
-    doc: &mut Doc,
-    put: char,
-    at: Point,
-    overrides: &Overrides,
-) -> Result<(), EditFault>
-    requires open { IsOpen doc.old }
-    ensures gives { Gives result doc.old.state doc.new.state
-        (typing.type_with put at overrides.now) }
-    ensures keeps { Keeps doc.old doc.new }
-{
-    select(doc, at, at);
-    canonicalize(alloc, doc, at, true)?;
-    put_char(doc, put)?; // step 5
-    restore_states(alloc, doc, overrides)?; // step 6
-    close_text(alloc, doc)
-}
-
 // Steps 3 to 7.
-#[tactic(auto, using(edit_model::proofs::Steps::steps, edit_model::proofs::Steps::exits), unfolding(crate::specs::Typing::type_char))]
+#[tactic(auto, using(edit_model::proofs::Steps::steps, edit_model::proofs::Steps::exits, edit_model::proofs::Steps::actions), unfolding(crate::specs::Typing::type_char))]
 fn type_char(alloc: Global, doc: &mut Doc, put: char, at: Point) -> Result<(), EditFault>
     requires open { IsOpen doc.old }
     requires here { 0 < count_of doc.old.state.trees at.label }
     ensures gives { Gives result doc.old.state doc.new.state (typing.type_char put at) }
     ensures keeps { Keeps doc.old doc.new }
 {
-    let place = into_text(doc, at);
+    let place = into_text(doc, at); // step 3
+    // step 4
     let overrides = record_overrides(alloc, doc)?;
-    type_with(alloc, doc, put, place, &overrides)
+    select(doc, place, place);
+    canonicalize(alloc, doc, place, true)?;
+    put_char(doc, put)?; // step 5
+    restore_states(alloc, doc, &overrides)?; // step 6
+    close_text(alloc, doc)
 }
 
-// Step 2: a line feed begins a paragraph.
-#[tactic(auto, using(edit_model::proofs::Steps::steps, edit_model::proofs::Steps::exits), unfolding(crate::specs::Typing::insert_char_at))]
-fn insert_char_at(alloc: Global, doc: &mut Doc, put: char, at: Point) -> Result<(), EditFault>
-    requires open { IsOpen doc.old }
-    requires here { 0 < count_of doc.old.state.trees at.label }
-    ensures gives { Gives result doc.old.state doc.new.state (typing.insert_char_at put at) }
-    ensures keeps { Keeps doc.old doc.new }
-{
-    if put != '\n' {
-        return type_char(alloc, doc, put, at);
-    }
-    insert_paragraph(alloc, doc)?;
-    Ok(())
-}
-
-// From step 2 on, of one character, where the start's node is inside.
-#[tactic(auto, using(edit_model::proofs::Steps::steps, edit_model::proofs::Steps::exits), unfolding(crate::specs::Typing::insert_char_inside))]
+// From step 2 on, of one character, where the start's node is inside. A line feed begins a
+// paragraph.
+#[tactic(auto, using(edit_model::proofs::Steps::steps, edit_model::proofs::Steps::exits), unfolding(crate::specs::Typing::insert_char_at, crate::specs::Typing::insert_char_inside))]
 fn insert_char_inside(alloc: Global, doc: &mut Doc, put: char) -> Result<(), EditFault>
     requires open { IsOpen doc.old }
     ensures gives { Gives result doc.old.state doc.new.state (typing.insert_char_inside put) }
     ensures keeps { Keeps doc.old doc.new }
 {
-    match start_inside(doc) {
-        Some(at) => insert_char_at(alloc, doc, put, at),
-        None => Ok(()),
+    let Some(at) = start_inside(doc) else {
+        return Ok(());
+    };
+    if put != '\n' {
+        return type_char(alloc, doc, put, at);
     }
+    insert_paragraph(alloc, doc)?;
+    Ok(())
 }
 
 // Insert text, of one character.
@@ -258,28 +188,18 @@ fn insert_each(alloc: Global, doc: &mut Doc, value: &[char]) -> Result<(), EditF
     Ok(())
 }
 
-// Step 2: each of several characters in order.
-#[tactic(auto, using(edit_model::proofs::Steps::steps, edit_model::proofs::Steps::exits), unfolding(crate::specs::Typing::insert_several))]
-fn insert_several(alloc: Global, doc: &mut Doc, value: &[char]) -> Result<(), EditFault>
-    requires open { IsOpen doc.old }
-    ensures gives { Gives result doc.old.state doc.new.state (typing.insert_several value.now) }
-    ensures keeps { Keeps doc.old doc.new }
-{
-    if start_inside(doc).is_none() {
-        return Ok(());
-    }
-    insert_each(alloc, doc, value)
-}
-
-// Step 2: several characters, none, or one.
-#[tactic(auto, using(edit_model::proofs::Steps::steps, edit_model::proofs::Steps::exits, crate::proofs::Chars::counts))]
+// Step 2: each of several characters in order, none, or one.
+#[tactic(auto, using(edit_model::proofs::Steps::steps, edit_model::proofs::Steps::exits, crate::proofs::Chars::counts), unfolding(crate::specs::Typing::insert_several))]
 fn insert_chars(alloc: Global, doc: &mut Doc, value: &[char]) -> Result<(), EditFault>
     requires open { IsOpen doc.old }
     ensures gives { Gives result doc.old.state doc.new.state (typing.insert_chars value.now) }
     ensures keeps { Keeps doc.old doc.new }
 {
     if value.len() > 1 {
-        return insert_several(alloc, doc, value);
+        if start_inside(doc).is_none() {
+            return Ok(());
+        }
+        return insert_each(alloc, doc, value);
     }
     if value.len() == 0 {
         return Ok(());
