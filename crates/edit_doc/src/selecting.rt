@@ -171,8 +171,7 @@ impl Doc {
         ensures { result
             ≡ (may_select self.now.state pair.anchor && may_select self.now.state pair.focus) }
     {
-        self.may_select(pair.anchor)
-            && (pair.focus == pair.anchor || self.may_select(pair.focus))
+        self.may_select(pair.anchor) && (pair.focus == pair.anchor || self.may_select(pair.focus))
     }
 
     // Sets the selection.

@@ -244,7 +244,12 @@ impl Editor {
 
     /// Gives a name to what is between two points, each the label of a node and an offset in it. A
     /// mark of that name keeps its place, and a new one goes last.
-    pub fn mark_points(&mut self, name: &Name, anchor: Point, focus: Point) -> Result<(), PlaceFault>
+    pub fn mark_points(
+        &mut self,
+        name: &Name,
+        anchor: Point,
+        focus: Point,
+    ) -> Result<(), PlaceFault>
         ensures bad_place { (result ≡ Err PlaceFault.BadPlace) ↔
             (placed_pair self.old.editing.state.trees anchor focus ≡ None) }
         ensures too_many { result ≡ Err PlaceFault.TooManyMarks

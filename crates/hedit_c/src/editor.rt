@@ -471,11 +471,7 @@ pub extern "C" fn hedit_selection(
 
 /// The numbers of the document and of its history.
 #[unsafe(no_mangle)]
-pub extern "C" fn hedit_numbers(
-    alloc: Global,
-    editor: &mut Handle,
-    facts: &mut NumberFacts,
-) -> u32
+pub extern "C" fn hedit_numbers(alloc: Global, editor: &mut Handle, facts: &mut NumberFacts) -> u32
     ensures stays { editor.new.value ≡ editor.old.value }
     ensures told { Asks result (editing_of editor.old.value) facts.old facts.new
         (λ status e. NumbersTell status e facts.new) }
