@@ -334,7 +334,7 @@ fn lines_are_applied_or_refused(rt: HostRuntime) -> Result<(), Fail> {
 #[test]
 fn lines_are_replayed(rt: HostRuntime) -> Result<(), Fail> {
     let mut page = Replay::new(Arena::new(rt.alloc(), 2_000)?);
-    assert_eq!(rt; replays_what_is_too_deep(rt.alloc(), &mut page)?, None);
+    assert!(rt; replays_what_is_too_deep(rt.alloc(), &mut page)?.is_none());
     assert_eq!(rt; place(page.arena(), 1_002), Some((Some(1_000), None)));
     Ok(())
 }
