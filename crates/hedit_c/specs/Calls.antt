@@ -151,7 +151,7 @@ unselect_status None = Closed
 unselect_status (Some e) = Done
 
 -- the status of what a selecting call answers
-abbrev pub selected_status : Result ⊤ PlaceFault → Status
+abbrev pub selected_status : Result (Unit {0}) PlaceFault → Status
 selected_status (Ok _) = Done
 selected_status (Err place_fault.BadPlace) = BadPlace
 selected_status (Err place_fault.TooManyMarks) = TooManyMarks
