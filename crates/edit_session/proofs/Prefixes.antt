@@ -49,23 +49,23 @@ same-cut a b e = cc
 
 cut-more : (word : List ℕ) (lines more : List (List ℕ)) (cut : Cut) → cut_at word lines ≡ Some cut → cut_at word (lines ++ more) ≡ Some (record cut { after = cut.after ++ more })
 cut-more word [] more cut e = absurd (let t : None ≡ Some cut = e in cc)
-cut-more word (line ∷ lines) more cut e = by_test (bytes_eq line word) refl
+cut-more word (line ∷ lines) more cut e = by_test (λ c is. cut-more word lines more c is) (bytes_eq line word) refl
   where
-    by_rest : (o : Option Cut) → cut_at word lines ≡ o → option_map (with_line line) o ≡ Some cut → option_map (with_line line) (cut_at word (lines ++ more)) ≡ Some (record cut { after = cut.after ++ more })
-    by_rest None is f = absurd (let t : None ≡ Some cut = f in cc)
-    by_rest (Some inner) is f =
+    by_rest : ((c : Cut) → cut_at word lines ≡ Some c → cut_at word (lines ++ more) ≡ Some (record c { after = c.after ++ more })) → (o : Option Cut) → cut_at word lines ≡ o → option_map (with_line line) o ≡ Some cut → option_map (with_line line) (cut_at word (lines ++ more)) ≡ Some (record cut { after = cut.after ++ more })
+    by_rest further None is f = absurd (let t : None ≡ Some cut = f in cc)
+    by_rest further (Some inner) is f =
         let same : with_line line inner ≡ cut = same-cut (with_line line inner) cut f in
-        ap (option_map (with_line line)) (cut-more word lines more inner is)
+        ap (option_map (with_line line)) (further inner is)
         ∙ ap (λ (c : Cut). Some (record c { after = c.after ++ more })) same
 
-    by_test : (b : Bool) → bytes_eq line word ≡ b → cut_at word (line ∷ (lines ++ more)) ≡ Some (record cut { after = cut.after ++ more })
-    by_test true is =
+    by_test : ((c : Cut) → cut_at word lines ≡ Some c → cut_at word (lines ++ more) ≡ Some (record c { after = c.after ++ more })) → (b : Bool) → bytes_eq line word ≡ b → cut_at word (line ∷ (lines ++ more)) ≡ Some (record cut { after = cut.after ++ more })
+    by_test further true is =
         let f : Some (record { before = []; after = lines }) ≡ Some cut = (let g = rw is at e in g) in
         let same = same-cut (record { before = []; after = lines }) cut f in
         rw is (ap (λ (c : Cut). Some (record c { after = c.after ++ more })) same)
-    by_test false is =
+    by_test further false is =
         let f : option_map (with_line line) (cut_at word lines) ≡ Some cut = (let g = rw is at e in g) in
-        rw is (by_rest (cut_at word lines) refl f)
+        rw is (by_rest further (cut_at word lines) refl f)
 
 whole-parts : (page other : List ℕ) (acts others : List (List ℕ)) → Whole page acts ≡ Whole other others → (page ≡ other) × (acts ≡ others)
 whole-parts page other acts others e = (cc, cc)
