@@ -27,6 +27,7 @@ MADE_NAMES = {"a", "b", "blockquote", "br", "div", "em", "font", "hr", "i", "img
               "strong", "sub", "sup", "u", "ul", "address", "dd", "dl", "dt", "h1", "h2", "h3", "h4", "h5", "h6", "pre"}
 MADE_ATTRIBUTES = {"href", "src", "style", "color", "face", "size"}
 BLANKS = "\t\n\r \u00a0"
+FLAGS = {"stylewithcss", "usecss", "defaultparagraphseparator"}
 INSERTING = {"insertparagraph": None, "insertlinebreak": None, "insertimage": "img", "inserthorizontalrule": "hr"}
 
 
@@ -150,7 +151,7 @@ def outside(html):
     """What is printed before and after the children of the one editable element; None where there isn't just one."""
     tags = list(re.finditer(r"<!--.*?-->|<(/?)([a-z0-9-]+)([^>\"]|\"[^\"]*\")*>", html, re.S))
     starts = [tag for tag in tags if tag[2] and not tag[1] and re.search(r"\scontenteditable=\"", tag[0])]
-    if len(starts) != 1:
+    if len(starts) != 1 or starts[0][2] in VOID:
         return None
     depth = 0
     for tag in tags[tags.index(starts[0]):]:
@@ -203,7 +204,7 @@ def round_trip(program, session, steps):
 
 
 def outside_stays(program, session, steps):
-    """What is printed outside the children of the editable element stays."""
+    """What is printed outside the children of the editable element stays; a void element has nothing printed after them."""
     for before, step, *_ in commands(steps):
         around = outside(before.html)
         if around:
@@ -223,14 +224,14 @@ def labels_last(program, session, steps):
 
 def undo_gives_back(program, session, steps):
     """After a command that made an entry of its own, undo prints what was printed before it; and all undone and redone is
-    as it was."""
+    the tree that it was."""
     for place, (before, step) in enumerate(zip(steps, steps[1:]), 1):
         is_new = step.numbers["undo"] == before.numbers["undo"] + 1 and step.act.startswith("exec ")
         if is_new:
             undone = play(program, session, [*session.acts[:place], "undo 1"])
             yield undone is not None and undone[-1].seen == before.seen
     turned = play(program, session, [*session.acts, "redo 999", "undo 999", "redo 999"])
-    yield turned is None or turned[-3].seen == turned[-1].seen
+    yield turned is None or turned[-3].tree == turned[-1].tree
 
 
 def independent(program, session, steps):
@@ -265,9 +266,9 @@ def inserts_only(program, session, steps):
 
 
 def selection_stays(program, session, steps):
-    """No command loses the selection, and both points stand at or below the editable element."""
-    for before, step, *_ in commands(steps):
-        if before.points.startswith("none"):
+    """No command but those that set flags loses the selection, and both points stand at or below the editable element."""
+    for before, step, name, _ in commands(steps):
+        if before.points.startswith("none") or name in FLAGS:
             continue
         yield not step.points.startswith("none")
         found = hosts(before.tree)
