@@ -159,7 +159,8 @@ uint32_t hedit_select(hedit_editor *editor, const uint32_t *anchor, size_t ancho
 
 /* The same from one point to another, each the label of a node and an offset in it. HEDIT_DONE,
  * HEDIT_BAD_PLACE where no node of the document has the label or the offset is past its length,
- * HEDIT_CLOSED. It takes no memory, and its cost doesn't grow with the page. */
+ * HEDIT_CLOSED. It takes no memory, and costs as much as the nodes are deep, and in an element the
+ * children before the offset. */
 uint32_t hedit_select_points(hedit_editor *editor, uint32_t anchor, uint32_t anchor_offset,
                              uint32_t focus, uint32_t focus_offset);
 
