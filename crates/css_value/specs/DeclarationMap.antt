@@ -1,4 +1,5 @@
--- How pairs in order, and the places of names, stand for a list of declarations. No public clause cites this module.
+-- How pairs in order, and the places of names, stand for a list of declarations. No public clause
+-- cites this module.
 use Rattle.std.specs.Prelude.{◌≡◌, ℕ, Bool, true, false, List, Option, Some, None, is_some, bytes_eq, map, slice_get}
 use Rattle.std.specs.List.{AllByRecursion, IsDistinct}
 use Rattle.std.specs.Map.{lookup}

@@ -16,8 +16,8 @@ use std::marker::Model;
 // A property's name and its value.
 type Pair = (Vec<char>, Vec<char>);
 
-// The places of names. They are found by the order of the names, and not by a hash, so that no choice of names makes a
-// look-up long.
+// The places of names. They are found by the order of the names, and not by a hash, so that no
+// choice of names makes a look-up long.
 type Places = BTreeMap<Vec<char>, usize>;
 
 /// The declarations of a style: property names, which are distinct, with their values, in order.

@@ -1,4 +1,5 @@
--- Rows in order, the numbers of their names, and the list of attributes that they stand for change together.
+-- Rows in order, the numbers of their names, and the list of attributes that they stand for change
+-- together.
 use Rattle.std.proofs.Common.{◌≡◌, ℕ, Bool, true, false, true≢false, cond, zero, suc, ◌+◌, ◌<◌, List, [], ◌∷◌, ◌++◌, Option, Some, None, is_some, option_map, refl, sym, ap, ap₂, subst, ◌∙◌, arith, drop, take, remove, nat_eq, nat_cmp, is_eq, Ordering, Less, Equal, Greater, Decides, Box, BTreeMap}
 use Rattle.std.specs.Prelude.{bytes_eq, slice_get}
 use Rattle.std.specs.List.{AllZip, IsDistinct, AllByRecursion}

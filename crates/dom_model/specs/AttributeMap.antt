@@ -1,4 +1,5 @@
--- How rows in order, which are found by numbers, stand for a list of attributes. No public clause cites this module.
+-- How rows in order, which are found by numbers, stand for a list of attributes. No public clause
+-- cites this module.
 use Rattle.std.specs.Prelude.{◌≡◌, ℕ, ◌<◌, Bool, true, false, ⊤, List, [], Option, Some, None, is_some, bytes_eq}
 use Rattle.std.specs.List.{AllByRecursion}
 use Rattle.std.specs.Map.{lookup, keys_of, values_of}
@@ -30,7 +31,8 @@ IsKnown (Some b) names = IsNumbered b.value.entries names
 abbrev pub IsAbove : ℕ → List (ℕ × Attribute) → Type 0
 IsAbove next rows = AllByRecursion (λ n. n < next) (keys_of rows)
 
--- the names of the rows are distinct, their numbers are below the next one, and where names are numbered each has its number
+-- the names of the rows are distinct, their numbers are below the next one, and where names are
+-- numbered each has its number
 abbrev pub IsListing : {A B : Type 0} → List (ℕ × Attribute) → ℕ → Option (Box (BTreeMap (Vec ℕ A) ℕ) B) → Type 0
 IsListing rows next numbers =
     IsDistinctNames (values_of rows) × IsAbove next rows × IsKnown numbers (names_of (values_of rows))

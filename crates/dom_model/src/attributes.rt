@@ -38,14 +38,15 @@ type Rows = IndexMap<usize, Attribute>;
 
 type Numbers = BTreeMap<Vec<u8>, usize>;
 
-// Attributes in order. Each has a number, in the order in which they came, by which the map holds it: a hash is taken of
-// numbers alone, and never of a name, so that no choice of names makes a look-up long.
+// Attributes in order. Each has a number, in the order in which they came, by which the map holds
+// it: a hash is taken of numbers alone, and never of a name, so that no choice of names makes a
+// look-up long.
 #[derive(Drop)]
 struct Listing {
     rows: Rows,
     // The number of the next attribute that comes.
     next: usize,
-    // The number of each name, once there are more than a few. It is found by the order of the names.
+    // The number of each name, once there are more than a few, found by the order of the names.
     numbers: Option<Box<Numbers>>,
 }
 

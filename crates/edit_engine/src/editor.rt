@@ -189,7 +189,8 @@ impl Editor {
     }
 
     /// Selects from one point to another: each is the label of a node and an offset in it. It takes
-    /// no memory, and its cost grows with the depth of the nodes alone.
+    /// no memory, and its cost grows with the depth of the nodes and, in an element, with the
+    /// children before the offset.
     pub fn select_points(&mut self, anchor: Point, focus: Point) -> Result<(), PlaceFault>
         ensures { MatchOption (placed_pair self.old.editing.state.trees anchor focus)
             ((result ≡ Err PlaceFault.BadPlace) × (self.new ≡ self.old))
