@@ -6,7 +6,7 @@ use std::marker::{Brand, Model};
 use std::sync::ledger::{Blank, Ledger};
 use std::test::Fail;
 use step_count::Steps;
-use undo_log::{Committed, Invertible, UndoLog, laws};
+use undo_log::{Committed, Invertible, UndoLog, Watch, laws};
 
 type Numbers = [u32; 4];
 
@@ -173,6 +173,22 @@ impl<T: Invertible<S> + Drop, S: Drop, L: Ledger> Session<T, S, L> {
         }
         laws::allows::<T, S>();
         self.log.redo(&mut self.state, &mut self.steps)
+    }
+
+    fn watch_last<W: Watch<T, S>>(&mut self, kept: usize, watcher: &mut W) {
+        if self.busy || self.log.entry_len() < kept {
+            return;
+        }
+        laws::allows::<T, S>();
+        self.log.watch_last(kept, &mut self.state, watcher);
+    }
+
+    fn watch_undone<W: Watch<T, S>>(&mut self, watcher: &mut W) {
+        if self.busy {
+            return;
+        }
+        laws::allows::<T, S>();
+        self.log.watch_undone(&mut self.state, watcher);
     }
 
     fn pop_redo(&mut self) -> Option<Vec<T>> {
@@ -353,6 +369,102 @@ fn run<L: Ledger>(alloc: Global, blank: Blank) -> Result<Option<usize>, AllocErr
 fn keeps_the_numbers(rt: HostRuntime) -> Result<(), Fail> {
     let other = run::<Brand>(rt.alloc(), Blank::new(1))?;
     assert_eq!(rt; other, None);
+    Ok(())
+}
+
+// A watcher: how many steps it saw, and the numbers before each of the first two.
+#[derive(Clone, Copy, PartialEq, Eq, Debug)]
+struct Sights {
+    count: usize,
+    numbers: [Numbers; 2],
+}
+
+impl Watch<Edit, Numbers> for Sights {
+    ghost seen = { λ before step numbers after. Unit {0} };
+
+    fn see(&mut self, _step: &Edit, numbers: &Numbers) {
+        if self.count < 2 {
+            self.numbers[self.count] = *numbers;
+            self.count += 1;
+        }
+    }
+}
+
+static NONE: Sights = Sights {
+    count: 0,
+    numbers: [[0; 4]; 2],
+};
+
+// What is seen of an entry that writes 9 at 0 and swaps 0 and 3, from 1 2 3 4, past each count of
+// its steps.
+static MADE: [Sights; 3] = [
+    Sights {
+        count: 2,
+        numbers: [[1, 2, 3, 4], [9, 2, 3, 4]],
+    },
+    Sights {
+        count: 1,
+        numbers: [[9, 2, 3, 4], [0; 4]],
+    },
+    NONE,
+];
+
+// What is seen of how undo took it back.
+static UNDONE: Sights = Sights {
+    count: 2,
+    numbers: [[4, 2, 3, 9], [9, 2, 3, 4]],
+};
+
+fn last_sights<L: Ledger>(session: &mut Session<Edit, Numbers, L>, kept: usize) -> Sights {
+    let mut sights = NONE;
+    session.watch_last(kept, &mut sights);
+    sights
+}
+
+fn undone_sights<L: Ledger>(session: &mut Session<Edit, Numbers, L>) -> Sights {
+    let mut sights = NONE;
+    session.watch_undone(&mut sights);
+    sights
+}
+
+// What is seen with an entry and once it is undone, of the last entry past each count of steps, and
+// of the one that redo would take.
+fn watch_entry<L: Ledger>(
+    alloc: Global,
+    blank: Blank,
+) -> Result<([Sights; 4], [Sights; 2], Numbers), AllocError>
+    requires name { blank.name ≡ L.name }
+    requires parts { blank.parts ≡ L.parts }
+    requires some { 0 < blank.parts }
+{
+    let steps = Steps::<L>::open(blank);
+    let mut session = Session::<Edit, Numbers, L>::new(alloc, 2, [1, 2, 3, 4], steps)?;
+    for call in [
+        Call::Begin,
+        Call::Write(0, 9),
+        Call::Swap(0, 3),
+        Call::Commit,
+    ] {
+        answer(&mut session, call)?;
+    }
+    let made = [
+        last_sights(&mut session, 0),
+        last_sights(&mut session, 1),
+        last_sights(&mut session, 2),
+        undone_sights(&mut session),
+    ];
+    session.undo();
+    let undone = [last_sights(&mut session, 0), undone_sights(&mut session)];
+    session.redo();
+    Ok((made, undone, session.state))
+}
+
+#[test]
+fn shows_an_entry(rt: HostRuntime) -> Result<(), Fail> {
+    let (made, undone, numbers) = watch_entry::<Brand>(rt.alloc(), Blank::new(1))?;
+    assert_eq!(rt; made, [MADE[0], MADE[1], MADE[2], NONE]);
+    assert_eq!(rt; undone, [NONE, UNDONE]);
+    assert_eq!(rt; numbers, [4, 2, 3, 9]);
     Ok(())
 }
 
