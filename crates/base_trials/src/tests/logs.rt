@@ -372,7 +372,7 @@ fn keeps_the_numbers(rt: HostRuntime) -> Result<(), Fail> {
     Ok(())
 }
 
-// A watcher: how many steps it saw, and the numbers before each of the first two.
+// A watcher: how many steps it saw, up to two, and the numbers before each of those.
 #[derive(Clone, Copy, PartialEq, Eq, Debug)]
 struct Sights {
     count: usize,
