@@ -1,0 +1,6 @@
+pub mod Joining
+pub mod Growing
+pub mod Pruned
+pub mod Documents
+pub mod Splicing
+pub mod Following

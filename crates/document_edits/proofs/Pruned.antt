@@ -1,0 +1,46 @@
+-- Changes are told without a look at the trees that are pruned.
+use Rattle.std.proofs.Common.{◌≡◌, ℕ, ◌<◌, Bool, List, [], ◌∷◌, ◌++◌, Option, refl, sym, ap, subst, ◌∙◌, arith, unwrap_or}
+use Rattle.std.specs.Option.{option_and_then}
+use Rattle.dom_model.specs.declared.Content.{Content}
+use Rattle.dom_model.specs.Change.{Change, listed}
+use Rattle.dom_model.specs.Change as change
+use Rattle.dom_model.specs.Contents.{chars_in, chars_of}
+use Rattle.dom_model.specs.Forest.{Forest, count_of, content_of, tree_of}
+use Rattle.dom_model.specs.Pruned.{pruned}
+use Rattle.dom_model.proofs.Pruning.{tree_of-pruned}
+use Rattle.point_order.specs.PointOrder.{is_in_document}
+use Rattle.undo_log.specs.Turning.{FitsForth}
+use Rattle.forest_changes.specs.Change.{IsForest, Fits, applied}
+use Rattle.forest_changes.specs.Named.{named, named_in, Each}
+use Rattle.forest_changes.specs.Down.{Prunes, IsLeft}
+use Rattle.forest_changes.proofs.ChangeLists.{each_first, each_rest, each_of}
+use Rattle.forest_changes.proofs.DownChange.{down, IsForest-pruned}
+use Rattle.forest_changes.proofs.PrunedChanges.{content_of-pruned}
+use Rattle.document_edits.specs.Told.{told, told_all, told_tree, told_move}
+use Rattle.document_edits.specs.Replaced.{replaced}
+use Rattle.document_edits.specs.declared.edit.DocumentEdit.{DocumentEdit}
+
+module _ (k : ℕ → Bool) where
+  document-pruned : (f : Forest Content) → Prunes k f → IsForest f → tree_of (pruned k f) 0 ≡ tree_of f 0
+  document-pruned f prunes ok = tree_of-pruned k f 0 ok.distinct (IsForest-pruned k f prunes.document ok).document
+
+  told_tree-pruned : (f : Forest Content) (n p : ℕ) (b : Option ℕ) → IsForest f → IsLeft k f n → told_tree (pruned k f) n p b ≡ told_tree f n p b
+  told_tree-pruned f n p b ok here = rw (tree_of-pruned k f n ok.distinct here) refl
+
+  pub told-pruned : (x : Change) (f : Forest Content) → Prunes k f → Fits x f → Each (IsLeft k f) (named x) → told x (pruned k f) ≡ told x f
+  unfolding told
+  told-pruned (change.Remove n) f prunes h hs = rw (document-pruned f prunes h.forest) refl
+  told-pruned (change.Insert n p b) f prunes h hs = rw (document-pruned f prunes h.forest, tree_of-pruned k f n h.forest.distinct hs.0) refl
+  told-pruned (change.Move n p b) f prunes h hs = rw (document-pruned f prunes h.forest, tree_of-pruned k f n h.forest.distinct hs.0) refl
+  told-pruned (change.SetText n words) f prunes h hs = rw (document-pruned f prunes h.forest, content_of-pruned k f n h.forest hs.0) refl
+  told-pruned (change.SetAttributes n list) f prunes h hs = rw (document-pruned f prunes h.forest) refl
+
+  pub told_all-pruned : (xs : List Change) (f : Forest Content) → Prunes k f → FitsForth applied Fits xs f → Each (IsLeft k f) (named_in xs) → told_all xs (pruned k f) ≡ told_all xs f
+  unfolding told_all FitsForth
+  told_all-pruned [] f prunes h hs = refl
+  told_all-pruned (x ∷ xs) f prunes h hs =
+      let own = each_first (IsLeft k f) (named x) (named_in xs) hs in
+      let d = down k x f prunes h.0 own in
+      let to : (l : ℕ) → IsLeft k f l → IsLeft k (applied x f) l = λ l w. omega (arith, w, d.stays l) in
+      let rest = told_all-pruned xs (applied x f) d.prunes h.1 (each_of (IsLeft k f) (IsLeft k (applied x f)) (named_in xs) to (each_rest (IsLeft k f) (named x) (named_in xs) hs)) in
+      λ i. told-pruned x f prunes h.0 own i ++ (ap (told_all xs) (sym d.same) ∙ rest) i

@@ -1,0 +1,4 @@
+pub mod Flat
+pub mod Replaced
+pub mod Told
+pub mod Followed
