@@ -1,6 +1,6 @@
 //! Places in a tree, told by the children beside them, and the steps from one to the next.
 
-ghost use Rattle.std.specs.Prelude.{◌≡◌, ◌<◌, ◌+◌, ◌-◌, ◌↔◌, IfSome, IsTrue};
+ghost use Rattle.std.specs.Prelude.{◌≡◌, ◌<◌, ◌+◌, ◌-◌, ◌↔◌, IfSome, IsTrue, None};
 ghost use Rattle.dom_model.specs.Contents.{length_of};
 ghost use Rattle.dom_model.specs.Places.{index_of};
 ghost use Rattle.node_tests.specs.BlockPoints as points;
@@ -9,7 +9,7 @@ ghost use Rattle.block_extend.specs.Gaps as gaps;
 ghost use Rattle.block_extend.specs.Gaps.{Leads, Stands};
 
 use live_range::Point;
-use node_arena::{NodeRef, Nodes};
+use node_arena::{Content, NodeRef, Nodes};
 use node_tests::{child_at, child_before, ends_before, is_root, starts_after};
 
 /// A place in a node, with the children beside it.
@@ -154,6 +154,19 @@ fn one_forth<N: Nodes>(nodes: &N, at: Place) -> Place
     }
 }
 
+// Whether a place with no child after it stands before the end of its node: only among characters. It
+// counts no children.
+fn is_amid_characters<N: Nodes>(nodes: &N, at: Place) -> bool
+    requires stands { Stands (N.holds nodes.now) (N.trees nodes.now) at }
+    requires none { at.after ≡ None }
+    ensures { IsTrue result ↔ (at.offset < length_of (N.trees nodes.now) at.node.label) }
+{
+    match nodes.content(at.node) {
+        Content::Words(_) | Content::Remark(_) => at.offset < nodes.length(at.node),
+        _ => false,
+    }
+}
+
 // Whether a place stands before the end of its node. It counts no children.
 fn is_before_end<N: Nodes>(nodes: &N, at: Place) -> bool
     requires { Stands (N.holds nodes.now) (N.trees nodes.now) at }
@@ -162,7 +175,7 @@ fn is_before_end<N: Nodes>(nodes: &N, at: Place) -> bool
     nodes.valid();
     match at.after {
         Some(_) => true,
-        None => at.offset < nodes.length(at.node),
+        None => is_amid_characters(nodes, at),
     }
 }
 
