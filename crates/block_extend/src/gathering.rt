@@ -3,7 +3,8 @@
 ghost use Rattle.std.specs.Prelude.{◌≡◌, ◌<◌, IfOk, filter, map};
 ghost use Rattle.std.specs.List.{All};
 ghost use Rattle.std.specs.Option.{option_map};
-ghost use Rattle.dom_model.specs.Forest.{count_of, IsWithin};
+ghost use Rattle.dom_model.specs.Forest.{count_of, is_label, IsWithin};
+ghost use Rattle.node_arena.specs.Held.{label};
 ghost use Rattle.point_order.specs.PointOrder.{is_ancestor};
 ghost use Rattle.block_extend.specs.Gaps.{is_below, top_of, IsTaken};
 ghost use Rattle.block_extend.specs.Gather.{gather, gathered};
@@ -28,8 +29,18 @@ pub trait Choice<N: Nodes> {
         ensures { result ≡ chosen self.now nodes.now node.label };
 }
 
-// Whether a node stands below `top`. Where its parent is a node of that tree that is known, no other
-// ancestor is looked at.
+// Whether a node is the one that may be there.
+fn is_at(at: Option<NodeRef>, node: NodeRef) -> bool
+    ensures { result ≡ is_label (label at) node.label }
+{
+    match at {
+        Some(other) => other.label == node.label,
+        None => false,
+    }
+}
+
+// Whether a node stands below `top`. Where its parent is a node of that tree that is known, or is
+// the parent of `top` too, no other ancestor is looked at.
 fn is_below_top<N: Nodes>(nodes: &N, top: NodeRef, inside: NodeRef, node: NodeRef) -> bool
     requires top_held { N.holds nodes.now top }
     requires inside { IsWithin (N.trees nodes.now) top.label inside.label }
@@ -40,6 +51,9 @@ fn is_below_top<N: Nodes>(nodes: &N, top: NodeRef, inside: NodeRef, node: NodeRe
     if let Some(parent) = nodes.parent(node) {
         if parent.label == inside.label {
             return true;
+        }
+        if is_at(nodes.parent(top), parent) {
+            return false;
         }
     }
     is_ancestor(nodes, top, node)
