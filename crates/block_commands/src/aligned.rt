@@ -187,9 +187,9 @@ impl Choice<Doc> for Misaligned {
 
     #[tactic(auto, unfolding(crate::specs::Justify::is_misaligned, command_value::specs::Alignment::alignment_value))]
     fn chooses(&self, doc: &Doc, node: NodeRef) -> bool {
-        doc.is_editable_for(node)
+        alignment(doc, node).keyword() != self.alignment.keyword()
             && allowed_in_div(doc, node)
-            && alignment(doc, node).keyword() != self.alignment.keyword()
+            && doc.is_editable_for(node)
     }
 }
 

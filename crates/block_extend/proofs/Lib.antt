@@ -7,3 +7,4 @@ mod Nesting
 mod Taking
 pub mod Ordered
 pub mod Counting
+pub mod Parents

@@ -1,5 +1,5 @@
 -- A walk over the trees from a node on, that looks for a node that passes a test.
-use Rattle.std.proofs.Common.{◌≡◌, ℕ, ◌<◌, Bool, true, false, ◌||◌, Option, Some, IfSome, refl, sym, ap, ◌∙◌}
+use Rattle.std.proofs.Common.{◌≡◌, ℕ, ◌<◌, Bool, true, false, ◌||◌, Option, Some, IfSome, refl, sym, ap, subst, ◌∙◌}
 use Rattle.dom_model.specs.declared.Content.{Content}
 use Rattle.dom_model.specs.Forest.{Forest, count_of, first_of, next_of}
 use Rattle.dom_model.proofs.Parts.{at_label}
@@ -7,7 +7,7 @@ use Rattle.node_arena.specs.declared.NodeRef.{NodeRef}
 use Rattle.node_arena.specs.Held.{label}
 use Rattle.node_arena.specs.Reads.{IsValid, Names}
 use Rattle.node_paths.specs.Onward.{onward_at, IsInner}
-use Rattle.node_paths.proofs.Visiting.{Visit, visit, size_from}
+use Rattle.node_paths.proofs.Visiting.{Visit, visit, size_from, inner_first}
 use Rattle.block_extend.specs.Descendants.{has_in}
 
 -- where a walk stands: at a node that has a parent, or past the last one
@@ -69,3 +69,11 @@ module _ {holds : NodeRef → Type 0} {f : Forest Content} {upper : ℕ} (law : 
         ∙ ap (λ b. b || (from first || from next)) not_own
         ∙ ap (λ b. b || from next) under
         ∙ ap from (sym at_next.is)
+
+-- where the first child passes, a descendant does
+module _ {holds : NodeRef → Type 0} {f : Forest Content} {upper : ℕ} (law : IsValid holds f upper) where
+  pub begins : (test : ℕ → Bool) (r child : NodeRef) → holds r → Names holds (Some child) (first_of f r.label) → test child.label ≡ true → has_in test (onward_at f (first_of f r.label)) ≡ true
+  begins test r child held named passes =
+      let is : Some child.label ≡ first_of f r.label = named.is in
+      let inner : IsInner f (Some child.label) = subst (IsInner f) (sym is) (inner_first f r.label law.distinct (law.here r held)) in
+      ap (λ o. has_in test (onward_at f o)) (sym is) ∙ sym (found_here law child (record { held = named.held; inner = inner }) test passes)

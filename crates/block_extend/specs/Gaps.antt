@@ -1,14 +1,16 @@
 -- Places told by the children beside them, and what the code of this crate looks at. No public
 -- clause cites this module.
-use Rattle.std.specs.Prelude.{◌≡◌, ℕ, Bool, false, Option, Some, None}
+use Rattle.std.specs.Prelude.{◌≡◌, ℕ, Bool, false, Option, Some, None, IfSome}
+use Rattle.std.specs.Option.{option_map}
 use Rattle.dom_model.specs.declared.Content.{Content}
-use Rattle.dom_model.specs.Forest.{Forest}
+use Rattle.dom_model.specs.Forest.{Forest, IsWithin}
 use Rattle.live_range.specs.declared.places.Point.{Point}
 use Rattle.node_arena.specs.declared.NodeRef.{NodeRef}
 use Rattle.node_arena.specs.Reads.{Names}
 use Rattle.point_order.specs.PointOrder.{is_ancestor}
 use Rattle.node_tests.specs.BlockPoints.{child_before, child_at}
 use Rattle.block_extend.specs.declared.places.Place.{Place}
+use Rattle.block_extend.specs.declared.gathering.Taken.{Taken}
 
 abbrev pub point_of : Place → Point
 point_of at = record { label = at.node.label; offset = at.offset }
@@ -28,3 +30,11 @@ Leads holds f (Some at) to = (to ≡ Some (point_of at)) × Stands holds f at
 abbrev pub is_below : Forest Content → Option ℕ → ℕ → Bool
 is_below f None l = false
 is_below f (Some t) l = is_ancestor f t l
+
+-- the node taken last
+abbrev pub top_of : Option Taken → Option ℕ
+top_of last = option_map (λ t. t.top.label) last
+
+-- a node that was taken, and one of its tree
+abbrev pub IsTaken : (NodeRef → Type 0) → Forest Content → Option Taken → Type 0
+IsTaken holds f last = IfSome last (λ t. holds t.top × IsWithin f t.top.label t.inside.label)

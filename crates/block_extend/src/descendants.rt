@@ -1,6 +1,6 @@
 //! A search below a node.
 
-ghost use Rattle.std.specs.Prelude.{◌≡◌, IfSome};
+ghost use Rattle.std.specs.Prelude.{◌≡◌, IfSome, true};
 ghost use Rattle.node_arena.specs.Held.{label};
 ghost use Rattle.node_paths.specs.Onward.{onward_at, IsInner};
 ghost use Rattle.block_extend.specs.Descendants.{has_in, has_descendant};
@@ -39,4 +39,18 @@ pub fn has_descendant<N: Nodes, C: Choice<N>>(nodes: &N, node: NodeRef, choice: 
 {
     nodes.valid();
     has_onward(nodes, nodes.first_child(node), choice)
+}
+
+/// Whether the first child of a node passes a test, so that a descendant passes.
+#[tactic(auto, unfolding(crate::specs::Descendants::has_descendant))]
+pub fn begins_with<N: Nodes, C: Choice<N>>(nodes: &N, node: NodeRef, choice: &C) -> bool
+    requires { N.holds nodes.now node }
+    ensures { result ≡ true
+        → has_descendant (C.chosen choice.now nodes.now) (N.trees nodes.now) node.label ≡ true }
+{
+    nodes.valid();
+    match nodes.first_child(node) {
+        Some(child) => choice.chooses(nodes, child),
+        None => false,
+    }
 }

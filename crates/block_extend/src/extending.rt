@@ -1,6 +1,6 @@
 //! The block-extended range.
 
-ghost use Rattle.std.specs.Prelude.{◌≡◌, ◌<◌, codes};
+ghost use Rattle.std.specs.Prelude.{◌≡◌, ◌<◌, IfSome, codes};
 ghost use Rattle.dom_model.specs.Forest.{count_of};
 ghost use Rattle.node_arena.specs.Reads.{Names};
 ghost use Rattle.node_styles.specs.Lineage.{nearest_label};
@@ -35,8 +35,9 @@ impl Test for ItemTest {
 
 // Step after step, until a place where the steps stop. Only the characters of Words count in the
 // bound, so a walk inside a comment may come to it.
-fn walk<N: Nodes>(nodes: &N, way: Way, start: Place) -> Place
-    requires { Stands (N.holds nodes.now) (N.trees nodes.now) start }
+fn walk<N: Nodes>(nodes: &N, way: Way, start: Place, known: Option<Place>) -> Place
+    requires stands { Stands (N.holds nodes.now) (N.trees nodes.now) start }
+    requires known { IfSome known (Stands (N.holds nodes.now) (N.trees nodes.now)) }
     ensures stands { Stands (N.holds nodes.now) (N.trees nodes.now) result }
     ensures place { gaps.point_of result
         ≡ extend.walk way (N.trees nodes.now) (turn_bound (N.trees nodes.now))
@@ -45,7 +46,7 @@ fn walk<N: Nodes>(nodes: &N, way: Way, start: Place) -> Place
     let mut left = turn_bound(nodes);
     let mut at = start;
     'walk: while left > 0 {
-        match step(nodes, way, at) {
+        match step(nodes, way, at, known) {
             Some(next) => at = next,
             None => return at,
         }
@@ -84,14 +85,15 @@ fn before_item<N: Nodes>(nodes: &N, point: Point) -> Place
 
 // Step 4: the place of a point, or that after the innermost li around it.
 #[tactic(auto, unfolding(crate::specs::BlockExtend::out_of_item))]
-fn after_item<N: Nodes>(nodes: &N, point: Point) -> Place
-    requires { 0 < count_of (N.trees nodes.now) point.label }
+fn after_item<N: Nodes>(nodes: &N, point: Point, known: Place) -> Place
+    requires here { 0 < count_of (N.trees nodes.now) point.label }
+    requires known { Stands (N.holds nodes.now) (N.trees nodes.now) known }
     ensures stands { Stands (N.holds nodes.now) (N.trees nodes.now) result }
     ensures place { gaps.point_of result ≡ extend.out_of_item (N.trees nodes.now) 1 point }
 {
     let node = node_of(nodes, point);
     if let Some(item) = item_of(nodes, node) {
-        if let Some(place) = place_after(nodes, item) {
+        if let Some(place) = place_after(nodes, item, Some(known)) {
             return place;
         }
     }
@@ -109,14 +111,15 @@ fn to_block_start<N: Nodes>(nodes: &N, at: Place) -> Place
     if is_start(nodes, at) {
         at
     } else {
-        walk(nodes, Way::Back, at)
+        walk(nodes, Way::Back, at, None)
     }
 }
 
 // Step 5: on to a block boundary point, but from a block end point.
 #[tactic(auto, unfolding(crate::specs::BlockExtend::to_block_end))]
-fn to_block_end<N: Nodes>(nodes: &N, at: Place) -> Place
-    requires { Stands (N.holds nodes.now) (N.trees nodes.now) at }
+fn to_block_end<N: Nodes>(nodes: &N, at: Place, known: Place) -> Place
+    requires stands { Stands (N.holds nodes.now) (N.trees nodes.now) at }
+    requires known { Stands (N.holds nodes.now) (N.trees nodes.now) known }
     ensures stands { Stands (N.holds nodes.now) (N.trees nodes.now) result }
     ensures place { gaps.point_of result
         ≡ extend.to_block_end (N.trees nodes.now) (gaps.point_of at) }
@@ -124,39 +127,36 @@ fn to_block_end<N: Nodes>(nodes: &N, at: Place) -> Place
     if is_end(nodes, at) {
         at
     } else {
-        walk(nodes, Way::Forth, at)
+        walk(nodes, Way::Forth, at, Some(known))
     }
 }
 
 // Steps 1 to 3.
 #[tactic(auto, unfolding(crate::specs::BlockExtend::extended_start, crate::specs::BlockExtend::to_outer_start))]
-fn extended_start<N: Nodes>(nodes: &N, point: Point) -> Point
+fn extended_start<N: Nodes>(nodes: &N, point: Point) -> Place
     requires { 0 < count_of (N.trees nodes.now) point.label }
-    ensures point { result ≡ extend.extended_start (N.trees nodes.now) point }
-    ensures here { 0 < count_of (N.trees nodes.now) result.label }
+    ensures stands { Stands (N.holds nodes.now) (N.trees nodes.now) result }
+    ensures place { gaps.point_of result ≡ extend.extended_start (N.trees nodes.now) point }
 {
-    nodes.valid();
     let start = to_block_start(nodes, before_item(nodes, point));
-    let at = walk(nodes, Way::OutBefore, start);
-    point_of(at)
+    walk(nodes, Way::OutBefore, start, None)
 }
 
-// Steps 4 to 6.
+// Steps 4 to 6. The end of a block is one place after its start, which is known.
 #[tactic(auto, unfolding(crate::specs::BlockExtend::extended_end, crate::specs::BlockExtend::to_outer_end))]
-fn extended_end<N: Nodes>(nodes: &N, point: Point) -> Point
-    requires { 0 < count_of (N.trees nodes.now) point.label }
-    ensures point { result ≡ extend.extended_end (N.trees nodes.now) point }
-    ensures here { 0 < count_of (N.trees nodes.now) result.label }
+fn extended_end<N: Nodes>(nodes: &N, point: Point, known: Place) -> Place
+    requires here { 0 < count_of (N.trees nodes.now) point.label }
+    requires known { Stands (N.holds nodes.now) (N.trees nodes.now) known }
+    ensures stands { Stands (N.holds nodes.now) (N.trees nodes.now) result }
+    ensures place { gaps.point_of result ≡ extend.extended_end (N.trees nodes.now) point }
 {
-    nodes.valid();
-    let end = to_block_end(nodes, after_item(nodes, point));
-    let at = walk(nodes, Way::OutAfter, end);
-    point_of(at)
+    let end = to_block_end(nodes, after_item(nodes, point, known), known);
+    walk(nodes, Way::OutAfter, end, Some(known))
 }
 
 /// The block-extended range: its start and its end, taken out to where lines of blocks start and
 /// end. A walk goes over the children and ancestors on its way by links; only the place where it
-/// begins is found by counting children.
+/// begins, and that of the block, are found by counting children.
 #[tactic(auto, unfolding(crate::specs::BlockExtend::block_extend))]
 pub fn block_extend<N: Nodes>(nodes: &N, range: (Point, Point)) -> (Point, Point)
     requires start { 0 < count_of (N.trees nodes.now) range.0.label }
@@ -165,5 +165,8 @@ pub fn block_extend<N: Nodes>(nodes: &N, range: (Point, Point)) -> (Point, Point
     ensures start_here { 0 < count_of (N.trees nodes.now) result.0.label }
     ensures end_here { 0 < count_of (N.trees nodes.now) result.1.label }
 {
-    (extended_start(nodes, range.0), extended_end(nodes, range.1))
+    nodes.valid();
+    let start = extended_start(nodes, range.0);
+    let end = extended_end(nodes, range.1, start);
+    (point_of(start), point_of(end))
 }

@@ -1,10 +1,12 @@
 //! The outermost nodes of a list.
 
-ghost use Rattle.std.specs.Prelude.{◌≡◌, ◌<◌, ◌&&◌, IfOk, IfSome, filter, map, not};
+ghost use Rattle.std.specs.Prelude.{◌≡◌, ◌<◌, IfOk, filter, map};
 ghost use Rattle.std.specs.List.{All};
-ghost use Rattle.dom_model.specs.Forest.{count_of};
+ghost use Rattle.std.specs.Option.{option_map};
+ghost use Rattle.dom_model.specs.Forest.{count_of, is_label, IsWithin};
 ghost use Rattle.node_arena.specs.Held.{label};
-ghost use Rattle.block_extend.specs.Gaps.{is_below};
+ghost use Rattle.point_order.specs.PointOrder.{is_ancestor};
+ghost use Rattle.block_extend.specs.Gaps.{is_below, top_of, IsTaken};
 ghost use Rattle.block_extend.specs.Gather.{gather, gathered};
 ghost use Rattle.block_extend.specs.Order.{IsInOrder};
 
@@ -27,32 +29,67 @@ pub trait Choice<N: Nodes> {
         ensures { result ≡ chosen self.now nodes.now node.label };
 }
 
-// Whether a node stands below the one that was taken last.
-fn is_below<N: Nodes>(nodes: &N, last: Option<NodeRef>, node: NodeRef) -> bool
-    requires last_held { IfSome last (N.holds nodes.now) }
-    requires node_held { N.holds nodes.now node }
-    ensures { result ≡ is_below (N.trees nodes.now) (label last) node.label }
+// Whether a node is the one that may be there.
+fn is_at(at: Option<NodeRef>, node: NodeRef) -> bool
+    ensures { result ≡ is_label (label at) node.label }
 {
-    match last {
-        Some(taken) => is_ancestor(nodes, taken, node),
+    match at {
+        Some(other) => other.label == node.label,
         None => false,
     }
 }
 
-// Whether a node is taken after the one that was taken last: it doesn't stand below that one, which
-// is looked at first, and passes the test.
-fn is_taken<N: Nodes, C: Choice<N>>(
-    nodes: &N,
-    last: Option<NodeRef>,
-    node: NodeRef,
-    choice: &C,
-) -> bool
-    requires last_held { IfSome last (N.holds nodes.now) }
+// Whether a node stands below `top`. Where its parent is a node of that tree that is known, or is
+// the parent of `top` too, no other ancestor is looked at.
+fn is_below_top<N: Nodes>(nodes: &N, top: NodeRef, inside: NodeRef, node: NodeRef) -> bool
+    requires top_held { N.holds nodes.now top }
+    requires inside { IsWithin (N.trees nodes.now) top.label inside.label }
     requires node_held { N.holds nodes.now node }
-    ensures { result ≡ (not (is_below (N.trees nodes.now) (label last) node.label)
-        && C.chosen choice.now nodes.now node.label) }
+    ensures { result ≡ is_ancestor (N.trees nodes.now) top.label node.label }
 {
-    !is_below(nodes, last, node) && choice.chooses(nodes, node)
+    nodes.valid();
+    if let Some(parent) = nodes.parent(node) {
+        if parent.label == inside.label {
+            return true;
+        }
+        if is_at(nodes.parent(top), parent) {
+            return false;
+        }
+    }
+    is_ancestor(nodes, top, node)
+}
+
+// The node that was taken last, and the last member of the list so far that is it or stands below
+// it.
+#[derive(Clone, Copy)]
+struct Taken {
+    top: NodeRef,
+    inside: NodeRef,
+}
+
+// Whether a node stands below the one that was taken last.
+fn is_below<N: Nodes>(nodes: &N, last: Option<Taken>, node: NodeRef) -> bool
+    requires last { IsTaken (N.holds nodes.now) (N.trees nodes.now) last }
+    requires node_held { N.holds nodes.now node }
+    ensures { result ≡ is_below (N.trees nodes.now) (top_of last) node.label }
+{
+    match last {
+        Some(taken) => is_below_top(nodes, taken.top, taken.inside, node),
+        None => false,
+    }
+}
+
+// What was taken last, where a node below it was come to.
+fn with_inside(last: Option<Taken>, node: NodeRef) -> Option<Taken>
+    ensures { result ≡ option_map (λ t. record { top = t.top; inside = node }) last }
+{
+    match last {
+        Some(taken) => Some(Taken {
+            top: taken.top,
+            inside: node,
+        }),
+        None => None,
+    }
 }
 
 // The members of a list that pass a test, without those that have an ancestor among them. They are
@@ -75,9 +112,14 @@ fn gather<N: Nodes, C: Choice<N>>(
     let mut kept = Vec::new(alloc);
     let mut last = None;
     for node in list {
-        if is_taken(nodes, last, *node, choice) {
+        if is_below(nodes, last, *node) {
+            last = with_inside(last, *node);
+        } else if choice.chooses(nodes, *node) {
             kept.push(*node)?;
-            last = Some(*node);
+            last = Some(Taken {
+                top: *node,
+                inside: *node,
+            });
         }
     }
     Ok(NodeList::from_vec(kept))

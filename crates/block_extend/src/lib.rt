@@ -11,7 +11,7 @@ mod places;
 mod prohibited;
 mod series;
 
-pub use descendants::has_descendant;
+pub use descendants::{begins_with, has_descendant};
 pub use extending::block_extend;
 pub use fitting::{allowed_in_div, allowed_in_item, allowed_in_span};
 pub use gathering::{Choice, gather_in};

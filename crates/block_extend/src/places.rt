@@ -1,14 +1,15 @@
 //! Places in a tree, told by the children beside them, and the steps from one to the next.
 
-ghost use Rattle.std.specs.Prelude.{◌≡◌, ◌<◌, ◌+◌, ◌-◌, ◌↔◌, IsTrue};
+ghost use Rattle.std.specs.Prelude.{◌≡◌, ◌<◌, ◌+◌, ◌-◌, ◌↔◌, IfSome, IsTrue, None};
 ghost use Rattle.dom_model.specs.Contents.{length_of};
+ghost use Rattle.dom_model.specs.Places.{index_of};
 ghost use Rattle.node_tests.specs.BlockPoints as points;
 ghost use Rattle.block_extend.specs.BlockExtend as extend;
 ghost use Rattle.block_extend.specs.Gaps as gaps;
 ghost use Rattle.block_extend.specs.Gaps.{Leads, Stands};
 
 use live_range::Point;
-use node_arena::{NodeRef, Nodes};
+use node_arena::{Content, NodeRef, Nodes};
 use node_tests::{child_at, child_before, ends_before, is_root, starts_after};
 
 /// A place in a node, with the children beside it.
@@ -73,9 +74,28 @@ pub(crate) fn place_before<N: Nodes>(nodes: &N, node: NodeRef) -> Option<Place>
     }
 }
 
-/// The place after a node, in its parent.
-pub(crate) fn place_after<N: Nodes>(nodes: &N, node: NodeRef) -> Option<Place>
-    requires { N.holds nodes.now node }
+// The index of a node: that of a known place, where the node stands after it, or else counted.
+fn index_from<N: Nodes>(nodes: &N, node: NodeRef, known: Option<Place>) -> u32
+    requires held { N.holds nodes.now node }
+    requires known { IfSome known (Stands (N.holds nodes.now) (N.trees nodes.now)) }
+    ensures { result ≡ index_of (N.trees nodes.now) node.label }
+{
+    nodes.valid();
+    if let Some(at) = known {
+        if let Some(child) = at.after {
+            if child.label == node.label {
+                return at.offset;
+            }
+        }
+    }
+    nodes.index(node)
+}
+
+/// The place after a node, in its parent. The children before the node aren't counted, where it
+/// stands after a known place.
+pub(crate) fn place_after<N: Nodes>(nodes: &N, node: NodeRef, known: Option<Place>) -> Option<Place>
+    requires held { N.holds nodes.now node }
+    requires known { IfSome known (Stands (N.holds nodes.now) (N.trees nodes.now)) }
     ensures { Leads (N.holds nodes.now) (N.trees nodes.now) result
         (extend.out_of (N.trees nodes.now) node.label 1) }
 {
@@ -83,7 +103,7 @@ pub(crate) fn place_after<N: Nodes>(nodes: &N, node: NodeRef) -> Option<Place>
     match nodes.parent(node) {
         Some(parent) => Some(Place {
             node: parent,
-            offset: nodes.index(node) + 1,
+            offset: index_from(nodes, node, known) + 1,
             before: Some(node),
             after: nodes.next(node),
         }),
@@ -134,6 +154,19 @@ fn one_forth<N: Nodes>(nodes: &N, at: Place) -> Place
     }
 }
 
+// Whether a place with no child after it stands before the end of its node: only among characters. It
+// counts no children.
+fn is_amid_characters<N: Nodes>(nodes: &N, at: Place) -> bool
+    requires stands { Stands (N.holds nodes.now) (N.trees nodes.now) at }
+    requires none { at.after ≡ None }
+    ensures { IsTrue result ↔ (at.offset < length_of (N.trees nodes.now) at.node.label) }
+{
+    match nodes.content(at.node) {
+        Content::Words(_) | Content::Remark(_) => at.offset < nodes.length(at.node),
+        _ => false,
+    }
+}
+
 // Whether a place stands before the end of its node. It counts no children.
 fn is_before_end<N: Nodes>(nodes: &N, at: Place) -> bool
     requires { Stands (N.holds nodes.now) (N.trees nodes.now) at }
@@ -142,7 +175,7 @@ fn is_before_end<N: Nodes>(nodes: &N, at: Place) -> bool
     nodes.valid();
     match at.after {
         Some(_) => true,
-        None => at.offset < nodes.length(at.node),
+        None => is_amid_characters(nodes, at),
     }
 }
 
@@ -162,15 +195,16 @@ fn back<N: Nodes>(nodes: &N, at: Place) -> Option<Place>
 
 // The place after: at the end of a node, that after the node.
 #[tactic(auto, unfolding(crate::specs::BlockExtend::forth))]
-fn forth<N: Nodes>(nodes: &N, at: Place) -> Option<Place>
-    requires { Stands (N.holds nodes.now) (N.trees nodes.now) at }
+fn forth<N: Nodes>(nodes: &N, at: Place, known: Option<Place>) -> Option<Place>
+    requires stands { Stands (N.holds nodes.now) (N.trees nodes.now) at }
+    requires known { IfSome known (Stands (N.holds nodes.now) (N.trees nodes.now)) }
     ensures { Leads (N.holds nodes.now) (N.trees nodes.now) result
         (extend.forth (N.trees nodes.now) (gaps.point_of at)) }
 {
     if is_before_end(nodes, at) {
         Some(one_forth(nodes, at))
     } else {
-        place_after(nodes, at.node)
+        place_after(nodes, at.node, known)
     }
 }
 
@@ -190,29 +224,32 @@ fn out_before<N: Nodes>(nodes: &N, at: Place) -> Option<Place>
 
 // Out of a node, from its end alone.
 #[tactic(auto, unfolding(crate::specs::BlockExtend::out_after))]
-fn out_after<N: Nodes>(nodes: &N, at: Place) -> Option<Place>
-    requires { Stands (N.holds nodes.now) (N.trees nodes.now) at }
+fn out_after<N: Nodes>(nodes: &N, at: Place, known: Option<Place>) -> Option<Place>
+    requires stands { Stands (N.holds nodes.now) (N.trees nodes.now) at }
+    requires known { IfSome known (Stands (N.holds nodes.now) (N.trees nodes.now)) }
     ensures { Leads (N.holds nodes.now) (N.trees nodes.now) result
         (extend.out_after (N.trees nodes.now) (gaps.point_of at)) }
 {
     if is_before_end(nodes, at) {
         None
     } else {
-        place_after(nodes, at.node)
+        place_after(nodes, at.node, known)
     }
 }
 
-/// A step of a walk.
-pub(crate) fn step<N: Nodes>(nodes: &N, way: Way, at: Place) -> Option<Place>
-    requires { Stands (N.holds nodes.now) (N.trees nodes.now) at }
+/// A step of a walk. A place that is known saves the steps forth and out to count the children before
+/// the one after it.
+pub(crate) fn step<N: Nodes>(nodes: &N, way: Way, at: Place, known: Option<Place>) -> Option<Place>
+    requires stands { Stands (N.holds nodes.now) (N.trees nodes.now) at }
+    requires known { IfSome known (Stands (N.holds nodes.now) (N.trees nodes.now)) }
     ensures { Leads (N.holds nodes.now) (N.trees nodes.now) result
         (extend.step way (N.trees nodes.now) (gaps.point_of at)) }
 {
     match way {
         Way::Back => back(nodes, at),
         Way::OutBefore => out_before(nodes, at),
-        Way::Forth => forth(nodes, at),
-        Way::OutAfter => out_after(nodes, at),
+        Way::Forth => forth(nodes, at, known),
+        Way::OutAfter => out_after(nodes, at, known),
     }
 }
 

@@ -20,6 +20,7 @@ pub mod Rolls
 pub mod Starts
 pub mod Commits
 pub mod Resumes
+pub mod Ends
 pub mod Enters
 pub mod Records
 pub mod Joins

@@ -1,5 +1,5 @@
 -- A move that is made.
-use Rattle.std.proofs.Common.{◌≡◌, ℕ, ◌+◌, ◌<◌, ◌≤◌, ◌^◌, Bool, true, false, true≢false, not, cond, eqb, List, [], ◌∷◌, length, Option, Some, None, IfSome, refl, sym, ap, subst, ◌∙◌, inl, inr, arith}
+use Rattle.std.proofs.Common.{◌≡◌, ◌≢◌, ℕ, ◌+◌, ◌<◌, ◌≤◌, ◌^◌, Bool, true, false, true≢false, not, cond, eqb, List, [], ◌∷◌, length, Option, Some, None, IfSome, refl, sym, ap, subst, ◌∙◌, inl, inr, arith}
 use Rattle.std.specs.Prelude.{◌&&◌, nat_lt, IsNone, IsSome, unwrap_or}
 use Rattle.std.proofs.lemmas.Bool.Decides.{eqb_tells}
 use Rattle.std.proofs.lemmas.List.{append-nil}
@@ -37,12 +37,13 @@ use Rattle.edit_model.specs.Edit.{Move, is_made_edit, change_of as edit_change, 
 use Rattle.edit_model.specs.Confined.{may_move, may_go}
 use Rattle.edit_model.specs.Gives.{label_of}
 use Rattle.edit_model.specs.Valid.{IsForest, IsPlaced}
+use Rattle.edit_model.proofs.Documents.{length_of-parent}
 use Rattle.edit_model.proofs.Fitting.{fits-move}
 use Rattle.edit_model.proofs.Forests.{can_go, forest-unlink, parent_at-unlink}
 use Rattle.edit_model.proofs.Made.{parent_is}
 use Rattle.edit_model.proofs.Tests.{Goes, goes, parent_there}
 use Rattle.edit_parts.proofs.Points.{mapped_same}
-use Rattle.edit_parts.specs.Following.{unset_if_range_changed, IsFrom}
+use Rattle.edit_parts.specs.Following.{unset_if_range_changed, IsFrom, AreUpTo}
 use Rattle.edit_parts.specs.declared.Counts.{Counts}
 use Rattle.edit_doc.specs.declared.Doc.TheInside.{Inside}
 use Rattle.edit_doc.specs.declared.command.Command.{Command}
@@ -59,6 +60,7 @@ use Rattle.edit_doc.proofs.Rests.{arena_forest}
 use Rattle.edit_doc.proofs.HiddenTrees.{lt_true}
 use Rattle.edit_doc.proofs.Placing.{document_seen}
 use Rattle.edit_doc.proofs.Linked.{labels_same, place_held, place_seen}
+use Rattle.edit_doc.proofs.Ends.{end_index, points_up_to}
 use Rattle.edit_doc.proofs.Counted.{unlinked_inside, unlinked_outside}
 use Rattle.edit_doc.proofs.Inserted.{index-link, none_of, more_linked, linked_low, chars_bound, nodes_bound}
 use Rattle.edit_doc.proofs.Raised.{stands_low, moved_depth}
@@ -101,6 +103,10 @@ index_detached : (k : ℕ → Bool) (f : Forest Content) (o n p : ℕ) (b : Opti
 unfolding index_before
 index_detached k f o n p None once up up' here = ap length (unlinked_kids k f o n p once up up' here)
 index_detached k f o n p (Some m) once up up' here = ap (λ xs. place_in xs m) (unlinked_kids k f o n p once up up' here)
+
+none_label : (o : Option NodeRef) → IsNone o → label o ≡ None
+none_label None h = refl
+none_label (Some r) h = absurd (true≢false h)
 
 -- ---- the numbers
 
@@ -349,6 +355,14 @@ module _ (d : Inside) (v : Whole) (is : seen d ≡ v) (law : IsArena d.tree.node
     pub points_fit : (place : Option Point) → IsFrom f d.tree.points n from.label p place → IfSome place (λ at. Fits (range.Move at (record { label = p; offset = index_of arena.trees n })) d.tree.points)
     points_fit None h = tt
     points_fit (Some at) h = subst (λ m. Fits m d.tree.points) (sym (same_move at h.0 h.1)) fit_here
+
+    -- at the end of another parent no point lies past the place
+    pub up_to_end : (place : Option Point) → IsFrom f d.tree.points n from.label p place → IsNone before → IfSome place (λ at. at.label ≢ p → AreUpTo p (index_of arena.trees n) d.tree.points)
+    up_to_end None h ends = tt
+    up_to_end (Some at) h ends = λ off.
+        points_up_to g p (index_of arena.trees n)
+        (length_of-parent g p told.parent ∙ sym (index_here ∙ end_index g from.label n p b ok.valid.forest.distinct up_seen (λ e. off (h.0 ∙ e)) (none_label before ends)))
+        d.tree.points ok.valid.placed
 
     module _ (points : LivePoints) (place : Option Point) (place_is : IsFrom f d.tree.points n from.label p place)
         (moved : IfSome place (λ at. points ≡ mapped (range.Move at (record { label = p; offset = index_of arena.trees n })) d.tree.points)) (none : IsNone place → points ≡ d.tree.points) where

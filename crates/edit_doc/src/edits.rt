@@ -189,7 +189,14 @@ impl Doc {
         self.command.name_place(node, from, next);
         self.command.name_place(node, parent, before);
         let nodes = &self.tree.nodes;
-        adjust_moved(&nodes.arena, &mut self.tree.points, place, parent, node);
+        adjust_moved(
+            &nodes.arena,
+            &mut self.tree.points,
+            place,
+            parent,
+            before,
+            node,
+        );
         self.tree
             .overrides
             .unset_if_range_changed(&nodes.arena, &self.tree.points, watch);

@@ -14,21 +14,26 @@ use html_names::Command;
 use std::alloc::{AllocError, Global};
 use std::marker::Model;
 
-// A setting of each command, in their order.
+// A setting of each command, in their order, and whether one may be set. Mostly none is, and then an
+// edit looks at none.
 #[derive(Drop)]
 pub(crate) struct Overrides {
     list: Vec<Setting>,
+    some: bool,
 }
 
 impl Model for Overrides {
-    ghost use Rattle.std.specs.Prelude.{◌≡◌, List, length};
+    ghost use Rattle.std.specs.Prelude.{◌≡◌, Bool, List, length};
     ghost use Rattle.edit_model.specs.declared.settings.Setting.{Setting};
 
     ghost Value = { List Setting };
 
+    ghost use Rattle.edit_model.specs.Overrides.{no_overrides};
+
     ghost view = { λ o. o.list.items };
 
-    ghost invariant = { λ o. length o.list.items ≡ 32 };
+    ghost invariant = { λ o. (length o.list.items ≡ 32)
+        × (o.some ≡ Bool.false → o.list.items ≡ no_overrides) };
 }
 
 impl Overrides {
@@ -39,6 +44,7 @@ impl Overrides {
     {
         Ok(Overrides {
             list: edit_parts::no_overrides(alloc)?,
+            some: false,
         })
     }
 
@@ -47,6 +53,7 @@ impl Overrides {
     {
         Ok(Overrides {
             list: edit_parts::copy_overrides(alloc, &self.list)?,
+            some: self.some,
         })
     }
 
@@ -55,6 +62,7 @@ impl Overrides {
         ensures { self.new ≡ no_overrides }
     {
         edit_parts::unset_overrides(&mut self.list);
+        self.some = false;
     }
 
     pub(crate) fn get(&self, command: Command) -> &Setting
@@ -68,6 +76,7 @@ impl Overrides {
         ensures { self.new ≡ with_setting self.old command setting }
     {
         self.list[place_of(command)] = setting;
+        self.some = true;
     }
 
     // What to watch until the points stand where a change takes them.
@@ -75,6 +84,9 @@ impl Overrides {
         requires { IfSome points.now.selection (IsPlacedPair arena.now.trees) }
         ensures { Watches arena.now.trees points.now self.now result }
     {
+        if !self.some {
+            return None;
+        }
         watch_range(arena, points, &self.list)
     }
 
@@ -90,6 +102,8 @@ impl Overrides {
             → self.new
             ≡ unset_if_range_changed f before arena.now.trees points.now self.old }
     {
-        unset_overrides_if_range_changed(arena, points, &mut self.list, watch);
+        if self.some {
+            unset_overrides_if_range_changed(arena, points, &mut self.list, watch);
+        }
     }
 }

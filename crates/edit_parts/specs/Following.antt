@@ -1,9 +1,10 @@
 -- What is looked at before an edit, by which the points and the overrides follow it. No public
 -- clause cites this module.
 use Rattle.std.specs.Prelude.{◌≡◌, ◌≢◌, ℕ, ◌+◌, ◌≤◌, Bool, ◌&&◌, ◌||◌, ◌==◌, true, false, List, length, slice_get, take, Option, Some, None, IfSome, if◌then◌else◌}
+use Rattle.std.specs.List.{All}
 use Rattle.std.specs.Option.{option_map}
 use Rattle.dom_model.specs.declared.Content.{Content}
-use Rattle.dom_model.specs.Forest.{Forest, tree_of, preorder}
+use Rattle.dom_model.specs.Forest.{Forest, is_label, tree_of, preorder}
 use Rattle.dom_model.specs.Places.{index_of}
 use Rattle.live_range.specs.declared.places.Pair.{Pair}
 use Rattle.live_range.specs.declared.places.Point.{Point}
@@ -54,16 +55,30 @@ IsFrom f points n from to None =
     (has_label (labels_of points) from ≡ false) × (has_label (labels_of points) to ≡ false)
 IsFrom f points n from to (Some at) = (at.label ≡ from) × (at.offset ≡ index_of f n)
 
--- whether a point stands at a node, or just before or after the child at another place
-abbrev pub is_touched : Point → ℕ → Point → Bool
-is_touched child to p = (p.label == to)
+-- whether a point stands at the node that may be given, or just before or after the child at another
+-- place
+abbrev pub is_touched : Point → Option ℕ → Point → Bool
+is_touched child to p = is_label to p.label
     || ((p.label == child.label) && ((p.offset == child.offset) || (p.offset == child.offset + 1)))
 
-abbrev pub is_pair_touched : Point → ℕ → Pair → Bool
+abbrev pub is_pair_touched : Point → Option ℕ → Pair → Bool
 is_pair_touched child to p = is_touched child to p.anchor || is_touched child to p.focus
 
 -- no kept point stands at either
-pub record AreApart (child : Point) (to : ℕ) (s : LivePoints) : Type 0 where
+pub record AreApart (child : Point) (to : Option ℕ) (s : LivePoints) : Type 0 where
   pub selection : IfSome s.selection (λ p. is_pair_touched child to p ≡ false)
   pub scratch : IfSome s.scratch (λ p. is_pair_touched child to p ≡ false)
   pub marks : (k : ℕ) → IfSome (slice_get s.marks k) (λ m. is_pair_touched child to m.1 ≡ false)
+
+-- a point of a node lies at an index, or before it
+abbrev pub IsUpTo : ℕ → ℕ → Point → Type 0
+IsUpTo node index p = p.label ≡ node → p.offset ≤ index
+
+abbrev pub IsPairUpTo : ℕ → ℕ → Pair → Type 0
+IsPairUpTo node index p = IsUpTo node index p.anchor × IsUpTo node index p.focus
+
+-- each kept point of a node lies at an index, or before it
+pub record AreUpTo (node index : ℕ) (s : LivePoints) : Type 0 where
+  pub selection : IfSome s.selection (IsPairUpTo node index)
+  pub scratch : IfSome s.scratch (IsPairUpTo node index)
+  pub marks : All (λ m. IsPairUpTo node index m.1) s.marks

@@ -1,11 +1,11 @@
 //! How the live points follow an edit, and the document's numbers.
 
-ghost use Rattle.std.specs.Prelude.{◌≡◌, ◌+◌, ◌-◌, ◌<◌, ◌≤◌, ◌^◌, ℕ, [], IsNone, IfSome, false, slice_get, take};
+ghost use Rattle.std.specs.Prelude.{◌≡◌, ◌≢◌, ◌+◌, ◌-◌, ◌<◌, ◌≤◌, ◌^◌, ℕ, [], IsNone, IfSome, false, slice_get, take};
 ghost use Rattle.std.specs.Option.{option_map_or};
 ghost use Rattle.dom_model.specs.declared.Content.{Content};
-ghost use Rattle.dom_model.specs.Forest.{Forest, preorder, tree_of};
+ghost use Rattle.dom_model.specs.Forest.{Forest, is_label, preorder, tree_of};
 ghost use Rattle.dom_model.specs.Places.{index_of};
-ghost use Rattle.edit_parts.specs.Following.{IsRemoval, IsFrom, AreApart, is_touched, is_pair_touched};
+ghost use Rattle.edit_parts.specs.Following.{IsRemoval, IsFrom, AreApart, AreUpTo, is_touched, is_pair_touched};
 ghost use Rattle.live_range.specs.PointsEdit.{Insert, Move, Remove, has_label};
 ghost use Rattle.live_range.specs.LivePoints.{Fits, LivePoints, TellsAlike, labels_of, mapped};
 ghost use Rattle.node_arena.specs.Held.{Holds};
@@ -140,22 +140,31 @@ pub fn moving_from(
     }
 }
 
-// Whether a point stands at a node, or beside the child at another place.
-fn touches(at: Point, child: Point, to: u32) -> bool
+fn is_label(at: Option<u32>, label: u32) -> bool
+    ensures { result ≡ is_label at label }
+{
+    match at {
+        Some(other) => other == label,
+        None => false,
+    }
+}
+
+// Whether a point stands at the node that may be given, or beside the child at another place.
+fn touches(at: Point, child: Point, to: Option<u32>) -> bool
     ensures { result ≡ is_touched child to at }
 {
-    at.label == to
+    is_label(to, at.label)
         || (at.label == child.label
             && (at.offset == child.offset || at.offset as u64 == child.offset as u64 + 1))
 }
 
-fn touches_pair(pair: Pair, child: Point, to: u32) -> bool
+fn touches_pair(pair: Pair, child: Point, to: Option<u32>) -> bool
     ensures { result ≡ is_pair_touched child to pair }
 {
     touches(pair.anchor, child, to) || touches(pair.focus, child, to)
 }
 
-fn touches_some(pair: Option<Pair>, child: Point, to: u32) -> bool
+fn touches_some(pair: Option<Pair>, child: Point, to: Option<u32>) -> bool
     ensures { result ≡ option_map_or (is_pair_touched child to) pair false }
 {
     match pair {
@@ -164,7 +173,7 @@ fn touches_some(pair: Option<Pair>, child: Point, to: u32) -> bool
     }
 }
 
-fn touches_mark(points: &Points, mark: usize, child: Point, to: u32) -> bool
+fn touches_mark(points: &Points, mark: usize, child: Point, to: Option<u32>) -> bool
     ensures { result ≡ option_map_or (λ m. is_pair_touched child to m.1)
         (slice_get points.now.marks mark) false }
 {
@@ -174,7 +183,7 @@ fn touches_mark(points: &Points, mark: usize, child: Point, to: u32) -> bool
     }
 }
 
-fn touches_marks(points: &Points, child: Point, to: u32) -> bool
+fn touches_marks(points: &Points, child: Point, to: Option<u32>) -> bool
     ensures { result ≡ false → (k : ℕ) → IfSome (slice_get points.now.marks k)
         (λ m. is_pair_touched child to m.1 ≡ false) }
 {
@@ -187,8 +196,9 @@ fn touches_marks(points: &Points, child: Point, to: u32) -> bool
     false
 }
 
-// Whether one of the points stands at a node, or beside the child at another place.
-fn touches_any(points: &Points, child: Point, to: u32) -> bool
+// Whether one of the points stands at the node that may be given, or beside the child at another
+// place.
+fn touches_any(points: &Points, child: Point, to: Option<u32>) -> bool
     ensures { result ≡ false → AreApart child to points.now }
 {
     touches_some(points.selection(), child, to)
@@ -203,16 +213,43 @@ fn needs_place(points: &Points, from: Point, to: NodeRef) -> bool
     ensures { result ≡ false → (offset : ℕ) → mapped (Remove [] from.label from.offset) points.now
         ≡ mapped (Move from (record { label = to.label; offset = offset })) points.now }
 {
-    touches_any(points, from, to.label)
+    touches_any(points, from, Some(to.label))
 }
 
-/// The points follow a node that was moved. Its index at the new place is counted only where a
-/// point needs it.
+// The same of a node that was moved to the end of another parent, where no point lies after it.
+#[tactic(auto, using(crate::proofs::Moves::moved_last_alike))]
+fn needs_end(points: &Points, from: Point, to: NodeRef) -> bool
+    requires { from.label ≢ to.label }
+    ensures { result ≡ false → (offset : ℕ) → AreUpTo to.label offset points.now
+        → mapped (Remove [] from.label from.offset) points.now
+        ≡ mapped (Move from (record { label = to.label; offset = offset })) points.now }
+{
+    touches_any(points, from, None)
+}
+
+// Whether a point needs the index at which a node comes to stand, before a child of its new parent
+// or at the end.
+fn needs_index(points: &Points, from: Point, to: NodeRef, before: Option<NodeRef>) -> bool
+    ensures { result ≡ false → (offset : ℕ)
+        → (IsNone before → from.label ≢ to.label → AreUpTo to.label offset points.now)
+        → mapped (Remove [] from.label from.offset) points.now
+        ≡ mapped (Move from (record { label = to.label; offset = offset })) points.now }
+{
+    if before.is_none() && from.label != to.label {
+        needs_end(points, from, to)
+    } else {
+        needs_place(points, from, to)
+    }
+}
+
+/// The points follow a node that was moved before a child of its new parent or to the end. Its
+/// index at the new place is counted only where a point needs it.
 pub fn adjust_moved(
     arena: &Arena,
     points: &mut Points,
     from: Option<Point>,
     parent: NodeRef,
+    before: Option<NodeRef>,
     node: NodeRef,
 )
     requires held { Holds arena.now node }
@@ -220,6 +257,8 @@ pub fn adjust_moved(
       label = parent.label;
       offset = index_of arena.now.trees node.label;
     })) points.old) }
+    requires last { IsNone before → IfSome from (λ at. at.label ≢ parent.label
+        → AreUpTo parent.label (index_of arena.now.trees node.label) points.old) }
     ensures moved { IfSome from (λ at. points.new ≡ mapped (Move at (record {
       label = parent.label;
       offset = index_of arena.now.trees node.label;
@@ -227,7 +266,7 @@ pub fn adjust_moved(
     ensures none { IsNone from → points.new ≡ points.old }
 {
     if let Some(from) = from {
-        if !needs_place(points, from, parent) {
+        if !needs_index(points, from, parent, before) {
             points.removed(&[], from.label, from.offset);
             return;
         }

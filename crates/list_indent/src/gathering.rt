@@ -1,7 +1,7 @@
 //! The items around the active range, and the nodes of the block-extended range that indent and
 //! outdent go over.
 
-ghost use Rattle.std.specs.Prelude.{◌≡◌, ◌++◌, ◌∷◌, [], Some, OnOk, IfOk, not, codes, filter};
+ghost use Rattle.std.specs.Prelude.{◌≡◌, ◌++◌, ◌∷◌, [], Some, OnOk, IfOk, not, codes, filter, true, ◌&&◌, ◌||◌};
 ghost use Rattle.dom_model.specs.Contents.{has_name};
 ghost use Rattle.node_styles.specs.Lineage.{lineage};
 ghost use Rattle.point_order.specs.PointOrder.{is_within};
@@ -9,9 +9,10 @@ ghost use Rattle.edit_model.specs.Gives.{labels_of};
 ghost use Rattle.edit_model.specs.Valid.{IsPlacedPair};
 ghost use Rattle.edit_doc.specs.Held.{Holds, EachHeld};
 ghost use Rattle.list_indent.specs.Commands.{items_over, items_around, items_by, range_items, is_indentable, is_outdentable, has_editable_below};
+ghost use Rattle.list_indent.specs.Sublists.{is_list, is_item, is_in_list};
 
 use crate::lists::{is_in_list, is_item, is_list};
-use block_extend::{Choice, allowed_in_div, has_descendant};
+use block_extend::{Choice, allowed_in_div, begins_with, has_descendant};
 use edit_actions::ends_of;
 use edit_doc::{Doc, NodeRef, Pair};
 use node_tests::{allowed_in_name, is_within};
@@ -158,6 +159,24 @@ pub fn has_editable_below(doc: &Doc, node: NodeRef) -> bool
     has_descendant(doc, node, &Editable)
 }
 
+// Whether the first child of a node is editable, so that an editable node stands below the node.
+#[tactic(auto, unfolding(crate::specs::Commands::has_editable_below))]
+fn begins_editable(doc: &Doc, node: NodeRef) -> bool
+    requires { Holds doc.now node }
+    ensures { result ≡ true → has_editable_below doc.now.state node.label ≡ true }
+{
+    begins_with(doc, node, &Editable)
+}
+
+// A list, or an item of one.
+fn is_list_or_item(doc: &Doc, node: NodeRef) -> bool
+    requires { Holds doc.now node }
+    ensures { result ≡ (is_list doc.now.state node.label
+        || (is_item doc.now.state node.label && is_in_list doc.now.state node.label)) }
+{
+    is_list(doc, node) || (is_item(doc, node) && is_in_list(doc, node))
+}
+
 /// Outdent, step 2: what is gathered.
 #[derive(Clone, Copy)]
 pub(crate) struct Outdentable;
@@ -169,9 +188,9 @@ impl Choice<Doc> for Outdentable {
 
     #[tactic(auto, unfolding(crate::specs::Commands::is_outdentable))]
     fn chooses(&self, doc: &Doc, node: NodeRef) -> bool {
-        doc.is_editable_for(node)
-            && (!has_editable_below(doc, node)
-                || is_list(doc, node)
-                || (is_item(doc, node) && is_in_list(doc, node)))
+        if is_list_or_item(doc, node) {
+            return doc.is_editable_for(node);
+        }
+        !begins_editable(doc, node) && doc.is_editable_for(node) && !has_editable_below(doc, node)
     }
 }

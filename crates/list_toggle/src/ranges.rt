@@ -84,7 +84,7 @@ impl Choice<Doc> for OtherList {
 
     #[tactic(auto, unfolding(crate::specs::Ranges::is_other_list))]
     fn chooses(&self, doc: &Doc, node: NodeRef) -> bool {
-        doc.is_editable_for(node) && is_list_of(doc, !self.ordered, node)
+        is_list_of(doc, !self.ordered, node) && doc.is_editable_for(node)
     }
 }
 

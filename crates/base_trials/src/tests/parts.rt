@@ -198,7 +198,7 @@ fn moves_right(
     }
     let parent = arena.parent(node)?;
     let from = moving_from(arena, points, node, parent, to);
-    adjust_moved(arena, points, None, parent, node);
+    adjust_moved(arena, points, None, parent, None, node);
     if points.selection() == Some(caret(at)) {
         from
     } else {

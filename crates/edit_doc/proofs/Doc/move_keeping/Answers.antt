@@ -12,7 +12,7 @@ use Rattle.edit_doc.specs.Fields.{comes_in}
 use Rattle.edit_doc.specs.Held.{Holds, IfHeld}
 use Rattle.edit_doc.specs.Marks.{place_labels}
 use Rattle.edit_doc.proofs.Edited.{Done}
-use Rattle.edit_doc.proofs.Moving.{not_moved, fits, place_markable, markable_after, nodes_fit, chars_fit, counted_moved, held_here, points_fit, placed, stands, move_done}
+use Rattle.edit_doc.proofs.Moving.{not_moved, fits, place_markable, markable_after, nodes_fit, chars_fit, counted_moved, held_here, points_fit, up_to_end, placed, stands, move_done}
 use Rattle.edit_doc.proofs.Settling.{points_now}
 use Rattle.edit_doc.proofs.SeenNodes.{shows_of, held_seen, parent_seen, finds_parent, finds_next}
 use Rattle.edit_doc.proofs.Doc.move_keeping.Goals as goal
@@ -87,6 +87,9 @@ adjust_moved-requires-clause-held c =
 
 pub adjust_moved-requires-clause-fits : goal.adjust_moved-requires-clause-fits
 adjust_moved-requires-clause-fits c = let a = c.args in points_fit c.self.inside a.self.now c.self.view_is c.valid.ensures c.slotted.ensures c.requires.open c.self.invariant a.node c.in-Some.from a.parent a.before c.requires.node_held c.requires.parent_held c.requires.before_held (up c.self.inside a.node c.in-Some.from c.parent.result c.parent.ensures c.in-Some.is) (sym c.may_go.ensures ∙ c.if-not-may_go.false) c.change.new.self.arena c.in_ok-change.ensures.arena c.moving_from-place.result c.moving_from-place.ensures
+
+pub adjust_moved-requires-clause-last : goal.adjust_moved-requires-clause-last
+adjust_moved-requires-clause-last c = let a = c.args in up_to_end c.self.inside a.self.now c.self.view_is c.valid.ensures c.slotted.ensures c.requires.open c.self.invariant a.node c.in-Some.from a.parent a.before c.requires.node_held c.requires.parent_held c.requires.before_held (up c.self.inside a.node c.in-Some.from c.parent.result c.parent.ensures c.in-Some.is) (sym c.may_go.ensures ∙ c.if-not-may_go.false) c.change.new.self.arena c.in_ok-change.ensures.arena c.moving_from-place.result c.moving_from-place.ensures
 
 pub unset_if_range_changed-requires : goal.unset_if_range_changed-requires
 unset_if_range_changed-requires c =
