@@ -17,6 +17,7 @@ pub mod Hosts
 pub mod Splitting
 pub mod Fronts
 pub mod Cancelling
+pub mod HostParts
 pub mod BelowHost
 pub mod StatelessRuns
 pub mod Resting

@@ -28,7 +28,8 @@ use Rattle.edit_model.proofs.Trees.{none_or_some, tree_of-inside}
 use Rattle.edit_laws.specs.BelowHost.{below}
 use Rattle.edit_laws.specs.Islands.{IsTakenOut, IslandKept}
 use Rattle.edit_laws.specs.Order.{KeepsLeaves, KeepsOrder}
-use Rattle.edit_laws.proofs.BelowHost.{keeps_below, host_stays}
+use Rattle.edit_laws.proofs.BelowHost.{keeps_below}
+use Rattle.edit_laws.proofs.HostParts.{host_stays}
 
 -- ---- what lies outside, and marks
 
