@@ -21,6 +21,7 @@ pub mod HostParts
 pub mod BelowHost
 pub mod StatelessRuns
 pub mod Resting
+pub mod StayingKinds
 pub mod Unwrapping
 pub mod Lines
 pub mod Adopting
