@@ -4,11 +4,13 @@ use Rattle.std.specs.Option.{option_map}
 use Rattle.std.proofs.lemmas.Bool.{cases_Bool, cases_lt}
 use Rattle.dom_model.specs.declared.Content.{Content}
 use Rattle.dom_model.specs.declared.Content.TheVariants.{Document, Element, Words, Remark}
-use Rattle.dom_model.specs.Forest.{Forest, Seen, seek, count_of, tree_of, parent_of, content_of, link, unlink, with_leaf, CanPut}
+use Rattle.dom_model.specs.Forest.{Forest, Seen, seek, count_of, tree_of, parent_of, content_of, link, unlink, with_leaf, CanPut, IsDistinct}
 use Rattle.dom_model.specs.Revised.{revised}
 use Rattle.dom_model.proofs.Kept.{content_of-link, content_of-unlink, content_of-with_leaf_other}
 use Rattle.dom_model.proofs.Links.{found_count}
 use Rattle.dom_model.proofs.Revising.{content_of-revised}
+use Rattle.dom_model.proofs.Stands.{Stands-count, Stands-tree_of, seek_Stands}
+use Rattle.dom_model.proofs.Totals.{total-without}
 use Rattle.edit_model.specs.State.{State}
 use Rattle.edit_model.specs.Edit.{Edit, Insert, Remove, Move, Replace, Set, Unset, is_made_edit, trees_after, changed, with_change, with_replaced, with_set, with_unset}
 use Rattle.edit_model.specs.Action as action
@@ -20,7 +22,6 @@ use Rattle.edit_model.proofs.Commands.{valid_begun}
 use Rattle.edit_model.proofs.Forests.{forest-unlink, can_go, fresh}
 use Rattle.edit_model.proofs.IslandRuns.{trees_made, trees_left}
 use Rattle.edit_model.proofs.OutsideRuns.{trees-extended, trees-selected, trees-grown, trees-sent, trees-scratched}
-use Rattle.edit_model.proofs.Resting.{seek_document}
 use Rattle.edit_model.proofs.Steps.{next_acted}
 use Rattle.edit_model.proofs.TailPlan.{IsCopy}
 use Rattle.edit_model.proofs.TailPossible.{tail_possible}
@@ -148,13 +149,17 @@ kind_along {s = s} l r is low = (has_along l (kind_of s.trees l) r is (low, refl
 
 -- ---- once the loose trees are dropped
 
-kind_document : (f : Forest Content) (next l : ℕ) (k : Kind) → IsForest f next → kind_of (tree_of f 0) l ≡ Some k → kind_of f l ≡ Some k
-kind_document f next l k is e = by_seen (seek None (tree_of f 0) l) refl
-  where
-    by_seen : (o : Option (Seen Content)) → seek None (tree_of f 0) l ≡ o → kind_of f l ≡ Some k
-    by_seen None found = absurd (let t : None ≡ Some k = ap (λ (o : Option (Seen Content)). option_map kind_in (option_map (λ (y : Seen Content). y.content) o)) (sym found) ∙ e in cc)
-    by_seen (Some s) found =
-        ap (λ (o : Option (Seen Content)). option_map kind_in (option_map (λ (y : Seen Content). y.content) o)) (seek_document f next l s is found ∙ sym found) ∙ e
+-- a node of a tree is of its kind in the forest
+pub kind-tree : (f : Forest Content) (n l : ℕ) (k : Kind) → IsDistinct f → kind_of (tree_of f n) l ≡ Some k → kind_of f l ≡ Some k
+kind-tree f n l k once e =
+    let t = Stands-count None (tree_of f n) l (kind_there (tree_of f n) l k e) in
+    let inner : count_of (tree_of f n) l ≤ 1 = omega (arith, once l, total-without (λ m _. cond (eqb m l) 1 0) f n) in
+    let content : content_of f l ≡ Some t.0.content = elim (Stands-tree_of None None f n l t.0 (once n) t.1) [
+      | inl (_, o, there, same) ↦ ap (option_map (λ (x : Seen Content). x.content)) (seek_Stands None f l o (once l) there) ∙ ap (λ (x : Seen Content). Some x.content) (sym same)
+      | inr (_, there) ↦ ap (option_map (λ (x : Seen Content). x.content)) (seek_Stands None f l t.0 (once l) there)
+    ] in
+    let own : kind_of (tree_of f n) l ≡ Some (kind_in t.0.content) = ap (λ (o : Option (Seen Content)). option_map kind_in (option_map (λ (x : Seen Content). x.content) o)) (seek_Stands None (tree_of f n) l t.0 inner t.1) in
+    ap (option_map kind_in) content ∙ (sym own ∙ e)
 
 pub kinds_at_rest : (s t : State) (host : Option ℕ) (keeping : Bool) → IsValid s → Reaches (begun host keeping s) t → SameKinds s.trees (rested t).trees × DrawsKinds s.next (rested t).next s.trees (rested t).trees
 unfolding rested begun
@@ -164,7 +169,7 @@ kinds_at_rest s t host keeping is r = (same, draws)
     at_end = valid_along r (valid_begun host keeping s is)
 
     before : (l : ℕ) (k : Kind) → l < s.next → kind_of (tree_of t.trees 0) l ≡ Some k → kind_of s.trees l ≡ Some k
-    before l k low e = sym (kind_along l r (valid_begun host keeping s is) low) ∙ kind_document t.trees t.next l k at_end.forest e
+    before l k low e = sym (kind_along l r (valid_begun host keeping s is) low) ∙ kind-tree t.trees 0 l k at_end.forest.distinct e
 
     same : SameKinds s.trees (tree_of t.trees 0)
     same l k m first last =
@@ -175,5 +180,5 @@ kinds_at_rest s t host keeping is r = (same, draws)
     draws : DrawsKinds s.next t.next s.trees (tree_of t.trees 0)
     draws l k e = elim (cases_lt l s.next) [
       | inl low ↦ inl (before l k low e)
-      | inr high ↦ inr (high, at_end.forest.below l (kind_there t.trees l k (kind_document t.trees t.next l k at_end.forest e)))
+      | inr high ↦ inr (high, at_end.forest.below l (kind_there t.trees l k (kind-tree t.trees 0 l k at_end.forest.distinct e)))
     ]
