@@ -62,8 +62,8 @@ module _ (f g : Forest Content) (next later : ℕ) (is_f : IsForest f next) (is_
     second = document_text g later is_g alone_g ∙ (told_html h f g (parts_again opens closes h f g is_f.distinct is_g.distinct in_f in_g same) ∙ sym (append_assoc (html_before f h) (html_of (below g h)) (html_after f h)));
   }
 
-  pub html_kept : (host : Option ℕ) → ((h : ℕ) → host ≡ Some h → (0 < count_of f h) × (0 < count_of g h)) → outside_by host g ≡ outside_by host f → KeepsHtmlAround host f g
-  html_kept None there same = ap document_html (sym alone_g ∙ (same ∙ alone_f))
-  html_kept (Some h) there same =
+  pub html_around : (host : Option ℕ) → ((h : ℕ) → host ≡ Some h → (0 < count_of f h) × (0 < count_of g h)) → outside_by host g ≡ outside_by host f → KeepsHtmlAround host f g
+  html_around None there same = ap document_html (sym alone_g ∙ (same ∙ alone_f))
+  html_around (Some h) there same =
       let t = there h refl in
       differs_inside h t.0 t.1 (ap (λ x. hollowed x h) (sym alone_g) ∙ (same ∙ ap (λ x. hollowed x h) alone_f))

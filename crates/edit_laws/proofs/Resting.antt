@@ -33,7 +33,7 @@ use Rattle.edit_laws.proofs.HostParts.{host_stays}
 
 -- ---- what lies outside, and marks
 
-document_again : (f : Forest Content) (next : ℕ) → IsForest f next → tree_of (tree_of f 0) 0 ≡ tree_of f 0
+pub document_again : (f : Forest Content) (next : ℕ) → IsForest f next → tree_of (tree_of f 0) 0 ≡ tree_of f 0
 document_again f next is = let d = document_shape f next is in subst (λ g. tree_of (tree_of g 0) 0 ≡ tree_of g 0) (sym d.3) refl
 
 outside_again : (host : Option ℕ) (f : Forest Content) (next : ℕ) → IsForest f next → outside_by host (tree_of f 0) ≡ outside_by host f
