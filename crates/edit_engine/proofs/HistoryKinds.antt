@@ -118,7 +118,7 @@ have_one_kind v (f, us, rs, needed) = (
   (
     subst (AgreesWith (kind_of f)) needed.document (document_agrees f needed.forest),
     each_join (AgreesWith (kind_of f)) (documents_in v.editing.history.undo) (documents_in v.editing.history.redo) (back_agree f us v.editing.history.undo needed.forest needed.undo)
-    (forth_agree f rs v.editing.history.redo needed.forest needed.redo),
+        (forth_agree f rs v.editing.history.redo needed.forest needed.redo),
   ),
 )
 

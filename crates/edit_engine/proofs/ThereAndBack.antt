@@ -86,6 +86,6 @@ undos_come_back v (f, xs, ys, needed) (suc n) some =
       document = ap (λ (s : State). s.trees) k.1 ∙ (last_document f xs e.history.undo t.0 t.1 t.2 needed.undo ∙ needed.document);
       history = history_back (suc n) e some;
       points = λ left. (
-        let own = left_points e.history.undo e.state.points t.0 t.1 t.2 left in
-        (ap (λ (s : State). s.points.selection) k.1 ∙ sym own.0, ap (λ (s : State). s.points.marks) k.1 ∙ sym own.1));
+          let own = left_points e.history.undo e.state.points t.0 t.1 t.2 left in
+          (ap (λ (s : State). s.points.selection) k.1 ∙ sym own.0, ap (λ (s : State). s.points.marks) k.1 ∙ sym own.1));
     }
