@@ -8,20 +8,26 @@ use Rattle.html_names.specs.Commands.{command_named}
 use Rattle.html_names.specs.declared.commands.Command.{Command}
 use Rattle.dom_model.specs.Change.{Remove}
 use Rattle.dom_model.specs.Document.{page_depth}
-use Rattle.dom_model.specs.Forest.{tree_of}
+use Rattle.dom_model.specs.Forest.{count_of, tree_of}
 use Rattle.live_range.specs.declared.places.Pair.{Pair}
 use Rattle.edit_model.specs.State.{State}
 use Rattle.edit_model.specs.History.{Entry, History, begun, rested, entry_of, with_entry, joined, joined_in, recorded, view_of, at_view, undone_state, undone_state_by}
 use Rattle.edit_model.specs.Laws.{KeepsMark}
 use Rattle.edit_model.specs.Valid.{IsValid}
-use Rattle.edit_model.specs.Outside.{outside_by, is_island}
+use Rattle.edit_model.specs.Outside.{hollowed, outside_by, is_island}
 use Rattle.edit_model.specs.Run.{Reaches, Run, final}
 use Rattle.edit_model.proofs.Commands.{valid_begun}
+use Rattle.edit_model.proofs.Hollow.{hollowed_le}
+use Rattle.edit_model.proofs.Resting.{valid_rested}
+use Rattle.edit_model.proofs.Steps.{next_along}
+use Rattle.edit_model.proofs.ValidRuns.{valid_along}
 use Rattle.edit_laws.specs.BelowHost.{below}
 use Rattle.edit_laws.specs.Islands.{StaysBelow, IsTakenOut, IslandKept}
 use Rattle.edit_laws.specs.Order.{KeepsLeaves, KeepsOrder}
 use Rattle.edit_laws.specs.OrderPreserving.{OrderPreserving}
-use Rattle.edit_laws.proofs.Resting.{island_inside, outside_at_rest, marks_at_rest, islands_at_rest, order_at_rest}
+use Rattle.edit_laws.proofs.HostParts.{host_stays}
+use Rattle.edit_laws.proofs.Resting.{document_again, host_there, island_inside, outside_at_rest, marks_at_rest, islands_at_rest, order_at_rest}
+use Rattle.edit_laws.proofs.StayingKinds.{kinds_at_rest}
 use Rattle.edit_laws.proofs.Subsequences.{keeps_refl}
 use Rattle.edit_actions.specs.ActiveRange.{affected_host}
 use Rattle.edit_doc.specs.Whole.{Whole, IsDoc}
@@ -30,11 +36,13 @@ use Rattle.edit_engine.specs.declared.answers.Answer.TheVariants.{Yes, No}
 use Rattle.edit_engine.specs.declared.answers.ExecFault.{ExecFault}
 use Rattle.edit_engine.specs.declared.answers.ExecFault.TheVariants as fault
 use Rattle.edit_engine.specs.Commands.{row_of, types_text, action_of, is_enabled}
-use Rattle.edit_engine.specs.Confinement.{KeepsOutside, KeepsMarks, HasEntry, HasJoined, IsGone, KeepsIslands, KeepsCharacters, IsSeenAs, joins_last, GivesBack}
+use Rattle.edit_engine.specs.Confinement.{KeepsOutside, KeepsHtml, KeepsMarks, HasEntry, HasJoined, IsGone, KeepsIslands, KeepsCharacters, IsSeenAs, joins_last, GivesBack}
 use Rattle.edit_engine.specs.Editing.{Editing, IsJoinable, IsResting, undone}
+use Rattle.edit_engine.specs.Labels.{KeepsLabels, DrawsLabels}
 use Rattle.edit_engine.specs.Execution.{Refused, Deep, Full, Acted, depth_limit, began, ran, answered, joins, after_run, run_outcome, command_outcome, outcome, Tells}
 use Rattle.edit_engine.proofs.AffectedHosts.{host_is_host}
 use Rattle.edit_engine.proofs.Fitness.{fit}
+use Rattle.edit_engine.proofs.HtmlParts.{html_around}
 use Rattle.edit_engine.proofs.Outcomes.{shown}
 
 -- ---- what an answer tells
@@ -98,6 +106,12 @@ same_marks : (host : Option ℕ) (s : State) (ms : List (List ℕ × Pair)) → 
 same_marks host s [] = tt
 same_marks host s (m ∷ ms) = ((refl, λ _ _. refl), same_marks host s ms)
 
+same_labels : (e : Editing) → KeepsLabels e e × DrawsLabels e e
+same_labels e = (
+  record { kinds = λ l k m first last. (let same : Some k ≡ Some m = sym first ∙ last in cc); next = omega arith },
+  λ l k there. inl there,
+)
+
 module _ (old new : Editing) (name v : List ℕ) (stands : Standing old) where
   law : IsValid old.state
   law = stands.valid
@@ -121,6 +135,45 @@ module _ (old new : Editing) (name v : List ℕ) (stands : Standing old) where
       let m = action_of run.command v in
       subst (λ (e : Editing). KeepsMarks old e) run.is
       (marks_at_rest old.state (ran old.state k m) (affected_host old.state) k law (reaches m (began old.state k)))
+
+  -- ---- labels
+
+  pub labels_kept : (new ≡ old) ⊎ IsRun old new name v → KeepsLabels old new × DrawsLabels old new
+  unfolding begun rested
+  labels_kept (inl same) = subst (λ (e : Editing). KeepsLabels old e × DrawsLabels old e) (sym same) (same_labels old)
+  labels_kept (inr run) =
+      let k = (row_of run.command).keeping in
+      let m = action_of run.command v in
+      let r = reaches m (began old.state k) in
+      let kinds = kinds_at_rest old.state (ran old.state k m) (affected_host old.state) k law r in
+      subst (λ (e : Editing). KeepsLabels old e × DrawsLabels old e) run.is (record { kinds = kinds.0; next = next_along r }, kinds.1)
+
+  -- ---- the HTML around the host
+
+  -- the new document is one that stands alone
+  new_stands : (new ≡ old) ⊎ IsRun old new name v → IsValid new.state × (tree_of new.state.trees 0 ≡ new.state.trees)
+  unfolding rested
+  new_stands (inl same) = subst (λ (e : Editing). IsValid e.state × (tree_of e.state.trees 0 ≡ e.state.trees)) (sym same) (law, whole)
+  new_stands (inr run) =
+      let k = (row_of run.command).keeping in
+      let t = ran old.state k (action_of run.command v) in
+      let valid = valid_along (reaches (action_of run.command v) (began old.state k)) (valid_begun (affected_host old.state) k old.state law) in
+      subst (λ (e : Editing). IsValid e.state × (tree_of e.state.trees 0 ≡ e.state.trees)) run.is (valid_rested t valid, document_again t.trees t.next valid.forest)
+
+  pub html_kept : (new ≡ old) ⊎ IsRun old new name v → KeepsHtml old new
+  html_kept k =
+      let there = new_stands k in
+      let outside = outside_kept k in
+      html_around old.state.trees new.state.trees old.state.next new.state.next law.forest there.0.forest whole there.1 (affected_host old.state) (λ h is. in_both h is there.1 outside) outside
+    where
+      in_both : (h : ℕ) → affected_host old.state ≡ Some h → tree_of new.state.trees 0 ≡ new.state.trees → KeepsOutside old new → (0 < count_of old.state.trees h) × (0 < count_of new.state.trees h)
+      in_both h is alone outside =
+          let first = host_there old.state.trees h (host_is_host old.state law.forest.distinct h is) in
+          let inner : 0 < count_of (tree_of old.state.trees 0) h = subst (λ g. 0 < count_of g h) (sym whole) first in
+          let same : hollowed (tree_of new.state.trees 0) h ≡ hollowed (tree_of old.state.trees 0) h = subst (λ o. outside_by o new.state.trees ≡ outside_by o old.state.trees) is outside in
+          let still : 0 < count_of (hollowed (tree_of new.state.trees 0) h) h = subst (λ g. 0 < count_of g h) (sym same) (host_stays h (tree_of old.state.trees 0) inner) in
+          let last : 0 < count_of (tree_of new.state.trees 0) h = omega (arith, still, hollowed_le (tree_of new.state.trees 0) h h) in
+          (first, subst (λ g. 0 < count_of g h) alone last)
 
   -- ---- islands
 

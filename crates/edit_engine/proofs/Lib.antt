@@ -9,7 +9,10 @@ pub mod Seeing
 pub mod Typing
 pub mod AffectedHosts
 pub mod Fitness
+pub mod HtmlParts
 pub mod Confining
+pub mod HistoryKinds
+pub mod ThereAndBack
 pub mod ObjectsTaken
 pub mod ReplayedSteps
 pub mod ReplayedEntries

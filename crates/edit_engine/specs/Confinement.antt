@@ -16,6 +16,7 @@ use Rattle.edit_laws.specs.Order.{KeepsLeaves}
 use Rattle.edit_engine.specs.Commands.{row_of}
 use Rattle.edit_engine.specs.Editing.{Editing, undone}
 use Rattle.edit_engine.specs.Execution.{joins}
+use Rattle.edit_engine.specs.HtmlAround.{KeepsHtmlAround}
 
 -- the document without the children of the affected host is as before; without an affected host all
 -- of it is
@@ -23,6 +24,11 @@ abbrev pub KeepsOutside : Editing → Editing → Type 0
 KeepsOutside old new =
     outside_by (affected_host old.state) new.state.trees
     ≡ outside_by (affected_host old.state) old.state.trees
+
+-- of the HTML of the document only that of the children of the affected host may change
+abbrev pub KeepsHtml : Editing → Editing → Type 0
+KeepsHtml old new =
+    KeepsHtmlAround (affected_host old.state) old.state.trees new.state.trees
 
 -- the marks keep their names and their order, and one whose points both stand apart from the host
 -- its place

@@ -10,6 +10,9 @@ pub mod Views
 pub mod Logs
 pub mod Faults
 pub mod Running
+pub mod Labels
+pub mod HtmlAround
+pub mod ThereAndBack
 pub mod Confinement
 pub mod Refusals
 pub mod WorkedIslands

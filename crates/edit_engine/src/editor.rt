@@ -9,13 +9,15 @@ ghost use Rattle.edit_doc.specs.Whole.{HasNoLoose, IsClosed, first_edits};
 ghost use Rattle.command_gate.specs.Denied.{is_denied};
 ghost use Rattle.node_paths.specs.Paths.{label_at};
 ghost use Rattle.edit_engine.specs.Commands.{action_of};
-ghost use Rattle.edit_engine.specs.Confinement.{KeepsOutside, KeepsMarks, KeepsIslands, KeepsCharacters, GivesBack};
+ghost use Rattle.edit_engine.specs.Confinement.{KeepsOutside, KeepsHtml, KeepsMarks, KeepsIslands, KeepsCharacters, GivesBack};
 ghost use Rattle.edit_engine.specs.Editing.{EditorValue, IsJoinable, document, new_editing, undone, redone};
 ghost use Rattle.edit_engine.specs.Execution.{gated_outcome, outcome, command_outcome, run_outcome, Tells};
+ghost use Rattle.edit_engine.specs.Labels.{KeepsLabels, DrawsLabels, HaveOneKind};
 ghost use Rattle.edit_engine.specs.Logs.{log_text};
 ghost use Rattle.edit_engine.specs.Places.{pair_at, placed_pair, selecting, unselecting, marking, unmarking, IsCrowded};
 ghost use Rattle.edit_engine.specs.Queries.{reply_of};
 ghost use Rattle.edit_engine.specs.Replaying.{LogReplays};
+ghost use Rattle.edit_engine.specs.ThereAndBack.{UndosComeBack};
 ghost use Rattle.edit_engine.specs.Views.{view_text};
 
 use crate::actions::{joins, run_command, types_on};
@@ -87,6 +89,9 @@ impl Editor {
         ensures tells { Tells result self.old.editing self.new.editing
             (outcome self.old.editing name.now value.now) }
         ensures confined { KeepsOutside self.old.editing self.new.editing }
+        ensures html { KeepsHtml self.old.editing self.new.editing }
+        ensures labels { KeepsLabels self.old.editing self.new.editing }
+        ensures drawn { DrawsLabels self.old.editing self.new.editing }
         ensures marks { KeepsMarks self.old.editing self.new.editing }
         ensures islands { KeepsIslands self.old.editing self.new.editing }
         ensures characters { KeepsCharacters name.now self.old.editing self.new.editing }
@@ -121,6 +126,9 @@ impl Editor {
         ensures tells { Tells result self.old.editing self.new.editing
             (gated_outcome gate.now self.old.editing name.now value.now) }
         ensures confined { KeepsOutside self.old.editing self.new.editing }
+        ensures html { KeepsHtml self.old.editing self.new.editing }
+        ensures labels { KeepsLabels self.old.editing self.new.editing }
+        ensures drawn { DrawsLabels self.old.editing self.new.editing }
         ensures marks { KeepsMarks self.old.editing self.new.editing }
         ensures islands { KeepsIslands self.old.editing self.new.editing }
         ensures characters { KeepsCharacters name.now self.old.editing self.new.editing }
@@ -301,9 +309,11 @@ impl Editor {
     pub fn undo<L: Ledger>(&mut self, steps: &mut Steps<L>) -> bool
         ensures answer { IsTrue result ↔ (0 < length self.old.editing.history.undo) }
         ensures undone { self.new.editing ≡ undone self.old.editing }
+        ensures labels { KeepsLabels self.old.editing self.new.editing }
         ensures needed { HoldsOnlyNeeded (document self.new) }
         ensures count { steps.new ≡ steps.old + first_edits self.old.editing.history.undo }
     {
+        self.labels_last();
         let taken = self.doc.undo(steps);
         self.typing &= !taken;
         self.kept_nodes();
@@ -314,9 +324,11 @@ impl Editor {
     pub fn redo<L: Ledger>(&mut self, steps: &mut Steps<L>) -> bool
         ensures answer { IsTrue result ↔ (0 < length self.old.editing.history.redo) }
         ensures redone { self.new.editing ≡ redone self.old.editing }
+        ensures labels { KeepsLabels self.old.editing self.new.editing }
         ensures needed { HoldsOnlyNeeded (document self.new) }
         ensures count { steps.new ≡ steps.old + first_edits self.old.editing.history.redo }
     {
+        self.labels_last();
         let taken = self.doc.redo(steps);
         self.typing &= !taken;
         self.kept_nodes();
@@ -366,6 +378,23 @@ impl Editor {
         ensures { LogReplays self.now.editing }
     {
         self.doc.led_onward();
+    }
+
+    /// How undo and redo go together, for proofs: after some undos, each of which takes an entry,
+    /// and as many redos the document and the history are as before, and so are the selection and
+    /// the marks where none was moved since the last command. It does nothing.
+    pub fn undos_come_back(&self)
+        ensures { UndosComeBack self.now.editing }
+    {
+        self.kept_nodes();
+    }
+
+    /// What a label tells, for proofs: it stands for nodes of one kind, and for elements of one
+    /// name, in all documents that undo and redo lead to. It does nothing.
+    pub fn labels_last(&self)
+        ensures { HaveOneKind self.now.editing }
+    {
+        self.kept_nodes();
     }
 
     /// The label of the node at a path: the index of a child in each node on the way from the

@@ -3,6 +3,7 @@
 ghost use Rattle.std.specs.Prelude.{◌≡◌, ◌↔◌, ◌<◌, IsTrue, length};
 ghost use Rattle.edit_doc.specs.Kept.{HoldsOnlyNeeded};
 ghost use Rattle.edit_engine.specs.Editing.{document};
+ghost use Rattle.edit_engine.specs.Labels.{KeepsLabels};
 ghost use Rattle.edit_engine.specs.Turning.{entries_of, turned_by};
 
 use crate::editor::Editor;
@@ -26,6 +27,7 @@ impl Editor {
         requires some { 0 < blank.parts }
         ensures answer { IsTrue result ↔ (0 < length (entries_of turn self.old.editing.history)) }
         ensures turned { self.new.editing ≡ turned_by turn self.old.editing }
+        ensures labels { KeepsLabels self.old.editing self.new.editing }
         ensures needed { HoldsOnlyNeeded (document self.new) }
     {
         let mut steps = Steps::<L>::open(blank);
@@ -40,6 +42,7 @@ impl Editor {
     pub fn turn(&mut self, turn: Turn) -> bool
         ensures answer { IsTrue result ↔ (0 < length (entries_of turn self.old.editing.history)) }
         ensures turned { self.new.editing ≡ turned_by turn self.old.editing }
+        ensures labels { KeepsLabels self.old.editing self.new.editing }
         ensures needed { HoldsOnlyNeeded (document self.new) }
     {
         self.turn_uncounted::<Brand>(turn, Blank::new(1))

@@ -17,9 +17,11 @@ pub mod Hosts
 pub mod Splitting
 pub mod Fronts
 pub mod Cancelling
+pub mod HostParts
 pub mod BelowHost
 pub mod StatelessRuns
 pub mod Resting
+pub mod StayingKinds
 pub mod Unwrapping
 pub mod Lines
 pub mod Adopting

@@ -28,11 +28,12 @@ use Rattle.edit_model.proofs.Trees.{none_or_some, tree_of-inside}
 use Rattle.edit_laws.specs.BelowHost.{below}
 use Rattle.edit_laws.specs.Islands.{IsTakenOut, IslandKept}
 use Rattle.edit_laws.specs.Order.{KeepsLeaves, KeepsOrder}
-use Rattle.edit_laws.proofs.BelowHost.{keeps_below, host_stays}
+use Rattle.edit_laws.proofs.BelowHost.{keeps_below}
+use Rattle.edit_laws.proofs.HostParts.{host_stays}
 
 -- ---- what lies outside, and marks
 
-document_again : (f : Forest Content) (next : ℕ) → IsForest f next → tree_of (tree_of f 0) 0 ≡ tree_of f 0
+pub document_again : (f : Forest Content) (next : ℕ) → IsForest f next → tree_of (tree_of f 0) 0 ≡ tree_of f 0
 document_again f next is = let d = document_shape f next is in subst (λ g. tree_of (tree_of g 0) 0 ≡ tree_of g 0) (sym d.3) refl
 
 outside_again : (host : Option ℕ) (f : Forest Content) (next : ℕ) → IsForest f next → outside_by host (tree_of f 0) ≡ outside_by host f

@@ -12,6 +12,7 @@ use Rattle.edit_model.specs.Outside.{outside_by, is_island}
 use Rattle.edit_model.specs.Run.{Reaches}
 use Rattle.edit_laws.specs.BelowHost.{below}
 use Rattle.edit_laws.specs.Islands.{IslandKept}
+use Rattle.edit_laws.specs.Kinds.{SameKinds, DrawsKinds}
 use Rattle.edit_laws.specs.Order.{KeepsLeaves, KeepsOrder}
 
 -- what lies outside the host stays
@@ -42,3 +43,9 @@ OrderStays =
     → is_host s.trees h ≡ true
     → Reaches (begun (Some h) keeping s) t → KeepsOrder s t
     → KeepsLeaves (below s.trees h) (below (rested t).trees h)
+
+-- a node that stays keeps its kind, and every other one has a label that the command drew
+abbrev pub KindsStay : Type 0
+KindsStay =
+    (s t : State) (host : Option ℕ) (keeping : Bool) → IsValid s → Reaches (begun host keeping s) t
+    → SameKinds s.trees (rested t).trees × DrawsKinds s.next (rested t).next s.trees (rested t).trees

@@ -7,4 +7,5 @@ pub mod BelowHost
 pub mod Stateless
 pub mod StatelessLaws
 pub mod Islands
+pub mod Kinds
 pub mod CommandsAtRest

@@ -1,7 +1,7 @@
 //! The laws of commands, seen from outside commands, each the contract of a function that does
 //! nothing.
 
-ghost use Rattle.edit_laws.specs.CommandsAtRest.{OutsideStays, MarksStay, IslandsStay, OrderStays};
+ghost use Rattle.edit_laws.specs.CommandsAtRest.{OutsideStays, MarksStay, IslandsStay, OrderStays, KindsStay};
 
 /// What lies outside the host stays.
 pub fn outside_stays_at_rest()
@@ -22,4 +22,10 @@ pub fn islands_stay_at_rest()
 /// Where the order of the document is kept, that of what is below the host is.
 pub fn order_stays_at_rest()
     ensures { OrderStays }
+{}
+
+/// A node that stays keeps its kind, and an element its name. Every other node of the document has
+/// a label that the command drew.
+pub fn kinds_stay_at_rest()
+    ensures { KindsStay }
 {}

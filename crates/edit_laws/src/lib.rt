@@ -11,7 +11,8 @@ mod moves;
 mod stateless;
 
 pub use commands::{
-    islands_stay_at_rest, marks_stay_at_rest, order_stays_at_rest, outside_stays_at_rest,
+    islands_stay_at_rest, kinds_stay_at_rest, marks_stay_at_rest, order_stays_at_rest,
+    outside_stays_at_rest,
 };
 pub use compositions::{split_texts_keep, tag_names_keep, unwraps_keep};
 pub use laws::{
