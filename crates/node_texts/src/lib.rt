@@ -1,0 +1,12 @@
+//! What is written of nodes: the path to a node, its HTML and its plain text, and where characters
+//! occur in it.
+#![tactic(auto)]
+
+mod html;
+mod occurrences;
+mod walk;
+mod ways;
+
+pub use html::node_html;
+pub use occurrences::find;
+pub use ways::path_of;
