@@ -23,7 +23,7 @@ impl<'a> Model for Finder<'a> {
 
     ghost Value = { List ℕ × List Point };
 
-    ghost view = { λ finder. (finder.wanted, finder.points.items) };
+    ghost view = { λ finder. (finder.wanted.now, finder.points.items) };
 }
 
 impl<'a> Visitor for Finder<'a> {
