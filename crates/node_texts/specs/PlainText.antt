@@ -45,5 +45,5 @@ unfoldable pub text_of : Forest Content → List ℕ
 text_of f = (walked text_entered text_left f ([], false)).0
 
 -- that of a node with all that stands below it
-unfoldable pub node_text : Forest Content → ℕ → List ℕ
-node_text f l = text_of (tree_of f l)
+unfoldable pub plain_text : Forest Content → ℕ → List ℕ
+plain_text f l = text_of (tree_of f l)

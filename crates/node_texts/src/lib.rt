@@ -4,9 +4,11 @@
 
 mod html;
 mod occurrences;
+mod plain;
 mod walk;
 mod ways;
 
 pub use html::node_html;
 pub use occurrences::find;
+pub use plain::plain_text;
 pub use ways::path_of;
