@@ -19,7 +19,8 @@
  * BUFFERS. A call that gives a text takes a buffer with its capacity, and writes the text's
  * length to *length. Where the text is longer than the buffer, the status is HEDIT_TOO_SMALL, the
  * buffer is as before and nothing is lost: call again with *length bytes. What stands behind the
- * text in a larger buffer is as before.
+ * text in a larger buffer is as before. A call that gives a path or points does the same, and
+ * counts them, not bytes.
  *
  * ALL OR NOTHING. After any status but HEDIT_DONE and HEDIT_NO the editor is as before the call
  * (hedit_open has closed it).
@@ -249,6 +250,11 @@ uint32_t hedit_node(hedit_editor *editor, uint32_t label, hedit_node_facts *fact
 uint32_t hedit_label_at(hedit_editor *editor, const uint32_t *path, size_t path_length,
                         uint32_t *label);
 
+/* Gives the path of the node of a label, into an array for `capacity` indexes; *length is how many
+ * it has. HEDIT_DONE, HEDIT_BAD_PLACE, HEDIT_TOO_SMALL, HEDIT_MEMORY, HEDIT_CLOSED. */
+uint32_t hedit_path_of(hedit_editor *editor, uint32_t label, uint32_t *path, size_t capacity,
+                       size_t *length);
+
 /* Give the name of an element, and the characters of a text or a comment; the text is empty for a
  * node of another kind. HEDIT_DONE, HEDIT_BAD_PLACE, HEDIT_TOO_SMALL, HEDIT_MEMORY (of the
  * characters alone), HEDIT_CLOSED. */
@@ -264,6 +270,30 @@ uint32_t hedit_attribute_name(hedit_editor *editor, uint32_t label, size_t place
                               size_t capacity, size_t *length);
 uint32_t hedit_attribute_value(hedit_editor *editor, uint32_t label, size_t place,
                                uint8_t *buffer, size_t capacity, size_t *length);
+
+/* Give the HTML and the plain text of a node with all that stands below it. The HTML of the document
+ * is that of its children. The plain text has the characters of the texts and a line feed for each
+ * br, in tree order; where a block begins or ends between two of these, a line feed comes between
+ * them, unless the first one is a line feed. HEDIT_DONE, HEDIT_BAD_PLACE, HEDIT_TOO_SMALL,
+ * HEDIT_MEMORY, HEDIT_CLOSED. */
+uint32_t hedit_node_html(hedit_editor *editor, uint32_t label, uint8_t *buffer, size_t capacity,
+                         size_t *length);
+uint32_t hedit_node_text(hedit_editor *editor, uint32_t label, uint8_t *buffer, size_t capacity,
+                         size_t *length);
+
+/* A point: the label of a node, and an offset in it. */
+typedef struct hedit_point {
+    uint32_t label;
+    uint32_t offset;
+} hedit_point;
+
+/* Gives the points at which a text occurs in the texts of a node and of all that stands below it,
+ * into an array for `capacity` points; *count is how many there are. They come in tree order, from
+ * the first on, and none overlaps the one before. Each occurrence stands in one text, and has the
+ * very characters: nothing is folded. The empty text occurs nowhere. HEDIT_DONE, HEDIT_BAD_PLACE,
+ * HEDIT_TOO_SMALL, HEDIT_MEMORY, HEDIT_BAD_ARGUMENT, HEDIT_CLOSED. */
+uint32_t hedit_find(hedit_editor *editor, uint32_t label, const uint8_t *text, size_t text_length,
+                    hedit_point *points, size_t capacity, size_t *count);
 
 /* The points of a selection: labels, and offsets in these nodes. */
 typedef struct hedit_selection_facts {

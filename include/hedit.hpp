@@ -274,6 +274,15 @@ class Editor {
         return label;
     }
 
+    /* The path of the node of a label. */
+    std::vector<std::uint32_t> path_of(Label label) {
+        return read_items<std::uint32_t>(
+            [&](std::uint32_t *path, std::size_t capacity, std::size_t *length) {
+                return hedit_path_of(&handle_, label, path, capacity, length);
+            },
+            32);
+    }
+
     /* What the node of a label is. */
     Node node(Label label) {
         hedit_node_facts facts = {};
@@ -316,6 +325,44 @@ class Editor {
                    },
                    1024)
             .value();
+    }
+
+    /* The HTML of a node with all that stands below it; that of the document is the HTML of its
+     * children. */
+    std::string node_html(Label label) {
+        return read_text(
+                   [&](std::uint8_t *buffer, std::size_t capacity, std::size_t *length) {
+                       return hedit_node_html(&handle_, label, buffer, capacity, length);
+                   },
+                   4096)
+            .value();
+    }
+
+    /* The plain text of a node with all that stands below it. */
+    std::string node_text(Label label) {
+        return read_text(
+                   [&](std::uint8_t *buffer, std::size_t capacity, std::size_t *length) {
+                       return hedit_node_text(&handle_, label, buffer, capacity, length);
+                   },
+                   4096)
+            .value();
+    }
+
+    /* The points at which a text occurs in the texts of a node and of all that stands below it, in
+     * tree order, none overlapping. */
+    std::vector<Point> find(std::string_view text, Label label = 0) {
+        std::vector<hedit_point> found = read_items<hedit_point>(
+            [&](hedit_point *points, std::size_t capacity, std::size_t *count) {
+                return hedit_find(&handle_, label, bytes(text), text.size(), points, capacity,
+                                  count);
+            },
+            64);
+        std::vector<Point> points;
+        points.reserve(found.size());
+        for (const hedit_point &point : found) {
+            points.push_back({point.label, point.offset});
+        }
+        return points;
     }
 
     /* The attributes of a node, in their order. */
@@ -379,6 +426,22 @@ class Editor {
                 return text;
             }
             capacity = length;
+        }
+    }
+
+    /* The items of a call that takes a buffer for so many. */
+    template <typename Item, typename Call>
+    static std::vector<Item> read_items(Call call, std::size_t capacity) {
+        for (;;) {
+            std::vector<Item> items(capacity);
+            std::size_t count = 0;
+            std::uint32_t status = call(items.data(), capacity, &count);
+            if (status != HEDIT_TOO_SMALL) {
+                answer(status);
+                items.resize(count);
+                return items;
+            }
+            capacity = count;
         }
     }
 

@@ -205,13 +205,15 @@ static void points(void) {
 }
 
 /* The texts that a node has. */
-enum text { NAME, VALUE, ATTRIBUTE_NAME, ATTRIBUTE_VALUE };
+enum text { NAME, VALUE, HTML, PLAIN, ATTRIBUTE_NAME, ATTRIBUTE_VALUE };
 
 static uint32_t text_of(hedit_editor *editor, enum text text, uint32_t label, size_t place,
                         uint8_t *buffer, size_t capacity, size_t *length) {
     switch (text) {
     case NAME: return hedit_node_name(editor, label, buffer, capacity, length);
     case VALUE: return hedit_node_value(editor, label, buffer, capacity, length);
+    case HTML: return hedit_node_html(editor, label, buffer, capacity, length);
+    case PLAIN: return hedit_node_text(editor, label, buffer, capacity, length);
     case ATTRIBUTE_NAME:
         return hedit_attribute_name(editor, label, place, buffer, capacity, length);
     default: return hedit_attribute_value(editor, label, place, buffer, capacity, length);
@@ -252,6 +254,9 @@ static void texts(void) {
     CHECK(has(&editor, NAME, text, 0, "") && has(&editor, VALUE, text, 0, "\xc3\xa9"));
     CHECK(has(&editor, NAME, comment, 0, "") && has(&editor, VALUE, comment, 0, "n"));
     CHECK(has(&editor, NAME, 0, 0, "") && has(&editor, VALUE, 0, 0, ""));
+    CHECK(has(&editor, HTML, comment, 0, "<!--n-->") && has(&editor, PLAIN, comment, 0, ""));
+    CHECK(has(&editor, HTML, text, 0, "\xc3\xa9") && has(&editor, PLAIN, i, 0, "\xc3\xa9"));
+    CHECK(has(&editor, PLAIN, 0, 0, "\xc3\xa9" "b"));
     CHECK(has(&editor, ATTRIBUTE_NAME, i, 0, "class"));
     CHECK(has(&editor, ATTRIBUTE_VALUE, i, 0, "x&y"));
     CHECK(has(&editor, ATTRIBUTE_NAME, i, 1, "lang") && has(&editor, ATTRIBUTE_VALUE, i, 1, ""));
@@ -297,6 +302,45 @@ static int is_node(hedit_editor *editor, uint32_t label, uint32_t kind, uint32_t
            facts.length == length;
 }
 
+/* The paths of nodes, in just as much room as they need, and in less. */
+static void paths(hedit_editor *editor) {
+    uint32_t path[3] = {7, 7, 7};
+    size_t length = 7;
+    CHECK(hedit_path_of(editor, 0, path, 0, &length) == HEDIT_DONE && length == 0);
+    CHECK(hedit_path_of(editor, label_at(editor, 1, 0, 0), path, 2, &length) == HEDIT_TOO_SMALL);
+    CHECK(length == 3 && path[0] == 7 && path[1] == 7 && path[2] == 7);
+    CHECK(hedit_path_of(editor, label_at(editor, 1, 0, 0), path, 3, &length) == HEDIT_DONE);
+    CHECK(length == 3 && path[0] == 1 && path[1] == 0 && path[2] == 0);
+    CHECK(hedit_path_of(editor, label_at(editor, 0, 9, 9), path, 3, &length) == HEDIT_DONE);
+    CHECK(length == 1 && path[0] == 0 && path[1] == 0);
+    CHECK(hedit_path_of(editor, 98, path, 3, &length) == HEDIT_BAD_PLACE);
+    CHECK(hedit_path_of(editor, HEDIT_NO_NODE, path, 3, &length) == HEDIT_BAD_PLACE);
+}
+
+static int is_point(hedit_point point, uint32_t label, uint32_t offset) {
+    return point.label == label && point.offset == offset;
+}
+
+static void searches(void) {
+    hedit_editor editor = opened("<p>aaaa<b>aa</b></p>");
+    uint32_t first = label_at(&editor, 0, 0, 9), second = label_at(&editor, 0, 1, 0);
+    hedit_point points[4] = {{7, 7}, {7, 7}, {7, 7}, {7, 7}};
+    size_t count = 0;
+    CHECK(hedit_find(&editor, 0, TEXT("aa"), points, 2, &count) == HEDIT_TOO_SMALL);
+    CHECK(count == 3 && is_point(points[0], 7, 7) && is_point(points[1], 7, 7));
+    CHECK(hedit_find(&editor, 0, TEXT("aa"), points, 4, &count) == HEDIT_DONE && count == 3);
+    CHECK(is_point(points[0], first, 0) && is_point(points[1], first, 2));
+    CHECK(is_point(points[2], second, 0) && is_point(points[3], 7, 7));
+    CHECK(hedit_find(&editor, second, TEXT("a"), points, 4, &count) == HEDIT_DONE && count == 2);
+    CHECK(is_point(points[0], second, 0) && is_point(points[1], second, 1));
+    CHECK(hedit_find(&editor, 0, TEXT("aaaaa"), points, 4, &count) == HEDIT_DONE && count == 0);
+    CHECK(hedit_find(&editor, 0, TEXT(""), points, 4, &count) == HEDIT_DONE && count == 0);
+    CHECK(hedit_find(&editor, 0, TEXT("\xff"), points, 4, &count) == HEDIT_BAD_ARGUMENT);
+    CHECK(hedit_find(&editor, 98, TEXT("a"), points, 4, &count) == HEDIT_BAD_PLACE);
+    hedit_close(&editor);
+    CHECK(hedit_find(&editor, 0, TEXT("a"), points, 4, &count) == HEDIT_CLOSED);
+}
+
 static void nodes(void) {
     static const hedit_node_facts before = {7, 7, 7, 7, 7, 7, 7};
     hedit_editor editor = opened(NODES);
@@ -313,6 +357,7 @@ static void nodes(void) {
     CHECK(hedit_node(&editor, numbers.next_label, &facts) == HEDIT_BAD_PLACE);
     CHECK(hedit_node(&editor, HEDIT_NO_NODE, &facts) == HEDIT_BAD_PLACE);
     CHECK(hedit_label_at(&editor, NOWHERE, 1, &label) == HEDIT_BAD_PLACE && label == 7);
+    paths(&editor);
     hedit_close(&editor);
     CHECK(hedit_node(&editor, 0, &facts) == HEDIT_CLOSED);
     CHECK(memcmp(&facts, &before, sizeof facts) == 0);
@@ -373,6 +418,7 @@ int main(void) {
     gates();
     points();
     texts();
+    searches();
     nodes();
     labels();
     if (!failed)

@@ -162,6 +162,10 @@ class Arguments(unittest.TestCase):
             editor.node_name,
             editor.node_value,
             editor.attributes,
+            editor.path_of,
+            editor.node_html,
+            editor.node_text,
+            lambda label: editor.find("x", label),
         ]
         bad: Any
         for call in calls:
@@ -280,6 +284,51 @@ class Nodes(unittest.TestCase):
             paragraph, text = editor.label_at((0,)), editor.label_at((0, 0))
             self.assertEqual(editor.node_value(text), "x" * 20_000)
             self.assertEqual(editor.attributes(paragraph), {"title": "t" * 5_000})
+            self.assertEqual(editor.node_text(0), "x" * 20_000)
+            self.assertEqual(editor.node_html(0) + "\n", editor.html())
+            self.assertEqual(editor.find("x"), [Point(text, offset) for offset in range(20_000)])
+
+    def test_a_node_has_a_path(self) -> None:
+        editor = self.editor
+        for path in ([], [0], [1], [1, 0], [1, 0, 0], [1, 1]):
+            self.assertEqual(editor.path_of(editor.label_at(path)), path)
+        deep = "<div>" * 150 + "x" + "</div>" * 150
+        with Editor(deep) as nested:
+            path = [0] * 151
+            self.assertEqual(nested.path_of(nested.label_at(path)), path)
+
+    def test_a_node_has_html_and_plain_text(self) -> None:
+        page = "<p title=a&amp;b>a&lt;<b>b</b><br>c</p><!--n--><ul><li>d<li>e</ul>f"
+        page = page.replace("<li>e", "</li><li>e</li>").replace("title=a&amp;b", 'title="a&amp;b"')
+        with Editor(page) as editor:
+            self.assertEqual(editor.node_html(0), page)
+            paragraph, words = editor.label_at((0,)), editor.label_at((0, 0))
+            self.assertEqual(editor.node_html(paragraph), page[: page.index("<!")])
+            self.assertEqual(editor.node_html(words), "a&lt;")
+            self.assertEqual(editor.node_html(editor.label_at((1,))), "<!--n-->")
+            self.assertEqual(editor.node_text(0), "a<b\nc\nd\ne\nf")
+            self.assertEqual(editor.node_text(paragraph), "a<b\nc")
+            self.assertEqual(editor.node_text(words), "a<")
+            self.assertEqual(editor.node_text(editor.label_at((1,))), "")
+        with Editor("<p>a</p><p><br></p><p>b</p><div><div>c</div></div>") as editor:
+            self.assertEqual(editor.node_text(0), "a\n\nb\nc")
+
+    def test_a_text_is_found(self) -> None:
+        with Editor("<p>aaaa\u00e9a<b>aa</b></p><!--aa-->") as editor:
+            first, second = editor.label_at((0, 0)), editor.label_at((0, 1, 0))
+            twice = [Point(first, 0), Point(first, 2), Point(second, 0)]
+            self.assertEqual(editor.find("aa"), twice)
+            self.assertEqual(editor.find("aa", second), [Point(second, 0)])
+            self.assertEqual(editor.find("\u00e9a".encode()), [Point(first, 4)])
+            for text in ("", "A", "aaaaa", "aaa\u00e9aa"):
+                self.assertEqual(editor.find(text), [])
+            self.assertRaises(hedit.BadArgument, editor.find, b"\xff")
+            # Found and replaced, from the last one on.
+            with Editor("<p contenteditable>one two one</p>") as mail:
+                for point in reversed(mail.find("one")):
+                    mail.select(point, Point(point.label, point.offset + 3))
+                    self.assertTrue(mail.exec("insertText", "three"))
+                self.assertEqual(mail.node_text(0), "three two three")
 
     def test_calls_are_refused_after_the_end_and_in_another_thread(self) -> None:
         editor = Editor(PAGE)
@@ -293,6 +342,10 @@ class Nodes(unittest.TestCase):
             lambda: editor.node_name(0),
             lambda: editor.node_value(0),
             lambda: editor.attributes(0),
+            lambda: editor.path_of(0),
+            lambda: editor.node_html(0),
+            lambda: editor.node_text(0),
+            lambda: editor.find("x"),
             editor.selection,
             editor.counts,
         ]

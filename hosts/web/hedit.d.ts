@@ -224,6 +224,9 @@ export declare class Editor {
   /** The label of the node at a path. The document's is 0. */
   labelAt(path: readonly number[]): number;
 
+  /** The path of the node of a label. */
+  pathOf(label: number): number[];
+
   /** What the node of a label is. */
   node(label: number): Node;
 
@@ -235,6 +238,15 @@ export declare class Editor {
 
   /** The characters of a text or a comment, and an empty text for another node. */
   nodeValue(label: number): string;
+
+  /** The HTML of a node with all that stands below it; of the document, that of its children. */
+  nodeHtml(label: number): string;
+
+  /** The plain text of a node with all that stands below it: lines for blocks and for each br. */
+  nodeText(label: number): string;
+
+  /** The points at which a text occurs in the texts of a node, by default of the whole document. */
+  find(text: Text, label?: number): Point[];
 
   /** The attributes of a node, in their order. */
   attributes(label: number): Map<string, string>;

@@ -461,20 +461,21 @@ class Loan {
   }
 
   /**
-   * The status of a call that takes a buffer and the text that it wrote. It is called again where
-   * the buffer is too small.
+   * The status of a call that takes a buffer and the items that it wrote, as their bytes. It is
+   * called again where the buffer is too small.
    * @param {number} capacity
    * @param {(...buffer: bigint[]) => number} call
+   * @param {number} size that of an item in bytes: the items of a text are bytes
    */
-  printed(capacity, call) {
+  printed(capacity, call, size = 1) {
     const length = this.room(8);
     this.#library.view(length, 8).setBigUint64(0, 0n);
     for (;;) {
-      const buffer = this.room(capacity);
+      const buffer = this.room(capacity * size);
       const status = call(buffer, BigInt(capacity), length);
       const written = Number(this.#library.view(length, 8).getBigUint64(0, true));
       if (status !== Status.TOO_SMALL) {
-        return { status, bytes: this.#library.bytes(buffer, written) };
+        return { status, bytes: this.#library.bytes(buffer, written * size) };
       }
       capacity = written;
     }
@@ -709,6 +710,28 @@ export class Editor {
         this.#call(name, ...words, ...buffer),
       );
       return answer(status) ? DECODER.decode(bytes) : undefined;
+    });
+  }
+
+  /**
+   * What `read` gives of each item of a call that takes an array of so many.
+   * @template Item
+   * @param {string} name
+   * @param {number} size that of an item in bytes
+   * @param {(view: DataView, at: number) => Item} read
+   * @param {(loan: Loan) => unknown[]} words
+   */
+  #items(name, size, read, words) {
+    return this.#library.borrow((loan) => {
+      const given = words(loan);
+      const { status, bytes } = loan.printed(
+        64,
+        (...buffer) => this.#call(name, ...given, ...buffer),
+        size,
+      );
+      answer(status);
+      const view = new DataView(bytes.buffer, bytes.byteOffset, bytes.length);
+      return Array.from({ length: bytes.length / size }, (_, place) => read(view, place * size));
     });
   }
 
@@ -951,6 +974,16 @@ export class Editor {
   }
 
   /**
+   * The path of the node of a label.
+   * @param {number} label
+   * @returns {number[]}
+   */
+  pathOf(label) {
+    const number = placeNumber(label);
+    return this.#items("hedit_path_of", 4, (view, at) => view.getUint32(at, true), () => [number]);
+  }
+
+  /**
    * What the node of a label is.
    * @param {number} label
    * @returns {Node}
@@ -1009,6 +1042,41 @@ export class Editor {
    */
   nodeValue(label) {
     return /** @type {string} */ (this.#text("hedit_node_value", 1024, placeNumber(label)));
+  }
+
+  /**
+   * The HTML of a node with all that stands below it; that of the document is the HTML of its
+   * children.
+   * @param {number} label
+   */
+  nodeHtml(label) {
+    return /** @type {string} */ (this.#text("hedit_node_html", 4096, placeNumber(label)));
+  }
+
+  /**
+   * The plain text of a node with all that stands below it: the characters of its texts and a line
+   * feed for each br. Where a block begins or ends between two of these, a line feed comes between
+   * them, unless the first one is a line feed.
+   * @param {number} label
+   */
+  nodeText(label) {
+    return /** @type {string} */ (this.#text("hedit_node_text", 4096, placeNumber(label)));
+  }
+
+  /**
+   * The points at which a text occurs in the texts of a node and of all that stands below it, in
+   * tree order, none overlapping. Each occurrence stands in one text. The offsets count characters.
+   * @param {Text} text
+   * @param {number} label
+   * @returns {Point[]}
+   */
+  find(text, label = 0) {
+    const number = placeNumber(label);
+    const point = (/** @type {DataView} */ view, /** @type {number} */ at) => ({
+      label: view.getUint32(at, true),
+      offset: view.getUint32(at + 4, true),
+    });
+    return this.#items("hedit_find", 8, point, (loan) => [number, ...loan.text(text)]);
   }
 
   /**

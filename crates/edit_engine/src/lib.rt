@@ -15,6 +15,7 @@ mod log;
 mod places;
 mod probe;
 mod queries;
+mod texts;
 mod turning;
 mod views;
 

@@ -56,20 +56,20 @@ Asks number None old new told = (number ≡ number_of Closed) × (new ≡ old)
 Asks number (Some e) old new told =
     (status : Status) × (number ≡ number_of status) × told status e
 
--- ---- a text in a buffer: it stands at the front, and what follows there is as before; or only its
--- length is told
+-- ---- items in a buffer, as the bytes of a text: they stand at the front, and what follows there is
+-- as before; or only their count is told
 
-abbrev pub Puts : Status → (text old new : List ℕ) → (n : ℕ) → Type 0
-Puts Done text old new n =
-    (n ≡ length text) × (length text ≤ length old) × (new ≡ text ++ drop (length text) old)
-Puts TooSmall text old new n =
-    (n ≡ length text) × (length old < length text) × (new ≡ old)
-Puts status text old new n = ⊥
+abbrev pub Puts : {A : Type 0} → Status → (items old new : List A) → (n : ℕ) → Type 0
+Puts Done items old new n =
+    (n ≡ length items) × (length items ≤ length old) × (new ≡ items ++ drop (length items) old)
+Puts TooSmall items old new n =
+    (n ≡ length items) × (length old < length items) × (new ≡ old)
+Puts status items old new n = ⊥
 
--- the same, where there may be no memory for the text
-abbrev pub PutsUnlessMemory : Status → (text old new : List ℕ) → (n : ℕ) → Type 0
-PutsUnlessMemory Memory text old new n = new ≡ old
-PutsUnlessMemory status text old new n = Puts status text old new n
+-- the same, where there may be no memory for the items
+abbrev pub PutsUnlessMemory : {A : Type 0} → Status → (items old new : List A) → (n : ℕ) → Type 0
+PutsUnlessMemory Memory items old new n = new ≡ old
+PutsUnlessMemory status items old new n = Puts status items old new n
 
 -- ---- opening
 

@@ -3,3 +3,4 @@ pub mod Held
 pub mod Statuses
 pub mod Calls
 pub mod Nodes
+pub mod Subtrees

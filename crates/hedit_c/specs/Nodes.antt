@@ -54,6 +54,13 @@ LabelTells BadPlace e path old new = (label_at e.state.trees path ≡ None) × (
 LabelTells Memory e path old new = new ≡ old
 LabelTells status e path old new = ⊥
 
+-- the path of the node, in a buffer
+abbrev pub PathTells : Status → Editing → (label : ℕ) → (old new : List ℕ) → (n : ℕ) → Type 0
+PathTells BadPlace e label old new n = (count_of e.state.trees label ≡ 0) × (new ≡ old)
+PathTells Memory e label old new n = new ≡ old
+PathTells status e label old new n =
+    (path : List ℕ) × (label_at e.state.trees path ≡ Some label) × Puts status path old new n
+
 -- ---- the texts of a node: the name of an element, and the characters of a text or a comment
 
 abbrev pub name_text : Content → List ℕ

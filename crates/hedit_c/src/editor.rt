@@ -8,8 +8,10 @@ ghost use Rattle.std.specs.Option.{option_map};
 ghost use Rattle.edit_engine.specs.Editing.{undone, redone};
 ghost use Rattle.edit_engine.specs.Places.{unselecting};
 ghost use Rattle.hedit_c.specs.Calls.{editing_of, Leaves, Asks, Opens, ExecTells, GatedTells, QueryTells, ViewTells, SelectTells, MarkTells, UnmarkTells, pair_there, pair_of_points, place, point, taken_status, unselect_status};
-ghost use Rattle.hedit_c.specs.Nodes.{NodeTells, LabelTells, name_text, value_text, TextTells, attribute_name, attribute_value, AttributeTells, SelectionTells, NumbersTell};
+ghost use Rattle.node_texts.specs.NodeHtml.{node_html};
+ghost use Rattle.hedit_c.specs.Nodes.{NodeTells, LabelTells, PathTells, name_text, value_text, TextTells, attribute_name, attribute_value, AttributeTells, SelectionTells, NumbersTell};
 ghost use Rattle.hedit_c.specs.Statuses.{number_of};
+ghost use Rattle.hedit_c.specs.Subtrees.{SubtreeTells, FindTells, plain_bytes};
 
 mod acts;
 mod answers;
@@ -18,6 +20,7 @@ mod nodes;
 mod opening;
 mod raw_box;
 pub(crate) mod status;
+mod subtrees;
 mod texts;
 
 use acts::{exec, exec_gated, mark, mark_points, redo, select, select_points, undo, unmark};
@@ -26,11 +29,12 @@ use edit_doc::Point;
 use handle::Handle;
 use nodes::{
     NodeFacts, NumberFacts, SelectionFacts, attribute_name, attribute_value, label_at, node,
-    node_name, node_value, numbers, selection,
+    node_name, node_value, numbers, path_of, selection,
 };
 use opening::{Refusal, open};
 use status::Status;
 use std::alloc::Global;
+use subtrees::{PointFacts, find, node_html, node_text};
 
 /// Opens a page, and closes what the handle held before.
 ///
@@ -360,6 +364,27 @@ pub extern "C" fn hedit_label_at(
     status.number()
 }
 
+/// Puts the path of the node of a label into the buffer.
+#[unsafe(no_mangle)]
+pub extern "C" fn hedit_path_of(
+    alloc: Global,
+    editor: &mut Handle,
+    label: u32,
+    buffer: &mut [u32],
+    length: &mut usize,
+) -> u32
+    ensures stays { editor.new.value ≡ editor.old.value }
+    ensures told { Asks result (editing_of editor.old.value) buffer.old buffer.new
+        (λ status e. PathTells status e label buffer.old buffer.new length.new) }
+{
+    let Some(held) = editor.take(alloc) else {
+        return Status::Closed.number();
+    };
+    let status = path_of(alloc, &held, label, buffer, length);
+    editor.put(held);
+    status.number()
+}
+
 /// Puts the name of an element into the buffer; another node has an empty one.
 #[unsafe(no_mangle)]
 pub extern "C" fn hedit_node_name(
@@ -446,6 +471,74 @@ pub extern "C" fn hedit_attribute_value(
         return Status::Closed.number();
     };
     let status = attribute_value(alloc, &held, label, place, buffer, length);
+    editor.put(held);
+    status.number()
+}
+
+/// Puts the HTML of a node with all that stands below it into the buffer; that of the document is
+/// the HTML of its children.
+#[unsafe(no_mangle)]
+pub extern "C" fn hedit_node_html(
+    alloc: Global,
+    editor: &mut Handle,
+    label: u32,
+    buffer: &mut [u8],
+    length: &mut usize,
+) -> u32
+    ensures stays { editor.new.value ≡ editor.old.value }
+    ensures told { Asks result (editing_of editor.old.value) buffer.old buffer.new
+        (λ status e. SubtreeTells node_html status e label buffer.old buffer.new length.new) }
+{
+    let Some(held) = editor.take(alloc) else {
+        return Status::Closed.number();
+    };
+    let status = node_html(alloc, &held, label, buffer, length);
+    editor.put(held);
+    status.number()
+}
+
+/// Puts the plain text of a node with all that stands below it into the buffer: the characters of
+/// its texts, a line feed for each br, and a line feed where a block begins or ends between two of
+/// these, unless the first one is a line feed.
+#[unsafe(no_mangle)]
+pub extern "C" fn hedit_node_text(
+    alloc: Global,
+    editor: &mut Handle,
+    label: u32,
+    buffer: &mut [u8],
+    length: &mut usize,
+) -> u32
+    ensures stays { editor.new.value ≡ editor.old.value }
+    ensures told { Asks result (editing_of editor.old.value) buffer.old buffer.new
+        (λ status e. SubtreeTells plain_bytes status e label buffer.old buffer.new length.new) }
+{
+    let Some(held) = editor.take(alloc) else {
+        return Status::Closed.number();
+    };
+    let status = node_text(alloc, &held, label, buffer, length);
+    editor.put(held);
+    status.number()
+}
+
+/// Puts the points at which the characters of a text in UTF-8 occur in the texts of a node and of all
+/// that stands below it into the buffer, in tree order, none overlapping.
+#[unsafe(no_mangle)]
+pub extern "C" fn hedit_find(
+    alloc: Global,
+    editor: &mut Handle,
+    label: u32,
+    text: &[u8],
+    buffer: &mut [PointFacts],
+    count: &mut usize,
+) -> u32
+    ensures stays { editor.new.value ≡ editor.old.value }
+    ensures told { Asks result (editing_of editor.old.value) buffer.old buffer.new
+        (λ status e. FindTells status e label text.now buffer.old buffer.new count.new) }
+{
+    let Some(held) = editor.take(alloc) else {
+        return Status::Closed.number();
+    };
+    let status = find(alloc, &held, label, text, buffer, count);
     editor.put(held);
     status.number()
 }

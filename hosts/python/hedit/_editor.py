@@ -7,7 +7,7 @@ import warnings
 from collections.abc import Callable, Iterable, Iterator, Sequence
 from enum import IntEnum
 from queue import SimpleQueue
-from typing import NoReturn, Self, SupportsIndex
+from typing import Any, NoReturn, Self, SupportsIndex
 
 from ._errors import (
     BadArgument,
@@ -26,6 +26,7 @@ from ._library import (
     Handle,
     NodeFacts,
     NumberFacts,
+    PointFacts,
     Refusal,
     SelectionFacts,
     library,
@@ -130,6 +131,17 @@ def read_text(call: Callable[..., int], capacity: int) -> tuple[int, bytes]:
         if status != Status.TOO_SMALL:
             return status, ctypes.string_at(buffer, length.value)
         capacity = length.value
+
+
+def read_items(call: Callable[..., int], item: Any, capacity: int) -> tuple[int, list[Any]]:
+    """The status and the items of a call that takes an array of so many: it is called again where
+    there are more of them."""
+    while True:
+        array, count = (item * capacity)(), LENGTH(0)
+        status = call(array, capacity, ctypes.byref(count))
+        if status != Status.TOO_SMALL:
+            return status, array[: count.value]
+        capacity = count.value
 
 
 class Editor:
@@ -331,6 +343,15 @@ class Editor:
         answer(self._call("hedit_label_at", *path_words(path), ctypes.byref(label)))
         return label.value
 
+    def path_of(self, label: int) -> list[int]:
+        """The path of the node of a label."""
+        number = place_number(label)
+        status, path = read_items(
+            lambda *buffer: self._call("hedit_path_of", number, *buffer), NUMBER, 32
+        )
+        answer(status)
+        return path
+
     def node(self, label: int) -> Node:
         """What the node of a label is."""
         facts = NodeFacts()
@@ -370,6 +391,27 @@ class Editor:
     def node_value(self, label: int) -> str:
         """The characters of a text or a comment, and an empty text for another node."""
         return self._text("hedit_node_value", 1024, place_number(label)) or ""
+
+    def node_html(self, label: int) -> str:
+        """The HTML of a node with all that stands below it; that of the document is the HTML of its
+        children."""
+        return self._text("hedit_node_html", 4096, place_number(label)) or ""
+
+    def node_text(self, label: int) -> str:
+        """The plain text of a node with all that stands below it: the characters of its texts and a
+        line feed for each br. Where a block begins or ends between two of these, a line feed comes
+        between them, unless the first one is a line feed."""
+        return self._text("hedit_node_text", 4096, place_number(label)) or ""
+
+    def find(self, text: str | bytes, label: int = 0) -> list[Point]:
+        """The points at which a text occurs in the texts of a node and of all that stands below it,
+        in tree order, none overlapping. Each occurrence stands in one text."""
+        words = (place_number(label), *text_words(text))
+        status, points = read_items(
+            lambda *buffer: self._call("hedit_find", *words, *buffer), PointFacts, 64
+        )
+        answer(status)
+        return [Point(point.label, point.offset) for point in points]
 
     def attributes(self, label: int) -> dict[str, str]:
         """The attributes of a node, in their order."""

@@ -52,6 +52,12 @@ class SelectionFacts(ctypes.Structure):
     ]
 
 
+class PointFacts(ctypes.Structure):
+    """The label of a node, and an offset in it."""
+
+    _fields_ = [("label", NUMBER), ("offset", NUMBER)]
+
+
 class NumberFacts(ctypes.Structure):
     """The numbers of a page and of its history."""
 
@@ -70,6 +76,8 @@ PATH = [ctypes.POINTER(NUMBER), LENGTH]
 PLACE = [*PATH, NUMBER]
 POINT = [NUMBER, NUMBER]
 BUFFER = [ctypes.c_char_p, LENGTH, ctypes.POINTER(LENGTH)]
+STEPS = [ctypes.POINTER(NUMBER), LENGTH, ctypes.POINTER(LENGTH)]
+POINTS = [ctypes.POINTER(PointFacts), LENGTH, ctypes.POINTER(LENGTH)]
 EDITOR = [ctypes.POINTER(Handle)]
 
 CALLS: dict[str, list[Any]] = {
@@ -90,10 +98,14 @@ CALLS: dict[str, list[Any]] = {
     "hedit_view": [*EDITOR, NUMBER, *BUFFER],
     "hedit_node": [*EDITOR, NUMBER, ctypes.POINTER(NodeFacts)],
     "hedit_label_at": [*EDITOR, *PATH, ctypes.POINTER(NUMBER)],
+    "hedit_path_of": [*EDITOR, NUMBER, *STEPS],
     "hedit_node_name": [*EDITOR, NUMBER, *BUFFER],
     "hedit_node_value": [*EDITOR, NUMBER, *BUFFER],
     "hedit_attribute_name": [*EDITOR, NUMBER, LENGTH, *BUFFER],
     "hedit_attribute_value": [*EDITOR, NUMBER, LENGTH, *BUFFER],
+    "hedit_node_html": [*EDITOR, NUMBER, *BUFFER],
+    "hedit_node_text": [*EDITOR, NUMBER, *BUFFER],
+    "hedit_find": [*EDITOR, NUMBER, *TEXT, *POINTS],
     "hedit_selection": [*EDITOR, ctypes.POINTER(SelectionFacts)],
     "hedit_numbers": [*EDITOR, ctypes.POINTER(NumberFacts)],
     "hedit_session_with_words": TEXT + TEXT + BUFFER,

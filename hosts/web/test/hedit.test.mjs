@@ -329,9 +329,58 @@ describe("nodes", () => {
     assert.deepEqual([...attributes], [["title", "t".repeat(5_000)]]);
   });
 
+  it("have paths", (t) => {
+    const editor = open(t);
+    for (const path of [[], [0], [1], [1, 0], [1, 0, 0], [1, 1]]) {
+      assert.deepEqual(editor.pathOf(editor.labelAt(path)), path);
+    }
+    const deep = open(t, `${"<div>".repeat(150)}x${"</div>".repeat(150)}`);
+    const path = Array(151).fill(0);
+    assert.deepEqual(deep.pathOf(deep.labelAt(path)), path);
+  });
+
+  it("have HTML and a plain text", (t) => {
+    const paragraph = '<p title="a&amp;b">a&lt;<b>b😀</b><br>c</p>';
+    const editor = open(t, `${paragraph}<!--n--><ul><li>d</li><li>e</li></ul>f`);
+    assert.equal(`${editor.nodeHtml(0)}\n`, editor.html());
+    assert.equal(editor.nodeHtml(editor.labelAt([0])), paragraph);
+    assert.equal(editor.nodeHtml(editor.labelAt([0, 0])), "a&lt;");
+    assert.equal(editor.nodeHtml(editor.labelAt([1])), "<!--n-->");
+    assert.equal(editor.nodeText(0), "a<b😀\nc\nd\ne\nf");
+    assert.equal(editor.nodeText(editor.labelAt([0])), "a<b😀\nc");
+    assert.equal(editor.nodeText(editor.labelAt([1])), "");
+    const lines = open(t, "<p>a</p><p><br></p><p>b</p><div><div>c</div></div>");
+    assert.equal(lines.nodeText(0), "a\n\nb\nc");
+  });
+
+  it("are searched for a text", (t) => {
+    const editor = open(t, `<p>aaaa😀a<b>aa</b></p><!--aa--><p>${"xy".repeat(200)}</p>`);
+    const [first, second] = [editor.labelAt([0, 0]), editor.labelAt([0, 1, 0])];
+    const twice = [0, 2].map((offset) => ({ label: first, offset }));
+    assert.deepEqual(editor.find("aa"), [...twice, { label: second, offset: 0 }]);
+    assert.deepEqual(editor.find("aa", second), [{ label: second, offset: 0 }]);
+    assert.deepEqual(editor.find("😀a"), [{ label: first, offset: 4 }]);
+    assert.deepEqual(editor.find(new TextEncoder().encode("😀a")), editor.find("😀a"));
+    assert.equal(editor.find("yx").length, 199);
+    for (const text of ["", "A", "aaaaa"]) {
+      assert.deepEqual(editor.find(text), []);
+    }
+    refused(() => editor.find(Uint8Array.of(255)), "BadArgument", Status.BAD_ARGUMENT);
+    const mail = open(t, "<p contenteditable>one two one</p>");
+    for (const { label, offset } of mail.find("one").reverse()) {
+      mail.select({ label, offset }, { label, offset: offset + 3 });
+      assert.equal(mail.exec("insertText", "three"), true);
+    }
+    assert.equal(mail.nodeText(0), "three two three");
+  });
+
   it("are refused where they are none", (t) => {
     const editor = open(t, PAGE);
     const calls = [
+      (label) => editor.pathOf(label),
+      (label) => editor.nodeHtml(label),
+      (label) => editor.nodeText(label),
+      (label) => editor.find("x", label === undefined ? null : label),
       (label) => editor.node(label),
       (label) => editor.children(label),
       (label) => editor.nodeName(label),
@@ -470,6 +519,10 @@ describe("a cause has a class", () => {
       () => editor.nodeName(0),
       () => editor.nodeValue(0),
       () => editor.attributes(0),
+      () => editor.pathOf(0),
+      () => editor.nodeHtml(0),
+      () => editor.nodeText(0),
+      () => editor.find("x"),
     ];
     for (const call of calls) {
       refused(call, "EditorClosed", Status.CLOSED);

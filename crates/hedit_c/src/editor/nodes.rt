@@ -4,13 +4,13 @@ ghost use Rattle.std.specs.Prelude.{◌≡◌, [], MatchOption, encode_utf8_all,
 ghost use Rattle.std.specs.Option.{option_map};
 ghost use Rattle.edit_doc.specs.Held.{Holds};
 ghost use Rattle.edit_model.specs.Gives.{label_of};
-ghost use Rattle.hedit_c.specs.Nodes.{label_number, node_type, facts_of, NodeTells, LabelTells, name_text, value_text, TextTells, attributes_in, attribute_name, attribute_value, AttributeTells, selection_of, SelectionTells, numbers_of, NumbersTell};
+ghost use Rattle.hedit_c.specs.Nodes.{label_number, node_type, facts_of, NodeTells, LabelTells, PathTells, name_text, value_text, TextTells, attributes_in, attribute_name, attribute_value, AttributeTells, selection_of, SelectionTells, numbers_of, NumbersTell};
 
 use super::status::Status;
 use super::texts::{put, put_chars};
 use dom_model::{Attributes, Chars, Content};
 use edit_doc::{Doc, NodeRef};
-use edit_engine::Editor;
+use edit_engine::{Editor, ViewFault};
 use script_read::Path;
 use std::alloc::Global;
 
@@ -112,6 +112,23 @@ pub(crate) fn label_at(alloc: Global, editor: &Editor, path: &[u32], label: &mut
             Status::Done
         }
         None => Status::BadPlace,
+    }
+}
+
+/// The path of the node of a label.
+pub(crate) fn path_of(
+    alloc: Global,
+    editor: &Editor,
+    label: u32,
+    buffer: &mut [u32],
+    length: &mut usize,
+) -> Status
+    ensures { PathTells result editor.now.editing label buffer.old buffer.new length.new }
+{
+    match editor.path_of(alloc, label) {
+        Ok(path) => put(path.as_slice(), buffer, length),
+        Err(ViewFault::BadPlace) => Status::BadPlace,
+        Err(ViewFault::Memory) => Status::Memory,
     }
 }
 

@@ -7,6 +7,7 @@ use super::status::Status;
 use escaped_text::push_chars;
 use script_read::{Path, Place};
 use std::alloc::{AllocError, Global};
+use std::marker::Copy;
 
 /// The place of an offset in the node at a path.
 pub(crate) fn place_of(alloc: Global, path: &[u32], offset: u32) -> Result<Place, AllocError>
@@ -16,15 +17,16 @@ pub(crate) fn place_of(alloc: Global, path: &[u32], offset: u32) -> Result<Place
     Ok(Place { path, offset })
 }
 
-/// Puts a text at the front of a buffer, or only gives its length where there is no room for it.
-pub(crate) fn put(text: &[u8], buffer: &mut [u8], length: &mut usize) -> Status
-    ensures { Puts result text.now buffer.old buffer.new length.new }
+/// Puts items at the front of a buffer, as the bytes of a text, or only gives their count where
+/// there is no room for them.
+pub(crate) fn put<T: Copy>(items: &[T], buffer: &mut [T], length: &mut usize) -> Status
+    ensures { Puts result items.now buffer.old buffer.new length.new }
 {
-    *length = text.len();
-    if buffer.len() < text.len() {
+    *length = items.len();
+    if buffer.len() < items.len() {
         return Status::TooSmall;
     }
-    buffer[..text.len()].copy_from_slice(text);
+    buffer[..items.len()].copy_from_slice(items);
     Status::Done
 }
 

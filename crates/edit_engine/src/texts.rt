@@ -1,0 +1,80 @@
+//! What is read of a node by its label: its path, its HTML, its plain text, and where characters
+//! occur in it.
+
+ghost use Rattle.std.specs.Prelude.{◌≡◌, ◌↔◌, IfOk, Some, Err};
+ghost use Rattle.dom_model.specs.Forest.{count_of};
+ghost use Rattle.node_paths.specs.Paths.{label_at};
+ghost use Rattle.node_texts.specs.NodeHtml.{node_html};
+ghost use Rattle.node_texts.specs.Occurrences.{found_in};
+ghost use Rattle.node_texts.specs.PlainText.{plain_text};
+
+use crate::answers::ViewFault;
+use crate::editor::Editor;
+use edit_doc::Point;
+use node_texts::{find, node_html, path_of, plain_text};
+use script_read::Path;
+use std::alloc::Global;
+
+impl Editor {
+    /// The path of the node of a label.
+    pub fn path_of(&self, alloc: Global, label: u32) -> Result<Path, ViewFault>
+        ensures path { IfOk result (λ path. label_at self.now.editing.state.trees path
+            ≡ Some label) }
+        ensures bad_place { (result ≡ Err ViewFault.BadPlace)
+            ↔ (count_of self.now.editing.state.trees label ≡ 0) }
+    {
+        let doc = self.document();
+        doc.valid();
+        match doc.find(label) {
+            Some(node) => Ok(Path::from_vec(path_of(alloc, doc, node)?)),
+            None => Err(ViewFault::BadPlace),
+        }
+    }
+
+    /// The HTML of the node of a label, with all that stands below it; that of the document is the
+    /// HTML of its children.
+    pub fn node_html(&self, alloc: Global, label: u32) -> Result<Vec<u8>, ViewFault>
+        ensures text { IfOk result (λ text. text.items
+            ≡ node_html self.now.editing.state.trees label) }
+        ensures bad_place { (result ≡ Err ViewFault.BadPlace)
+            ↔ (count_of self.now.editing.state.trees label ≡ 0) }
+    {
+        let doc = self.document();
+        match doc.find(label) {
+            Some(node) => Ok(node_html(alloc, doc, node)?),
+            None => Err(ViewFault::BadPlace),
+        }
+    }
+
+    /// The plain text of the node of a label, with all that stands below it: the characters of its
+    /// texts and a line feed for each br, in tree order. Where a block begins or ends between two of
+    /// these characters, a line feed comes between them, unless the first one is a line feed.
+    pub fn node_text(&self, alloc: Global, label: u32) -> Result<Vec<char>, ViewFault>
+        ensures text { IfOk result (λ text. text.items
+            ≡ plain_text self.now.editing.state.trees label) }
+        ensures bad_place { (result ≡ Err ViewFault.BadPlace)
+            ↔ (count_of self.now.editing.state.trees label ≡ 0) }
+    {
+        let doc = self.document();
+        match doc.find(label) {
+            Some(node) => Ok(plain_text(alloc, doc, node)?),
+            None => Err(ViewFault::BadPlace),
+        }
+    }
+
+    /// The points at which characters occur in the texts of the node of a label and of all that
+    /// stands below it, in tree order, none overlapping. Each occurrence stands in one text, and no
+    /// characters occur nowhere.
+    pub fn find(&self, alloc: Global, top: u32, wanted: &[char]) -> Result<Vec<Point>, ViewFault>
+        ensures found { IfOk result (λ points. points.items
+            ≡ found_in self.now.editing.state.trees top wanted.now) }
+        ensures bad_place { (result ≡ Err ViewFault.BadPlace)
+            ↔ (count_of self.now.editing.state.trees top ≡ 0) }
+    {
+        let doc = self.document();
+        match doc.find(top) {
+            Some(node) => Ok(find(alloc, doc, node, wanted)?),
+            None => Err(ViewFault::BadPlace),
+        }
+    }
+}

@@ -1,0 +1,40 @@
+-- What C is told of a node with all that stands below it.
+use Rattle.std.specs.Prelude.{◌≡◌, ℕ, ◌<◌, List, map, encode_utf8_all}
+use Rattle.std.specs.Str.{IsUtf8, chars}
+use Rattle.dom_model.specs.declared.Content.{Content}
+use Rattle.dom_model.specs.Forest.{Forest, count_of}
+use Rattle.live_range.specs.declared.places.Point.{Point}
+use Rattle.node_texts.specs.Occurrences.{found_in}
+use Rattle.node_texts.specs.PlainText.{plain_text}
+use Rattle.edit_engine.specs.Editing.{Editing}
+use Rattle.hedit_c.specs.Calls.{Puts}
+use Rattle.hedit_c.specs.declared.editor.subtrees.PointFacts.{PointFacts}
+use Rattle.hedit_c.specs.declared.editor.status.Status.{Status}
+use Rattle.hedit_c.specs.declared.editor.status.Status.TheVariants.{Memory, BadPlace, BadArgument}
+
+-- a text of the node, in a buffer
+abbrev pub SubtreeTells : (Forest Content → ℕ → List ℕ) → Status → Editing → (label : ℕ)
+    → (old new : List ℕ) → (n : ℕ) → Type 0
+SubtreeTells text BadPlace e label old new n =
+    (count_of e.state.trees label ≡ 0) × (new ≡ old)
+SubtreeTells text Memory e label old new n = new ≡ old
+SubtreeTells text status e label old new n =
+    (0 < count_of e.state.trees label) × Puts status (text e.state.trees label) old new n
+
+-- the plain text in UTF-8
+abbrev pub plain_bytes : Forest Content → ℕ → List ℕ
+plain_bytes f label = encode_utf8_all (plain_text f label)
+
+abbrev pub point_facts : Point → PointFacts
+point_facts point = record { label = point.label; offset = point.offset }
+
+-- the points at which the characters of a text occur, in a buffer
+abbrev pub FindTells : Status → Editing → (label : ℕ) → (text : List ℕ)
+    → (old new : List PointFacts) → (n : ℕ) → Type 0
+FindTells BadArgument e label text old new n = ¬ (IsUtf8 text) × (new ≡ old)
+FindTells BadPlace e label text old new n =
+    IsUtf8 text × (count_of e.state.trees label ≡ 0) × (new ≡ old)
+FindTells Memory e label text old new n = new ≡ old
+FindTells status e label text old new n =
+    IsUtf8 text × (0 < count_of e.state.trees label)
+    × Puts status (map point_facts (found_in e.state.trees label (chars text))) old new n

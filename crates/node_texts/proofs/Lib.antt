@@ -1,0 +1,4 @@
+mod Visiting
+mod Folding
+mod Offsets
+mod Upward

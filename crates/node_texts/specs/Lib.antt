@@ -1,0 +1,4 @@
+pub mod Walk
+pub mod NodeHtml
+pub mod PlainText
+pub mod Occurrences

@@ -1,0 +1,14 @@
+//! What is written of nodes: the path to a node, its HTML and its plain text, and where characters
+//! occur in it.
+#![tactic(auto)]
+
+mod html;
+mod occurrences;
+mod plain;
+mod walk;
+mod ways;
+
+pub use html::node_html;
+pub use occurrences::find;
+pub use plain::plain_text;
+pub use ways::path_of;
