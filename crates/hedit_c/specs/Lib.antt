@@ -2,4 +2,5 @@ pub mod Session
 pub mod Held
 pub mod Statuses
 pub mod Calls
+pub mod Following
 pub mod Nodes
