@@ -1,5 +1,5 @@
--- An editor: the state of its document, the history that undo goes through, and whether it is
--- typing.
+-- An editor: the state of its document, the history that undo goes through, whether it is typing,
+-- and what it keeps for hosts that follow the document.
 use Rattle.std.specs.Prelude.{◌≡◌, ℕ, ◌<◌, Bool, true, false, List, [], ◌∷◌, length, zero, suc, Option, None, refl}
 use Rattle.std.specs.Coded.{Coded, code_by, coded×, coded_ℕ, coded_bool, coded_list, coded_option}
 use Rattle.dom_model.specs.ArenaState.{ArenaState as Arena}
@@ -7,6 +7,8 @@ use Rattle.edit_model.specs.State.{State}
 use Rattle.edit_model.specs.History.{Entry, History, undone_state, undone_history, redone_state, redone_history}
 use Rattle.edit_model.specs.Codes.{state_code, history_code}
 use Rattle.edit_doc.specs.Whole.{Whole, IsClosed, first_state}
+use Rattle.edit_engine.specs.Following.{IsWithin, following_code}
+use Rattle.edit_engine.specs.declared.following.Following.{Following}
 
 pub record Editing : Type 0 where
   pub state : State
@@ -19,20 +21,27 @@ editing_code =
     (λ e. (e.state, (e.history, e.typing))) (λ c.
     record { state = c.0; history = c.1.0; typing = c.1.1 }) (λ _. refl)
 
--- what a contract sees of an editor: with the label of the node in each slot
+-- what a contract sees of an editor: with the label of the node in each slot, and what it keeps for
+-- hosts that follow the document
 pub record EditorValue : Type 0 where
   pub editing : Editing
   pub held : List (Option ℕ)
+  pub following : Following
 
 abbrev pub value_code : Coded EditorValue
 value_code =
-    code_by (Editing × List (Option ℕ)) (coded× editing_code (coded_list (coded_option coded_ℕ)))
-    (λ v. (v.editing, v.held)) (λ c. record { editing = c.0; held = c.1 }) (λ _. refl)
+    code_by
+    (Editing × (List (Option ℕ) × Following))
+    (coded× editing_code (coded× (coded_list (coded_option coded_ℕ)) following_code))
+    (λ v. (v.editing, (v.held, v.following)))
+    (λ c. record { editing = c.0; held = c.1.0; following = c.1.1 })
+    (λ _. refl)
 
-abbrev pub value_of : Whole → Bool → EditorValue
-value_of d typing = record {
+abbrev pub value_of : Whole → Bool → Following → EditorValue
+value_of d typing following = record {
   editing = record { state = d.state; history = d.history; typing = typing };
   held = d.held;
+  following = following;
 }
 
 -- the document, in which no command is running
@@ -64,9 +73,10 @@ pub record IsJoinable (h : History) : Type 0 where
   pub last : h.redo ≡ []
 
 -- no command is running, and while the editor is typing the last entry can be joined
-pub record IsResting (doc : Whole) (typing : Bool) : Type 0 where
+pub record IsResting (doc : Whole) (typing : Bool) (following : Following) : Type 0 where
   pub closed : IsClosed doc
   pub joinable : typing ≡ true → IsJoinable doc.history
+  pub within : IsWithin following.last doc.history
 
 -- ---- through the history; nothing changes where no entry lies that way, and one that is taken
 -- ends the typing

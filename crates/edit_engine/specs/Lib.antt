@@ -1,6 +1,8 @@
 pub mod Framing
 pub mod Commands
+pub mod Following
 pub mod Editing
+pub mod Changes
 pub mod Turning
 pub mod Execution
 pub mod Queries

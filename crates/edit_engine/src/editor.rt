@@ -8,10 +8,12 @@ ghost use Rattle.edit_doc.specs.Kept.{HoldsOnlyNeeded};
 ghost use Rattle.edit_doc.specs.Whole.{HasNoLoose, IsClosed, first_edits};
 ghost use Rattle.command_gate.specs.Denied.{is_denied};
 ghost use Rattle.node_paths.specs.Paths.{label_at};
+ghost use Rattle.edit_engine.specs.Changes.{CanFollow, changes_of};
 ghost use Rattle.edit_engine.specs.Commands.{action_of};
 ghost use Rattle.edit_engine.specs.Confinement.{KeepsOutside, KeepsHtml, KeepsMarks, KeepsIslands, KeepsCharacters, GivesBack};
 ghost use Rattle.edit_engine.specs.Editing.{EditorValue, IsJoinable, document, new_editing, undone, redone};
 ghost use Rattle.edit_engine.specs.Execution.{gated_outcome, outcome, command_outcome, run_outcome, Tells};
+ghost use Rattle.edit_engine.specs.Following.{first_following};
 ghost use Rattle.edit_engine.specs.Labels.{KeepsLabels, DrawsLabels, HaveOneKind};
 ghost use Rattle.edit_engine.specs.Logs.{log_text};
 ghost use Rattle.edit_engine.specs.Places.{pair_at, placed_pair, selecting, unselecting, marking, unmarking, IsCrowded};
@@ -22,12 +24,14 @@ ghost use Rattle.edit_engine.specs.Views.{view_text};
 
 use crate::actions::{joins, run_command, types_on};
 use crate::answers::{Answer, ExecFault, LogFault, PlaceFault, ViewFault, ViewKind};
+use crate::following::{Following, LastChange};
 use crate::log::entry_lines;
 use crate::places::{node_at, pair_at, placed_pair};
 use crate::probe::probe_line;
 use crate::queries::{ask, is_enabled};
 use crate::views::{html_line, points_lines, stat_line, tree_lines};
 use command_gate::{Asks, Gate};
+use document_edits::DocumentEdit;
 use dom_model::Name;
 use edit_doc::{Arena, Doc, Pair, Point};
 use edit_query::Reply;
@@ -47,6 +51,8 @@ pub struct Editor {
     doc: Doc,
     // whether the edits of an insertText join the last entry
     typing: bool,
+    // for hosts that follow the document
+    following: Following,
 }
 
 impl Model for Editor {
@@ -56,9 +62,9 @@ impl Model for Editor {
 
     ghost coded = { value_code };
 
-    ghost view = { λ e. value_of e.doc e.typing };
+    ghost view = { λ e. value_of e.doc e.typing e.following };
 
-    ghost invariant = { λ e. IsResting e.doc e.typing };
+    ghost invariant = { λ e. IsResting e.doc e.typing e.following };
 }
 
 impl Editor {
@@ -69,9 +75,14 @@ impl Editor {
         requires loose { HasNoLoose arena }
         ensures made { IfOk result (λ e. e.editing ≡ new_editing arena undo_depth) }
         ensures needed { IfOk result (λ e. HoldsOnlyNeeded (document e)) }
+        ensures unchanged { IfOk result (λ e. e.following ≡ first_following) }
     {
         let doc = Doc::new(alloc, arena, undo_depth)?;
-        let editor = Editor { doc, typing: false };
+        let editor = Editor {
+            doc,
+            typing: false,
+            following: Following::new(),
+        };
         editor.kept_nodes();
         Ok(editor)
     }
@@ -97,6 +108,7 @@ impl Editor {
         ensures characters { KeepsCharacters name.now self.old.editing self.new.editing }
         ensures given_back { GivesBack name.now self.old.editing self.new.editing }
         ensures needed { HoldsOnlyNeeded (document self.new) }
+        ensures followed { CanFollow self.old self.new }
     {
         self.doc.valid();
         match Command::named(name) {
@@ -134,6 +146,7 @@ impl Editor {
         ensures characters { KeepsCharacters name.now self.old.editing self.new.editing }
         ensures given_back { GivesBack name.now self.old.editing self.new.editing }
         ensures needed { HoldsOnlyNeeded (document self.new) }
+        ensures followed { CanFollow self.old self.new }
     {
         self.doc.valid();
         if gate.denies(name.as_bytes()) {
@@ -150,8 +163,9 @@ impl Editor {
         command: Command,
         value: &[char],
     ) -> Result<Answer, ExecFault>
-        ensures { Tells result self.old.editing self.new.editing
+        ensures tells { Tells result self.old.editing self.new.editing
             (command_outcome self.old.editing value.now command) }
+        ensures followed { CanFollow self.old self.new }
     {
         if !is_enabled(&self.doc, command) {
             return Ok(Answer::No);
@@ -164,14 +178,17 @@ impl Editor {
 
     // Runs a command.
     fn run(&mut self, alloc: Global, command: Command, value: &[char]) -> Result<Answer, ExecFault>
-        ensures { Tells result self.old.editing self.new.editing
+        ensures tells { Tells result self.old.editing self.new.editing
             (run_outcome self.old.editing command (action_of command value.now)) }
+        ensures followed { CanFollow self.old self.new }
     {
         self.doc.valid();
         let joining = joins(self.typing, command);
+        let kept = if joining { self.doc.edits() } else { 0 };
         match run_command(alloc, &mut self.doc, joining, command, value) {
             Ok(Some(committed)) => {
                 self.typing = types_on(self.typing, command, committed);
+                self.following = self.following.commit(committed, kept);
                 Ok(Answer::Yes)
             }
             Ok(None) => Ok(Answer::No),
@@ -188,9 +205,10 @@ impl Editor {
 
     /// Selects from the anchor to the focus. It takes no memory.
     pub fn select(&mut self, anchor: &Place, focus: &Place) -> Result<(), PlaceFault>
-        ensures { MatchOption (pair_at self.old.editing.state.trees anchor.now focus.now)
+        ensures selected { MatchOption (pair_at self.old.editing.state.trees anchor.now focus.now)
             ((result ≡ Err PlaceFault.BadPlace) × (self.new ≡ self.old))
             (λ pair. (result ≡ Ok tt) × (self.new.editing ≡ selecting self.old.editing pair)) }
+        ensures following { self.new.following ≡ self.old.following }
     {
         let pair = pair_at(&self.doc, anchor, focus);
         self.select_pair(pair)
@@ -200,9 +218,10 @@ impl Editor {
     /// no memory, and its cost grows with the depth of the nodes and, in an element, with the
     /// children before the offset.
     pub fn select_points(&mut self, anchor: Point, focus: Point) -> Result<(), PlaceFault>
-        ensures { MatchOption (placed_pair self.old.editing.state.trees anchor focus)
+        ensures selected { MatchOption (placed_pair self.old.editing.state.trees anchor focus)
             ((result ≡ Err PlaceFault.BadPlace) × (self.new ≡ self.old))
             (λ pair. (result ≡ Ok tt) × (self.new.editing ≡ selecting self.old.editing pair)) }
+        ensures following { self.new.following ≡ self.old.following }
     {
         let pair = placed_pair(&self.doc, anchor, focus);
         self.select_pair(pair)
@@ -211,9 +230,10 @@ impl Editor {
     // Selects a pair, if there is one.
     fn select_pair(&mut self, pair: Option<Pair>) -> Result<(), PlaceFault>
         requires { IfSome pair (IsPlacedPair self.old.editing.state.trees) }
-        ensures { MatchOption pair
+        ensures selected { MatchOption pair
             ((result ≡ Err PlaceFault.BadPlace) × (self.new ≡ self.old))
             (λ pair. (result ≡ Ok tt) × (self.new.editing ≡ selecting self.old.editing pair)) }
+        ensures following { self.new.following ≡ self.old.following }
     {
         match pair {
             Some(pair) => {
@@ -227,7 +247,8 @@ impl Editor {
 
     /// Gives up the selection.
     pub fn unselect(&mut self)
-        ensures { self.new.editing ≡ unselecting self.old.editing }
+        ensures unselected { self.new.editing ≡ unselecting self.old.editing }
+        ensures following { self.new.following ≡ self.old.following }
     {
         self.doc.unselect();
         self.typing = false;
@@ -246,6 +267,7 @@ impl Editor {
         ensures crowded { IsCrowded self.old.editing name.now →
             (result ≡ Err PlaceFault.BadPlace) ⊎ (result ≡ Err PlaceFault.TooManyMarks) }
         ensures err { OnErr result (self.new ≡ self.old) }
+        ensures following { self.new.following ≡ self.old.following }
     {
         let pair = pair_at(&self.doc, anchor, focus);
         self.mark_pair(name, pair)
@@ -269,6 +291,7 @@ impl Editor {
         ensures crowded { IsCrowded self.old.editing name.now →
             (result ≡ Err PlaceFault.BadPlace) ⊎ (result ≡ Err PlaceFault.TooManyMarks) }
         ensures err { OnErr result (self.new ≡ self.old) }
+        ensures following { self.new.following ≡ self.old.following }
     {
         let pair = placed_pair(&self.doc, anchor, focus);
         self.mark_pair(name, pair)
@@ -285,6 +308,7 @@ impl Editor {
         ensures crowded { IsCrowded self.old.editing name.now →
             (result ≡ Err PlaceFault.BadPlace) ⊎ (result ≡ Err PlaceFault.TooManyMarks) }
         ensures err { OnErr result (self.new ≡ self.old) }
+        ensures following { self.new.following ≡ self.old.following }
     {
         match pair {
             Some(pair) => {
@@ -300,6 +324,7 @@ impl Editor {
     pub fn unmark(&mut self, name: &Name) -> bool
         ensures answer { result ≡ has_mark name.now self.old.editing.state.points }
         ensures unmarked { self.new.editing ≡ unmarking self.old.editing name.now }
+        ensures following { self.new.following ≡ self.old.following }
     {
         self.typing = false;
         self.doc.unset_mark(name.as_slice())
@@ -312,10 +337,13 @@ impl Editor {
         ensures labels { KeepsLabels self.old.editing self.new.editing }
         ensures needed { HoldsOnlyNeeded (document self.new) }
         ensures count { steps.new ≡ steps.old + first_edits self.old.editing.history.undo }
+        ensures followed { CanFollow self.old self.new }
     {
         self.labels_last();
+        self.doc.valid();
         let taken = self.doc.undo(steps);
         self.typing &= !taken;
+        self.following = self.following.undo(taken);
         self.kept_nodes();
         taken
     }
@@ -327,12 +355,37 @@ impl Editor {
         ensures labels { KeepsLabels self.old.editing self.new.editing }
         ensures needed { HoldsOnlyNeeded (document self.new) }
         ensures count { steps.new ≡ steps.old + first_edits self.old.editing.history.redo }
+        ensures followed { CanFollow self.old self.new }
     {
         self.labels_last();
+        self.doc.valid();
         let taken = self.doc.redo(steps);
         self.typing &= !taken;
+        self.following = self.following.redo(taken);
         self.kept_nodes();
         taken
+    }
+
+    /// How many calls of exec, undo and redo changed something. A host that follows the document
+    /// sees by it whether a call did, and whether it missed one.
+    pub fn revision(&self) -> u64
+        ensures { result ≡ self.now.following.revision }
+    {
+        self.following.revision
+    }
+
+    /// What the last call of exec, undo or redo that changed something changed in the document: edits
+    /// by the labels of nodes, from the first to the last. A tree that was the document before that
+    /// call, and follows them, is the document after it. The steps of the call are taken back and
+    /// made again to be read; where memory runs out too.
+    pub fn changes(&mut self, alloc: Global) -> Result<Vec<DocumentEdit>, AllocError>
+        ensures told { IfOk result (λ edits. edits.items ≡ changes_of self.old) }
+        ensures stays { self.new ≡ self.old }
+    {
+        match self.following.last {
+            LastChange::Made { kept } => self.doc.changes(alloc, kept),
+            LastChange::Undone => self.doc.undone_changes(alloc),
+        }
     }
 
     /// What is printed of the editor, in whole lines. A path that names no node is refused before

@@ -2,6 +2,7 @@
 
 ghost use Rattle.std.specs.Prelude.{◌≡◌, ◌↔◌, ◌<◌, IsTrue, length};
 ghost use Rattle.edit_doc.specs.Kept.{HoldsOnlyNeeded};
+ghost use Rattle.edit_engine.specs.Changes.{CanFollow};
 ghost use Rattle.edit_engine.specs.Editing.{document};
 ghost use Rattle.edit_engine.specs.Labels.{KeepsLabels};
 ghost use Rattle.edit_engine.specs.Turning.{entries_of, turned_by};
@@ -29,6 +30,7 @@ impl Editor {
         ensures turned { self.new.editing ≡ turned_by turn self.old.editing }
         ensures labels { KeepsLabels self.old.editing self.new.editing }
         ensures needed { HoldsOnlyNeeded (document self.new) }
+        ensures followed { CanFollow self.old self.new }
     {
         let mut steps = Steps::<L>::open(blank);
         match turn {
@@ -44,6 +46,7 @@ impl Editor {
         ensures turned { self.new.editing ≡ turned_by turn self.old.editing }
         ensures labels { KeepsLabels self.old.editing self.new.editing }
         ensures needed { HoldsOnlyNeeded (document self.new) }
+        ensures followed { CanFollow self.old self.new }
     {
         self.turn_uncounted::<Brand>(turn, Blank::new(1))
     }

@@ -50,8 +50,7 @@ Leaves number (Some old) (Some new) told =
 
 -- the same of a call that changes nothing but what it answers in, a buffer or a record, which a
 -- closed handle leaves as it was
-abbrev pub Asks : {A : Type 0} → ℕ → Option Editing → (old new : A) → (Status → Editing → Type 0)
-    → Type 0
+abbrev pub Asks : {A E : Type 0} → ℕ → Option E → (old new : A) → (Status → E → Type 0) → Type 0
 Asks number None old new told = (number ≡ number_of Closed) × (new ≡ old)
 Asks number (Some e) old new told =
     (status : Status) × (number ≡ number_of status) × told status e

@@ -8,6 +8,7 @@ ghost use Rattle.std.specs.Option.{option_map};
 ghost use Rattle.edit_engine.specs.Editing.{undone, redone};
 ghost use Rattle.edit_engine.specs.Places.{unselecting};
 ghost use Rattle.hedit_c.specs.Calls.{editing_of, Leaves, Asks, Opens, ExecTells, GatedTells, QueryTells, ViewTells, SelectTells, MarkTells, UnmarkTells, pair_there, pair_of_points, place, point, taken_status, unselect_status};
+ghost use Rattle.hedit_c.specs.Following.{Between, StaysFollowed, KeepsFollowing, ChangesTell, RevisionTells};
 ghost use Rattle.node_texts.specs.NodeHtml.{node_html};
 ghost use Rattle.hedit_c.specs.Nodes.{NodeTells, LabelTells, PathTells, name_text, value_text, TextTells, attribute_name, attribute_value, AttributeTells, SelectionTells, NumbersTell};
 ghost use Rattle.hedit_c.specs.Statuses.{number_of};
@@ -15,6 +16,7 @@ ghost use Rattle.hedit_c.specs.Subtrees.{SubtreeTells, FindTells, plain_bytes};
 
 mod acts;
 mod answers;
+mod following;
 mod handle;
 mod nodes;
 mod opening;
@@ -26,6 +28,7 @@ mod texts;
 use acts::{exec, exec_gated, mark, mark_points, redo, select, select_points, undo, unmark};
 use answers::{query, view};
 use edit_doc::Point;
+use following::{changes, revision};
 use handle::Handle;
 use nodes::{
     NodeFacts, NumberFacts, SelectionFacts, attribute_name, attribute_value, label_at, node,
@@ -72,8 +75,9 @@ pub extern "C" fn hedit_close(alloc: Global, editor: &mut Handle)
 /// Executes the command that a name names, in any case, with a value in UTF-8.
 #[unsafe(no_mangle)]
 pub extern "C" fn hedit_exec(alloc: Global, editor: &mut Handle, name: &[u8], value: &[u8]) -> u32
-    ensures { Leaves result (editing_of editor.old.value) (editing_of editor.new.value)
+    ensures told { Leaves result (editing_of editor.old.value) (editing_of editor.new.value)
         (λ status old new. ExecTells status old new name.now value.now) }
+    ensures followed { StaysFollowed editor.old.value editor.new.value }
 {
     let Some(mut held) = editor.take(alloc) else {
         return Status::Closed.number();
@@ -94,8 +98,9 @@ pub extern "C" fn hedit_exec_gated(
     name: &[u8],
     value: &[u8],
 ) -> u32
-    ensures { Leaves result (editing_of editor.old.value) (editing_of editor.new.value)
+    ensures told { Leaves result (editing_of editor.old.value) (editing_of editor.new.value)
         (λ status old new. GatedTells status old new denied.now name.now value.now) }
+    ensures followed { StaysFollowed editor.old.value editor.new.value }
 {
     let Some(mut held) = editor.take(alloc) else {
         return Status::Closed.number();
@@ -111,6 +116,7 @@ pub extern "C" fn hedit_undo(alloc: Global, editor: &mut Handle) -> u32
     ensures status { result
         ≡ number_of (taken_status (editing_of editor.old.value) (λ e. e.history.undo)) }
     ensures undone { editing_of editor.new.value ≡ option_map undone (editing_of editor.old.value) }
+    ensures followed { StaysFollowed editor.old.value editor.new.value }
 {
     let Some(mut held) = editor.take(alloc) else {
         return Status::Closed.number();
@@ -126,6 +132,7 @@ pub extern "C" fn hedit_redo(alloc: Global, editor: &mut Handle) -> u32
     ensures status { result
         ≡ number_of (taken_status (editing_of editor.old.value) (λ e. e.history.redo)) }
     ensures redone { editing_of editor.new.value ≡ option_map redone (editing_of editor.old.value) }
+    ensures followed { StaysFollowed editor.old.value editor.new.value }
 {
     let Some(mut held) = editor.take(alloc) else {
         return Status::Closed.number();
@@ -146,9 +153,10 @@ pub extern "C" fn hedit_select(
     focus: &[u32],
     focus_offset: u32,
 ) -> u32
-    ensures { Leaves result (editing_of editor.old.value) (editing_of editor.new.value)
+    ensures told { Leaves result (editing_of editor.old.value) (editing_of editor.new.value)
         (λ status old new. SelectTells status old new (pair_there old
         (place anchor.now anchor_offset) (place focus.now focus_offset))) }
+    ensures following { Between editor.old.value editor.new.value KeepsFollowing }
 {
     let Some(mut held) = editor.take(alloc) else {
         return Status::Closed.number();
@@ -174,9 +182,10 @@ pub extern "C" fn hedit_select_points(
     focus: u32,
     focus_offset: u32,
 ) -> u32
-    ensures { Leaves result (editing_of editor.old.value) (editing_of editor.new.value)
+    ensures told { Leaves result (editing_of editor.old.value) (editing_of editor.new.value)
         (λ status old new. SelectTells status old new (pair_of_points old
         (point anchor anchor_offset) (point focus focus_offset))) }
+    ensures following { Between editor.old.value editor.new.value KeepsFollowing }
 {
     let Some(mut held) = editor.take(alloc) else {
         return Status::Closed.number();
@@ -196,6 +205,7 @@ pub extern "C" fn hedit_unselect(alloc: Global, editor: &mut Handle) -> u32
     ensures status { result ≡ number_of (unselect_status (editing_of editor.old.value)) }
     ensures unselected { editing_of editor.new.value
         ≡ option_map unselecting (editing_of editor.old.value) }
+    ensures following { Between editor.old.value editor.new.value KeepsFollowing }
 {
     let Some(mut held) = editor.take(alloc) else {
         return Status::Closed.number();
@@ -216,9 +226,10 @@ pub extern "C" fn hedit_mark(
     focus: &[u32],
     focus_offset: u32,
 ) -> u32
-    ensures { Leaves result (editing_of editor.old.value) (editing_of editor.new.value)
+    ensures told { Leaves result (editing_of editor.old.value) (editing_of editor.new.value)
         (λ status old new. MarkTells status old new name.now (pair_there old
         (place anchor.now anchor_offset) (place focus.now focus_offset))) }
+    ensures following { Between editor.old.value editor.new.value KeepsFollowing }
 {
     let Some(mut held) = editor.take(alloc) else {
         return Status::Closed.number();
@@ -246,9 +257,10 @@ pub extern "C" fn hedit_mark_points(
     focus: u32,
     focus_offset: u32,
 ) -> u32
-    ensures { Leaves result (editing_of editor.old.value) (editing_of editor.new.value)
+    ensures told { Leaves result (editing_of editor.old.value) (editing_of editor.new.value)
         (λ status old new. MarkTells status old new name.now (pair_of_points old
         (point anchor anchor_offset) (point focus focus_offset))) }
+    ensures following { Between editor.old.value editor.new.value KeepsFollowing }
 {
     let Some(mut held) = editor.take(alloc) else {
         return Status::Closed.number();
@@ -267,8 +279,9 @@ pub extern "C" fn hedit_mark_points(
 /// Takes the mark of a name out.
 #[unsafe(no_mangle)]
 pub extern "C" fn hedit_unmark(alloc: Global, editor: &mut Handle, name: &[u8]) -> u32
-    ensures { Leaves result (editing_of editor.old.value) (editing_of editor.new.value)
+    ensures told { Leaves result (editing_of editor.old.value) (editing_of editor.new.value)
         (λ status old new. UnmarkTells status old new name.now) }
+    ensures following { Between editor.old.value editor.new.value KeepsFollowing }
 {
     let Some(mut held) = editor.take(alloc) else {
         return Status::Closed.number();
@@ -320,6 +333,42 @@ pub extern "C" fn hedit_view(
         return Status::Closed.number();
     };
     let status = view(alloc, &held, kind, buffer, length);
+    editor.put(held);
+    status.number()
+}
+
+/// How many calls of `hedit_exec`, `hedit_undo` and their kind changed something.
+#[unsafe(no_mangle)]
+pub extern "C" fn hedit_revision(alloc: Global, editor: &mut Handle, number: &mut u64) -> u32
+    ensures stays { editor.new.value ≡ editor.old.value }
+    ensures told { Asks result editor.old.value number.old number.new
+        (λ status v. RevisionTells status v number.new) }
+{
+    let Some(held) = editor.take(alloc) else {
+        return Status::Closed.number();
+    };
+    let status = revision(&held, number);
+    editor.put(held);
+    status.number()
+}
+
+/// Puts what the last call that changed something changed in the document into the buffer, packed:
+/// edits by the labels of nodes.
+#[unsafe(no_mangle)]
+pub extern "C" fn hedit_changes(
+    alloc: Global,
+    editor: &mut Handle,
+    buffer: &mut [u8],
+    length: &mut usize,
+) -> u32
+    ensures stays { editor.new.value ≡ editor.old.value }
+    ensures told { Asks result editor.old.value buffer.old buffer.new
+        (λ status v. ChangesTell status v buffer.old buffer.new length.new) }
+{
+    let Some(mut held) = editor.take(alloc) else {
+        return Status::Closed.number();
+    };
+    let status = changes(alloc, &mut held, buffer, length);
     editor.put(held);
     status.number()
 }

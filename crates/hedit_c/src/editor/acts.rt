@@ -1,8 +1,10 @@
 //! Calls that change an editor.
 
 ghost use Rattle.std.specs.Prelude.{◌≡◌, nat_lt, length};
+ghost use Rattle.edit_engine.specs.Changes.{CanFollow};
 ghost use Rattle.edit_engine.specs.Editing.{Editing, undone, redone};
 ghost use Rattle.edit_engine.specs.Execution.{Outcome, Tells, outcome, gated_outcome};
+ghost use Rattle.hedit_c.specs.Following.{KeepsFollowing};
 ghost use Rattle.std.specs.Str.{chars};
 ghost use Rattle.hedit_c.specs.Calls.{ExecAnswers, ExecTells, GatedTells, SelectTells, MarkTells, UnmarkTells, pair_there, pair_of_points, place, selected_status};
 
@@ -31,15 +33,17 @@ fn answered(answer: Result<Answer, ExecFault>) -> Status
 }
 
 fn exec_chars(alloc: Global, editor: &mut Editor, name: &str, value: &Chars) -> Status
-    ensures { ExecAnswers result editor.old.editing editor.new.editing
+    ensures told { ExecAnswers result editor.old.editing editor.new.editing
         (outcome editor.old.editing name.now value.now) }
+    ensures followed { CanFollow editor.old editor.new }
 {
     answered(editor.exec(alloc, name, value.as_slice()))
 }
 
 fn exec_text(alloc: Global, editor: &mut Editor, name: &str, value: &str) -> Status
-    ensures { ExecAnswers result editor.old.editing editor.new.editing
+    ensures told { ExecAnswers result editor.old.editing editor.new.editing
         (outcome editor.old.editing name.now (chars value.now)) }
+    ensures followed { CanFollow editor.old editor.new }
 {
     match Chars::from_text(alloc, value) {
         Ok(value) => exec_chars(alloc, editor, name, &value),
@@ -49,7 +53,8 @@ fn exec_text(alloc: Global, editor: &mut Editor, name: &str, value: &str) -> Sta
 
 /// Executes a command by its name and its value, both in UTF-8.
 pub(crate) fn exec(alloc: Global, editor: &mut Editor, name: &[u8], value: &[u8]) -> Status
-    ensures { ExecTells result editor.old.editing editor.new.editing name.now value.now }
+    ensures told { ExecTells result editor.old.editing editor.new.editing name.now value.now }
+    ensures followed { CanFollow editor.old editor.new }
 {
     match (str::from_utf8(name), str::from_utf8(value)) {
         (Ok(name), Ok(value)) => exec_text(alloc, editor, name, value),
@@ -64,8 +69,9 @@ fn exec_past(
     name: &str,
     value: &str,
 ) -> Status
-    ensures { ExecAnswers result editor.old.editing editor.new.editing
+    ensures told { ExecAnswers result editor.old.editing editor.new.editing
         (gated_outcome gate.now editor.old.editing name.now (chars value.now)) }
+    ensures followed { CanFollow editor.old editor.new }
 {
     match Chars::from_text(alloc, value) {
         Ok(value) => answered(editor.exec_gated(alloc, gate, name, value.as_slice())),
@@ -81,7 +87,8 @@ pub(crate) fn exec_gated(
     name: &[u8],
     value: &[u8],
 ) -> Status
-    ensures { GatedTells result editor.old.editing editor.new.editing denied.now name.now value.now }
+    ensures told { GatedTells result editor.old.editing editor.new.editing denied.now name.now value.now }
+    ensures followed { CanFollow editor.old editor.new }
 {
     let (Ok(name), Ok(value)) = (str::from_utf8(name), str::from_utf8(value)) else {
         return Status::BadArgument;
@@ -97,6 +104,7 @@ pub(crate) fn exec_gated(
 pub(crate) fn undo(editor: &mut Editor) -> bool
     ensures answer { result ≡ nat_lt 0 (length editor.old.editing.history.undo) }
     ensures undone { editor.new.editing ≡ undone editor.old.editing }
+    ensures followed { CanFollow editor.old editor.new }
 {
     editor.turn(Turn::Undo)
 }
@@ -105,6 +113,7 @@ pub(crate) fn undo(editor: &mut Editor) -> bool
 pub(crate) fn redo(editor: &mut Editor) -> bool
     ensures answer { result ≡ nat_lt 0 (length editor.old.editing.history.redo) }
     ensures redone { editor.new.editing ≡ redone editor.old.editing }
+    ensures followed { CanFollow editor.old editor.new }
 {
     editor.turn(Turn::Redo)
 }
@@ -123,16 +132,18 @@ fn selected(answer: Result<(), PlaceFault>) -> Status
 
 // Selects from one place to another.
 fn select_places(editor: &mut Editor, anchor: &Place, focus: &Place) -> Status
-    ensures { SelectTells result editor.old.editing editor.new.editing
+    ensures told { SelectTells result editor.old.editing editor.new.editing
         (pair_there editor.old.editing anchor.now focus.now) }
+    ensures following { KeepsFollowing editor.old editor.new }
 {
     selected(editor.select(anchor, focus))
 }
 
 // Gives a name to what is between two places.
 fn mark_places(editor: &mut Editor, name: &Name, anchor: &Place, focus: &Place) -> Status
-    ensures { MarkTells result editor.old.editing editor.new.editing name.now
+    ensures told { MarkTells result editor.old.editing editor.new.editing name.now
         (pair_there editor.old.editing anchor.now focus.now) }
+    ensures following { KeepsFollowing editor.old editor.new }
 {
     selected(editor.mark(name, anchor, focus))
 }
@@ -144,9 +155,10 @@ pub(crate) fn select(
     anchor: (&[u32], u32),
     focus: (&[u32], u32),
 ) -> Status
-    ensures { SelectTells result editor.old.editing editor.new.editing
+    ensures told { SelectTells result editor.old.editing editor.new.editing
         (pair_there editor.old.editing (place anchor.entry.0.now anchor.entry.1)
         (place focus.entry.0.now focus.entry.1)) }
+    ensures following { KeepsFollowing editor.old editor.new }
 {
     let Ok(anchor) = place_of(alloc, anchor.0, anchor.1) else {
         return Status::Memory;
@@ -159,8 +171,9 @@ pub(crate) fn select(
 
 /// Selects from one point to another.
 pub(crate) fn select_points(editor: &mut Editor, anchor: Point, focus: Point) -> Status
-    ensures { SelectTells result editor.old.editing editor.new.editing
+    ensures told { SelectTells result editor.old.editing editor.new.editing
         (pair_of_points editor.old.editing anchor focus) }
+    ensures following { KeepsFollowing editor.old editor.new }
 {
     selected(editor.select_points(anchor, focus))
 }
@@ -173,9 +186,10 @@ pub(crate) fn mark(
     anchor: (&[u32], u32),
     focus: (&[u32], u32),
 ) -> Status
-    ensures { MarkTells result editor.old.editing editor.new.editing name.now
+    ensures told { MarkTells result editor.old.editing editor.new.editing name.now
         (pair_there editor.old.editing (place anchor.entry.0.now anchor.entry.1)
         (place focus.entry.0.now focus.entry.1)) }
+    ensures following { KeepsFollowing editor.old editor.new }
 {
     let Ok(name) = Name::from_slice(alloc, name) else {
         return Status::Memory;
@@ -197,8 +211,9 @@ pub(crate) fn mark_points(
     anchor: Point,
     focus: Point,
 ) -> Status
-    ensures { MarkTells result editor.old.editing editor.new.editing name.now
+    ensures told { MarkTells result editor.old.editing editor.new.editing name.now
         (pair_of_points editor.old.editing anchor focus) }
+    ensures following { KeepsFollowing editor.old editor.new }
 {
     match Name::from_slice(alloc, name) {
         Ok(name) => selected(editor.mark_points(&name, anchor, focus)),
@@ -208,7 +223,8 @@ pub(crate) fn mark_points(
 
 /// Takes the mark of a name out.
 pub(crate) fn unmark(alloc: Global, editor: &mut Editor, name: &[u8]) -> Status
-    ensures { UnmarkTells result editor.old.editing editor.new.editing name.now }
+    ensures told { UnmarkTells result editor.old.editing editor.new.editing name.now }
+    ensures following { KeepsFollowing editor.old editor.new }
 {
     match Name::from_slice(alloc, name) {
         Ok(name) => Status::answer(editor.unmark(&name)),
