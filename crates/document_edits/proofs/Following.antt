@@ -72,8 +72,8 @@ unfolding replaced forth followed
 replaced_follows d n old words are =
     let at = shared_start old words in
     let same = shared_end (drop at old) (drop at words) in
-    let taken = length old - at - same in
-    let put = take (length words - at - same) (drop at words) in
+    let taken = length (drop at old) - same in
+    let put = take (length (drop at words) - same) (drop at words) in
     elim (true_or_false (eqb at (length old) && eqb at (length words))) [
       | inl t ↦ rw t (sym (revised-same d n (with_chars words) (λ s st. content_kept s.content old words (are s st) (same-shared old words t))))
       | inr t ↦ rw t (revised-alike d n (with_spliced at taken put) (with_chars words) (λ s st. content_spliced s.content old words at taken put (are s st) (spliced-shared old words at same refl refl)))

@@ -4,3 +4,4 @@ pub mod Pruned
 pub mod Documents
 pub mod Splicing
 pub mod Following
+pub mod Sharing
