@@ -1,5 +1,5 @@
 -- The edits that changes are told as lead from each document to the next.
-use Rattle.std.proofs.Common.{◌≡◌, ◌≢◌, ℕ, zero, suc, ◌<◌, ◌-◌, ◌&&◌, Bool, true, false, true≢false, cond, List, [], ◌∷◌, ◌++◌, length, take, drop, Option, Some, None, IsSome, unwrap_or, refl, sym, ap, subst, ◌∙◌, inl, inr, arith, eqb, nat_lt}
+use Rattle.std.proofs.Common.{◌≡◌, ℕ, zero, suc, ◌<◌, ◌-◌, ◌&&◌, Bool, true, false, true≢false, cond, List, [], ◌∷◌, length, take, drop, Option, Some, None, IsSome, unwrap_or, refl, sym, ap, subst, ◌∙◌, inl, inr, arith, eqb, nat_lt}
 use Rattle.std.proofs.lemmas.Bool.Decides.{nat_tests}
 use Rattle.std.specs.Option.{option_map, option_and_then}
 use Rattle.dom_model.specs.declared.Content.{Content}
@@ -20,7 +20,7 @@ use Rattle.undo_log.specs.Turning.{forth, FitsForth}
 use Rattle.point_order.specs.PointOrder.{is_in_document}
 use Rattle.forest_changes.specs.Change.{IsForest, Fits, applied}
 use Rattle.forest_changes.proofs.Contents.{chars_there}
-use Rattle.forest_changes.proofs.Twice.{given_parent, IsForest-applied}
+use Rattle.forest_changes.proofs.Twice.{given_parent}
 use Rattle.document_edits.specs.declared.edit.DocumentEdit.{DocumentEdit}
 use Rattle.document_edits.specs.declared.edit.DocumentEdit.TheVariants.{Remove, SetAttributes}
 use Rattle.document_edits.specs.Followed.{followed, spliced, with_spliced}
@@ -140,8 +140,8 @@ at_document (change.Move n p b) c ks rest h =
     let child = given_parent f n h.here.0 in
     let positive = inner f n h.forest h.here.0 in
     let linked : tree_of (link (unlink f n) p b n) 0 ≡ put_under (without d n) p b (tree_of f n) =
-        (λ i. tree_of (put_under (without-unlink f q n once child i) p b (tree_of-unlink f q n once child i)) 0)
-        ∙ document-link c ks rest n positive p b in
+    (λ i. tree_of (put_under (without-unlink f q n once child i) p b (tree_of-unlink f q n once child i)) 0)
+    ∙ document-link c ks rest n positive p b in
     told_move_follows c ks rest n p b positive once (is_in_document f n) (is_in_document f p)
     (some_of (count_of d n)) (none_of (count_of d n)) (none_of (count_of d p))
     ∙ sym linked

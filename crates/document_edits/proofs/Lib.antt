@@ -5,3 +5,4 @@ pub mod Documents
 pub mod Splicing
 pub mod Following
 pub mod Sharing
+pub mod Undoing

@@ -27,7 +27,7 @@ drop-reverse xs k le =
     let r = reverse xs in
     let front = reverse (drop k r) in
     let parts : xs ≡ front ++ reverse (take k r) =
-        sym (reverse-reverse xs) ∙ (ap reverse (sym (take-append-drop k r)) ∙ reverse-append (take k r) (drop k r)) in
+    sym (reverse-reverse xs) ∙ (ap reverse (sym (take-append-drop k r)) ∙ reverse-append (take k r) (drop k r)) in
     let long : length xs - k ≡ length front = omega (arith, length-reverse (drop k r), length-drop k r, length-reverse xs) in
     (λ i. drop (long i) (parts i)) ∙ drop-append_seam front (reverse (take k r))
 
@@ -54,8 +54,8 @@ spliced-shared old new at same start end =
     let come = drop at new in
     let front : take at old ≡ take at new = ap (λ k. take k old) start ∙ (take-shared old new ∙ ap (λ k. take k new) (sym start)) in
     let rest : drop (at + (length gone - same)) old ≡ drop (length come - same) come =
-        sym (drop-drop (length gone - same) at old)
-        ∙ (ap (λ k. drop (length gone - k) gone) end ∙ (drop-shared gone come ∙ ap (λ k. drop (length come - k) come) (sym end))) in
+    sym (drop-drop (length gone - same) at old)
+    ∙ (ap (λ k. drop (length gone - k) gone) end ∙ (drop-shared gone come ∙ ap (λ k. drop (length come - k) come) (sym end))) in
     (λ i. front i ++ (take (length come - same) come ++ rest i))
     ∙ (ap (λ w. take at new ++ w) (take-append-drop (length come - same) come) ∙ take-append-drop at new)
 
@@ -65,7 +65,7 @@ pub replaced_none : (node at : ℕ) (old new : List ℕ) → at ≡ shared_start
 unfolding replaced
 replaced_none node at old new start long longer =
     let t : (eqb (shared_start old new) (length old) && eqb (shared_start old new) (length new)) ≡ true =
-        rw (← start, ← long, ← longer) (rw (eqb_refl_true at) refl) in
+    rw (← start, ← long, ← longer) (rw (eqb_refl_true at) refl) in
     rw t refl
 
 -- the rest of a text, as a part of it that ends with it
@@ -81,13 +81,13 @@ replaced_some node at same old new put start other end told =
     let gone = take (length old - at) (drop at old) in
     let come = take (length new - at) (drop at new) in
     let whole : Replace node at (length gone - same) put ≡ replaced_at node at gone come =
-        (λ i. Replace node at (length gone - end i) (told i))
-        ∙ ap (λ k. Replace node at (length gone - shared_end gone come) (take (length come - k) come)) end in
+    (λ i. Replace node at (length gone - end i) (told i))
+    ∙ ap (λ k. Replace node at (length gone - shared_end gone come) (take (length come - k) come)) end in
     let t : (eqb (shared_start old new) (length old) && eqb (shared_start old new) (length new)) ≡ false =
-        rw (← start) (apart at (length old) (length new) other) in
+    rw (← start) (apart at (length old) (length new) other) in
     rw t (ap Some (whole
-      ∙ ((λ i. replaced_at node at (rest_of at old i) (rest_of at new i))
-      ∙ ap (λ k. replaced_at node k (drop k old) (drop k new)) start)))
+    ∙ ((λ i. replaced_at node at (rest_of at old i) (rest_of at new i))
+    ∙ ap (λ k. replaced_at node k (drop k old) (drop k new)) start)))
   where
     apart : (a b c : ℕ) → (a ≡ b → a ≡ c → ⊥) → (eqb a b && eqb a c) ≡ false
     apart a b c off = grind (arith, nat_tests)
