@@ -1,12 +1,15 @@
 -- What the steps of an entry tell is what the entry tells from the document before it on.
-use Rattle.std.proofs.Common.{◌≡◌, ℕ, zero, suc, ◌<◌, Bool, List, [], ◌∷◌, ◌++◌, take, drop, map, Option, refl, sym, ap, subst, ◌∙◌, arith}
+use Rattle.std.proofs.Common.{◌≡◌, ℕ, zero, suc, ◌<◌, Bool, true, List, [], ◌∷◌, ◌++◌, take, drop, map, reverse, Option, refl, sym, ap, subst, ◌∙◌, arith}
+use Rattle.std.proofs.lemmas.List.{map-append, reverse-append}
 use Rattle.dom_model.specs.declared.Content.{Content}
 use Rattle.dom_model.specs.Forest.{Forest, count_of}
 use Rattle.dom_model.specs.Pruned.{pruned}
-use Rattle.dom_model.specs.ArenaState.{IsValid as IsArena}
-use Rattle.undo_log.specs.Log.{noted, first_entry}
+use Rattle.dom_model.specs.ArenaState.{ArenaState as Arena, IsValid as IsArena}
+use Rattle.undo_log.specs.Log.{noted, first_entry, FitsUndo, FitsRedo}
 use Rattle.undo_log.specs.Log.Open.{Closed}
-use Rattle.undo_log.specs.Turning.{back, forth, inverses_back, FitsBack, FitsForth}
+use Rattle.undo_log.specs.Turning.{back, forth, inverses_back, inverses_forth, FitsBack, FitsForth}
+use Rattle.undo_log.specs.Watching.{SeenMade, SeenUndone}
+use Rattle.undo_log.proofs.Turns.{FitsBack-past}
 use Rattle.forest_changes.specs.Change.{Change, IsForest, Fits, applied, inverse}
 use Rattle.forest_changes.specs.Down.{Prunes, IsLeft, GoForthDown}
 use Rattle.forest_changes.specs.Named.{Each, named, named_in}
@@ -14,7 +17,10 @@ use Rattle.forest_changes.proofs.ChangeLists.{each_of, each_first, each_rest, ba
 use Rattle.forest_changes.proofs.DownChange.{down}
 use Rattle.forest_changes.proofs.Twice.{turns, back_turns, forest_of}
 use Rattle.edit_steps.specs.declared.step.Step.{Step}
-use Rattle.edit_steps.specs.Step.{changes_of}
+use Rattle.edit_steps.specs.Step.{change_of, changes_of, step_applied, step_inverse, StepFits}
+use Rattle.edit_steps.proofs.StepLists.{go_back, go_forth}
+use Rattle.step_edits.specs.Recorded.{Recorded, Records}
+use Rattle.step_edits.proofs.Recording.{recorded}
 use Rattle.document_edits.specs.declared.edit.DocumentEdit.{DocumentEdit}
 use Rattle.document_edits.specs.Told.{told_all, told_back}
 use Rattle.document_edits.proofs.Pruned.{told_all-pruned}
@@ -35,6 +41,44 @@ use Rattle.edit_doc.proofs.Inner.{seen, Ok}
 use Rattle.edit_doc.proofs.MadeApart.{is_unnamed, begins, prunes_unnamed, names_detached}
 use Rattle.edit_doc.proofs.Rests.{none_noted}
 use Rattle.edit_doc.proofs.Turnings.{prunes_before, prunes_after}
+
+-- ---- what a recorder has seen
+
+map-reverse : {A B : Type 0} (g : A → B) (xs : List A) → map g (reverse xs) ≡ reverse (map g xs)
+map-reverse g [] = refl
+map-reverse g (x ∷ xs) =
+    ap (map g) (reverse-append (x ∷ []) xs)
+    ∙ (map-append g (reverse xs) (x ∷ [])
+    ∙ (ap (λ ys. ys ++ g x ∷ []) (map-reverse g xs) ∙ sym (reverse-append (g x ∷ []) (map g xs))))
+
+fits_first : (k : ℕ) (es : List (List Step)) (a : Arena) → FitsUndo step_applied StepFits es a → FitsBack step_applied StepFits (drop k (first_entry es)) a
+unfolding FitsBack
+fits_first zero [] a h = tt
+fits_first (suc k) [] a h = tt
+fits_first k (e ∷ es) a h = FitsBack-past step_applied StepFits k e a h
+
+fits_again : (es : List (List Step)) (a : Arena) → FitsRedo step_applied StepFits es a → FitsForth step_applied StepFits (first_entry es) a
+unfolding FitsForth
+fits_again [] a h = tt
+fits_again (e ∷ es) a h = h
+
+pub last_recorded : (k : ℕ) (es : List (List Step)) (a : Arena) (old new : Recorded) → old ≡ record { edits = []; whole = true } → FitsUndo step_applied StepFits es a
+    → SeenMade step_applied step_inverse Records (drop k (first_entry es)) a old new → new.whole ≡ true → new.edits ≡ steps_told k es a.trees
+last_recorded k es a old new none h sees whole =
+    let xs = drop k (first_entry es) in
+    let led = go_back xs a (fits_first k es a h) in
+    let all = recorded (inverses_back step_applied step_inverse xs a) (back step_applied xs a) old new sees whole in
+    all.1 ∙ (λ i. (none i).edits ++ told_all (led.turns i) (led.state i).trees)
+
+pub undone_recorded : (es : List (List Step)) (a : Arena) (old new : Recorded) → old ≡ record { edits = []; whole = true } → FitsRedo step_applied StepFits es a
+    → SeenUndone step_applied step_inverse Records (first_entry es) a old new → new.whole ≡ true → new.edits ≡ steps_told_back es a.trees
+undone_recorded es a old new none h sees whole =
+    let xs = first_entry es in
+    let led = go_forth xs a (fits_again es a h) in
+    let all = recorded (reverse (inverses_forth step_applied step_inverse xs a)) (forth step_applied xs a) old new sees whole in
+    let turned : changes_of (reverse (inverses_forth step_applied step_inverse xs a)) ≡ reverse (inverses_forth applied inverse (changes_of xs) a.trees) =
+        map-reverse change_of (inverses_forth step_applied step_inverse xs a) ∙ ap reverse led.turns in
+    all.1 ∙ (λ i. (none i).edits ++ told_all (turned i) (led.state i).trees)
 
 -- ---- changes past the first k of them
 
@@ -148,7 +192,7 @@ module _ (held : List (Option ℕ)) (names : List (List ℕ)) (c : Command) wher
       ∙ (told_past k ys f h.0.0 ∙ sym (told_at_begin b.span.first_label (inverses_back applied inverse ys f) (forest_before e f) b' k))
 
   redo_told : (f : Forest Content) (es : List (List Step)) (bs : List EntrySnapshot) → RedoSound held names c f es bs → IsForest f → steps_told_back es f ≡ changes_undone (redo_entries names f es bs)
-  unfolding told_back told_all
+  unfolding told_all inverses_forth
   redo_told f [] [] h is = refl
   redo_told f [] (b ∷ bs) h is = absurd h
   redo_told f (e ∷ es) [] h is = absurd h
