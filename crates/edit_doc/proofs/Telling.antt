@@ -23,14 +23,16 @@ use Rattle.step_edits.specs.Recorded.{Recorded, Records}
 use Rattle.step_edits.proofs.Recording.{recorded}
 use Rattle.document_edits.specs.declared.edit.DocumentEdit.{DocumentEdit}
 use Rattle.document_edits.specs.Told.{told_all, told_back}
+use Rattle.document_edits.specs.Followed.{followed}
+use Rattle.document_edits.proofs.Following.{told_all_follows}
 use Rattle.document_edits.proofs.Pruned.{told_all-pruned}
-use Rattle.document_edits.proofs.Undoing.{told_back-pruned}
+use Rattle.document_edits.proofs.Undoing.{told_back_follows, told_back-pruned}
 use Rattle.edit_model.specs.History.{Entry, used, document_of}
 use Rattle.node_arena.specs.declared.NodeRef.{NodeRef}
 use Rattle.edit_doc.specs.declared.Doc.TheInside.{Inside}
 use Rattle.edit_doc.specs.declared.command.Command.{Command}
 use Rattle.edit_doc.specs.declared.command.EntrySnapshot.{EntrySnapshot}
-use Rattle.edit_doc.specs.Changes.{changes_past, changes_undone, told_before, steps_told, steps_told_back}
+use Rattle.edit_doc.specs.Changes.{ChangesLead, UndoneLead, changes_past, changes_undone, told_before, steps_told, steps_told_back}
 use Rattle.edit_doc.specs.History.{roots_from, forest_before, forest_after, begun_forest, is_hidden, undo_entries, redo_entries}
 use Rattle.edit_doc.specs.Onward.{with_made}
 use Rattle.edit_doc.specs.Sound.{AreFresh, IsSnapshot, UndoSound, RedoSound, detached_of, next_first}
@@ -77,7 +79,7 @@ undone_recorded es a old new none h sees whole =
     let led = go_forth xs a (fits_again es a h) in
     let all = recorded (reverse (inverses_forth step_applied step_inverse xs a)) (forth step_applied xs a) old new sees whole in
     let turned : changes_of (reverse (inverses_forth step_applied step_inverse xs a)) ≡ reverse (inverses_forth applied inverse (changes_of xs) a.trees) =
-        map-reverse change_of (inverses_forth step_applied step_inverse xs a) ∙ ap reverse led.turns in
+    map-reverse change_of (inverses_forth step_applied step_inverse xs a) ∙ ap reverse led.turns in
     all.1 ∙ (λ i. (none i).edits ++ told_all (turned i) (led.state i).trees)
 
 -- ---- changes past the first k of them
@@ -200,6 +202,30 @@ module _ (held : List (Option ℕ)) (names : List (List ℕ)) (c : Command) wher
       let b' = begins_forth e f b _ _ _ _ is h.0.0 h.1.0 in
       sym (told_back_at_begin b.span.first_label (changes_of e) f b')
 
+-- ---- what they tell leads from one document to the other
+
+module _ (held : List (Option ℕ)) (names : List (List ℕ)) (c : Command) where
+  undo_leads : (r : Bool) (high : ℕ) (f : Forest Content) (es : List (List Step)) (bs : List EntrySnapshot) → UndoSound held names r c high f es bs → IsForest f → ChangesLead (undo_entries names f es bs)
+  unfolding forth
+  undo_leads r high f [] bs h is = tt
+  undo_leads r high f (e ∷ es) [] h is = absurd h
+  undo_leads r high f (e ∷ es) (b ∷ bs) h is =
+      let ys = changes_of e in
+      let xs = inverses_back applied inverse ys f in
+      let g = back applied ys f in
+      let b' = begins_back held names c e f b (detached_of r c b) high c.start is h.0.0 h.1.0 in
+      ap (λ us. forth followed us (document_of g)) (told_at_begin b.span.first_label xs g b' 0)
+      ∙ (told_all_follows xs g b'.fits ∙ ap document_of (back_turns ys f h.0.0).state)
+
+  redo_leads : (f : Forest Content) (es : List (List Step)) (bs : List EntrySnapshot) → RedoSound held names c f es bs → IsForest f → UndoneLead (redo_entries names f es bs)
+  redo_leads f [] bs h is = tt
+  redo_leads f (e ∷ es) [] h is = absurd h
+  redo_leads f (e ∷ es) (b ∷ bs) h is =
+      let xs = changes_of e in
+      let b' = begins_forth held names c e f b _ _ _ _ is h.0.0 h.1.0 in
+      ap (λ us. forth followed us (document_of (forth applied xs f))) (told_back_at_begin b.span.first_label xs f b')
+      ∙ told_back_follows xs f b'.fits
+
 module _ (d : Inside) (law : IsArena d.tree.nodes.arena) (closed : d.history.log.open_entry ≡ Closed) (ok : Ok d) where
   abbrev f : Forest Content
   f = begun_forest d.history.log d.tree.nodes.arena.trees
@@ -221,3 +247,13 @@ module _ (d : Inside) (law : IsArena d.tree.nodes.arena) (closed : d.history.log
       ap (steps_told_back d.history.log.redo) (sym is)
       ∙ (redo_told d.tree.nodes.arena.held d.tree.points.names d.command f d.history.log.redo d.history.future ok.redo forest
       ∙ ap (λ (w : Whole). changes_undone w.history.redo) sees)
+
+  pub last_leads : (v : Whole) → seen d ≡ v → ChangesLead v.history.undo
+  last_leads v sees =
+      subst (λ (w : Whole). ChangesLead w.history.undo) sees
+      (undo_leads d.tree.nodes.arena.held d.tree.points.names d.command d.command.resumed (next_first d.command.start d.history.future) f d.history.log.undo d.history.past ok.undo forest)
+
+  pub undone_leads : (v : Whole) → seen d ≡ v → UndoneLead v.history.redo
+  undone_leads v sees =
+      subst (λ (w : Whole). UndoneLead w.history.redo) sees
+      (redo_leads d.tree.nodes.arena.held d.tree.points.names d.command f d.history.log.redo d.history.future ok.redo forest)

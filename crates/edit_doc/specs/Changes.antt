@@ -1,5 +1,5 @@
 -- What the entries next to the cursor changed in the document, as edits of the document alone.
-use Rattle.std.specs.Prelude.{◌≡◌, ℕ, List, [], ◌∷◌, take, drop}
+use Rattle.std.specs.Prelude.{◌≡◌, ℕ, Bool, List, [], ◌∷◌, take, drop, Option, Some, None, if◌then◌else◌}
 use Rattle.dom_model.specs.declared.Content.{Content}
 use Rattle.dom_model.specs.Forest.{Forest}
 use Rattle.undo_log.specs.Turning.{back, forth, inverses_back}
@@ -10,8 +10,10 @@ use Rattle.edit_steps.specs.Step.{changes_of}
 use Rattle.document_edits.specs.declared.edit.DocumentEdit.{DocumentEdit}
 use Rattle.document_edits.specs.Followed.{followed}
 use Rattle.document_edits.specs.Told.{told_all, told_back}
-use Rattle.edit_model.specs.History.{Entry}
-use Rattle.edit_doc.specs.Onward.{at_begin}
+use Rattle.edit_model.specs.History.{Entry, document_of, used}
+use Rattle.edit_model.specs.State.{State}
+use Rattle.edit_doc.specs.Onward.{at_begin, with_made}
+use Rattle.edit_doc.specs.Whole.{Began, first_edits}
 
 -- ---- of the entries that undo would take, and those that redo would take
 
@@ -38,6 +40,28 @@ ChangesLead (e ∷ es) = Lead (changes_past 0 (e ∷ es)) e.before.document e.af
 abbrev pub UndoneLead : List Entry → Type 0
 UndoneLead [] = Unit {0}
 UndoneLead (e ∷ es) = Lead (changes_undone (e ∷ es)) e.after.document e.before.document
+
+-- ---- of the running command
+
+-- what it changed so far, where it began at one state and is at another
+abbrev pub changes_since : State → State → List DocumentEdit
+changes_since o s = told_all s.edits (with_made (document_of o.trees) (used s.edits s.made))
+
+-- which leads from the document at its begin to the one that is there now
+abbrev pub LeadsSince : Option Began → State → Type 0
+LeadsSince None s = Unit {0}
+LeadsSince (Some b) s =
+    Lead (changes_since b.state s) (document_of b.state.trees) (document_of s.trees)
+
+-- how many edits the entry had that it resumed
+abbrev pub resumed_at : Bool → List Entry → ℕ
+resumed_at resumed es = if resumed then first_edits es else 0
+
+-- the entry of a commit tells it past those
+abbrev pub IsToldSince : Option Began → State → List Entry → List Entry → Type 0
+IsToldSince None s old new = Unit {0}
+IsToldSince (Some b) s old new =
+    changes_past (resumed_at b.resumed old) new ≡ changes_since b.state s
 
 -- ---- of steps that take edits back, and of steps that make them again. No public clause cites
 -- these
