@@ -1,5 +1,5 @@
 -- The edits that changes are told as lead from each document to the next.
-use Rattle.std.proofs.Common.{◌≡◌, ◌≢◌, ℕ, zero, suc, ◌<◌, ◌-◌, ◌&&◌, Bool, true, false, true≢false, cond, List, [], ◌∷◌, ◌++◌, length, take, drop, Option, Some, None, IsSome, unwrap_or, refl, sym, ap, subst, ◌∙◌, inl, inr, arith, eqb, nat_lt}
+use Rattle.std.proofs.Common.{◌≡◌, ℕ, zero, suc, ◌<◌, ◌-◌, ◌&&◌, Bool, true, false, true≢false, cond, List, [], ◌∷◌, length, take, drop, Option, Some, None, IsSome, unwrap_or, refl, sym, ap, subst, ◌∙◌, inl, inr, arith, eqb, nat_lt}
 use Rattle.std.proofs.lemmas.Bool.Decides.{nat_tests}
 use Rattle.std.specs.Option.{option_map, option_and_then}
 use Rattle.dom_model.specs.declared.Content.{Content}
@@ -20,7 +20,7 @@ use Rattle.undo_log.specs.Turning.{forth, FitsForth}
 use Rattle.point_order.specs.PointOrder.{is_in_document}
 use Rattle.forest_changes.specs.Change.{IsForest, Fits, applied}
 use Rattle.forest_changes.proofs.Contents.{chars_there}
-use Rattle.forest_changes.proofs.Twice.{given_parent, IsForest-applied}
+use Rattle.forest_changes.proofs.Twice.{given_parent}
 use Rattle.document_edits.specs.declared.edit.DocumentEdit.{DocumentEdit}
 use Rattle.document_edits.specs.declared.edit.DocumentEdit.TheVariants.{Remove, SetAttributes}
 use Rattle.document_edits.specs.Followed.{followed, spliced, with_spliced}
@@ -72,8 +72,8 @@ unfolding replaced forth followed
 replaced_follows d n old words are =
     let at = shared_start old words in
     let same = shared_end (drop at old) (drop at words) in
-    let taken = length old - at - same in
-    let put = take (length words - at - same) (drop at words) in
+    let taken = length (drop at old) - same in
+    let put = take (length (drop at words) - same) (drop at words) in
     elim (true_or_false (eqb at (length old) && eqb at (length words))) [
       | inl t ↦ rw t (sym (revised-same d n (with_chars words) (λ s st. content_kept s.content old words (are s st) (same-shared old words t))))
       | inr t ↦ rw t (revised-alike d n (with_spliced at taken put) (with_chars words) (λ s st. content_spliced s.content old words at taken put (are s st) (spliced-shared old words at same refl refl)))
@@ -140,8 +140,8 @@ at_document (change.Move n p b) c ks rest h =
     let child = given_parent f n h.here.0 in
     let positive = inner f n h.forest h.here.0 in
     let linked : tree_of (link (unlink f n) p b n) 0 ≡ put_under (without d n) p b (tree_of f n) =
-        (λ i. tree_of (put_under (without-unlink f q n once child i) p b (tree_of-unlink f q n once child i)) 0)
-        ∙ document-link c ks rest n positive p b in
+    (λ i. tree_of (put_under (without-unlink f q n once child i) p b (tree_of-unlink f q n once child i)) 0)
+    ∙ document-link c ks rest n positive p b in
     told_move_follows c ks rest n p b positive once (is_in_document f n) (is_in_document f p)
     (some_of (count_of d n)) (none_of (count_of d n)) (none_of (count_of d p))
     ∙ sym linked

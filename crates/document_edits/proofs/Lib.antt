@@ -4,3 +4,5 @@ pub mod Pruned
 pub mod Documents
 pub mod Splicing
 pub mod Following
+pub mod Sharing
+pub mod Undoing

@@ -1,14 +1,11 @@
 -- Changes are told without a look at the trees that are pruned.
-use Rattle.std.proofs.Common.{◌≡◌, ℕ, ◌<◌, Bool, List, [], ◌∷◌, ◌++◌, Option, refl, sym, ap, subst, ◌∙◌, arith, unwrap_or}
-use Rattle.std.specs.Option.{option_and_then}
+use Rattle.std.proofs.Common.{◌≡◌, ℕ, Bool, List, [], ◌∷◌, ◌++◌, refl, sym, ap, ◌∙◌, arith}
 use Rattle.dom_model.specs.declared.Content.{Content}
-use Rattle.dom_model.specs.Change.{Change, listed}
+use Rattle.dom_model.specs.Change.{Change}
 use Rattle.dom_model.specs.Change as change
-use Rattle.dom_model.specs.Contents.{chars_in, chars_of}
-use Rattle.dom_model.specs.Forest.{Forest, count_of, content_of, tree_of}
+use Rattle.dom_model.specs.Forest.{Forest, tree_of}
 use Rattle.dom_model.specs.Pruned.{pruned}
 use Rattle.dom_model.proofs.Pruning.{tree_of-pruned}
-use Rattle.point_order.specs.PointOrder.{is_in_document}
 use Rattle.undo_log.specs.Turning.{FitsForth}
 use Rattle.forest_changes.specs.Change.{IsForest, Fits, applied}
 use Rattle.forest_changes.specs.Named.{named, named_in, Each}
@@ -16,16 +13,11 @@ use Rattle.forest_changes.specs.Down.{Prunes, IsLeft}
 use Rattle.forest_changes.proofs.ChangeLists.{each_first, each_rest, each_of}
 use Rattle.forest_changes.proofs.DownChange.{down, IsForest-pruned}
 use Rattle.forest_changes.proofs.PrunedChanges.{content_of-pruned}
-use Rattle.document_edits.specs.Told.{told, told_all, told_tree, told_move}
-use Rattle.document_edits.specs.Replaced.{replaced}
-use Rattle.document_edits.specs.declared.edit.DocumentEdit.{DocumentEdit}
+use Rattle.document_edits.specs.Told.{told, told_all}
 
 module _ (k : ℕ → Bool) where
   document-pruned : (f : Forest Content) → Prunes k f → IsForest f → tree_of (pruned k f) 0 ≡ tree_of f 0
   document-pruned f prunes ok = tree_of-pruned k f 0 ok.distinct (IsForest-pruned k f prunes.document ok).document
-
-  told_tree-pruned : (f : Forest Content) (n p : ℕ) (b : Option ℕ) → IsForest f → IsLeft k f n → told_tree (pruned k f) n p b ≡ told_tree f n p b
-  told_tree-pruned f n p b ok here = rw (tree_of-pruned k f n ok.distinct here) refl
 
   pub told-pruned : (x : Change) (f : Forest Content) → Prunes k f → Fits x f → Each (IsLeft k f) (named x) → told x (pruned k f) ≡ told x f
   unfolding told

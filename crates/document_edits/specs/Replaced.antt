@@ -11,16 +11,15 @@ shared_start old new = common_prefix_len nat_eq old new
 abbrev pub shared_end : List ℕ → List ℕ → ℕ
 shared_end old new = common_prefix_len nat_eq (reverse old) (reverse new)
 
--- the characters from `at` on, of two texts that are the same up to there, but for those at their
--- ends that are the same
-abbrev pub replaced_from : ℕ → ℕ → List ℕ → List ℕ → DocumentEdit
-replaced_from node at old new =
-    let same : ℕ = shared_end (drop at old) (drop at new) in
-    Replace node at (length old - at - same) (take (length new - at - same) (drop at new))
+-- characters from an offset on give way to others, but for those at their ends that are the same
+abbrev pub replaced_at : ℕ → ℕ → List ℕ → List ℕ → DocumentEdit
+replaced_at node at gone come =
+    let same : ℕ = shared_end gone come in
+    Replace node at (length gone - same) (take (length come - same) come)
 
 -- the edit that gives a node other characters, if they are others
 unfoldable pub replaced : ℕ → List ℕ → List ℕ → Option DocumentEdit
 replaced node old new =
     let at : ℕ = shared_start old new in
     if at == length old && at == length new then None
-    else Some (replaced_from node at old new)
+    else Some (replaced_at node at (drop at old) (drop at new))

@@ -1,13 +1,14 @@
 -- How a change of the forest is told to one who keeps the document alone: as an edit of the
 -- document, or not at all.
-use Rattle.std.specs.Prelude.{ℕ, Bool, List, [], ◌∷◌, ◌++◌, Option, unwrap_or, if◌then◌else◌}
+use Rattle.std.specs.Prelude.{ℕ, Bool, List, [], ◌∷◌, ◌++◌, reverse, Option, unwrap_or, if◌then◌else◌}
 use Rattle.dom_model.specs.declared.Content.{Content}
 use Rattle.dom_model.specs.Change.{Change, listed}
 use Rattle.dom_model.specs.Change as change
 use Rattle.dom_model.specs.Contents.{chars_of}
 use Rattle.dom_model.specs.Forest.{Forest, tree_of}
 use Rattle.point_order.specs.PointOrder.{is_in_document}
-use Rattle.forest_changes.specs.Change.{applied}
+use Rattle.undo_log.specs.Turning.{forth, inverses_forth}
+use Rattle.forest_changes.specs.Change.{applied, inverse}
 use Rattle.document_edits.specs.declared.edit.DocumentEdit.{DocumentEdit}
 use Rattle.document_edits.specs.declared.edit.DocumentEdit.TheVariants.{Remove, Insert, Move, SetAttributes}
 use Rattle.document_edits.specs.Flat.{flat}
@@ -38,3 +39,9 @@ told (change.SetAttributes n list) f =
 unfoldable pub told_all : List Change → Forest Content → List DocumentEdit
 told_all [] f = []
 told_all (x ∷ xs) f = told x f ++ told_all xs (applied x f)
+
+-- what takes changes back that were made one after another from this forest on, from the last of
+-- them to the first
+abbrev pub told_back : List Change → Forest Content → List DocumentEdit
+told_back xs f =
+    told_all (reverse (inverses_forth applied inverse xs f)) (forth applied xs f)

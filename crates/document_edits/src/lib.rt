@@ -13,7 +13,7 @@ ghost use Rattle.forest_changes.specs.Change.{Change, Fits, applied};
 ghost use Rattle.forest_changes.specs.Named.{named, named_in, Each};
 ghost use Rattle.forest_changes.specs.Down.{Prunes, IsLeft};
 ghost use Rattle.document_edits.specs.Flat.{flat, grown};
-ghost use Rattle.document_edits.specs.Told.{told, told_all};
+ghost use Rattle.document_edits.specs.Told.{told, told_all, told_back};
 ghost use Rattle.document_edits.specs.Followed.{followed};
 
 mod edit;
@@ -23,21 +23,27 @@ pub use edit::{DocumentEdit, TreeNode};
 pub use replacing::replaced;
 
 /// What a change of the forest is told as leads from the document before it to the document after
-/// it, and so do changes one after another.
-pub fn edits_follow()
+/// it. So do changes one after another, and what takes them back leads back.
+pub fn edits_lead()
     ensures change { (x : Change) (f : Forest Content) → Fits x f
         → forth followed (told x f) (tree_of f 0) ≡ tree_of (applied x f) 0 }
     ensures changes { (xs : List Change) (f : Forest Content) → FitsForth applied Fits xs f
         → forth followed (told_all xs f) (tree_of f 0) ≡ tree_of (forth applied xs f) 0 }
+    ensures back { (xs : List Change) (f : Forest Content) → FitsForth applied Fits xs f
+        → forth followed (told_back xs f) (tree_of (forth applied xs f) 0) ≡ tree_of f 0 }
 {}
 
-/// Where trees are pruned that no change names, the changes are told as the same edits.
+/// Where trees are pruned that no change names, the changes are told as the same edits, and so is
+/// what takes them back.
 pub fn edits_go_down()
     ensures change { (k : ℕ → Bool) (x : Change) (f : Forest Content) → Prunes k f → Fits x f
         → Each (IsLeft k f) (named x) → told x (pruned k f) ≡ told x f }
     ensures changes { (k : ℕ → Bool) (xs : List Change) (f : Forest Content) → Prunes k f
         → FitsForth applied Fits xs f → Each (IsLeft k f) (named_in xs)
         → told_all xs (pruned k f) ≡ told_all xs f }
+    ensures back { (k : ℕ → Bool) (xs : List Change) (f : Forest Content) → Prunes k f
+        → FitsForth applied Fits xs f → Each (IsLeft k f) (named_in xs)
+        → told_back xs (pruned k f) ≡ told_back xs f }
 {}
 
 /// Changes after others are told as edits after theirs.

@@ -10,6 +10,8 @@ use std::alloc::{AllocError, Global};
 // How many characters are the same at the starts of two texts.
 fn shared_start(old: &[char], new: &[char]) -> usize
     ensures shared { result ≡ spec.shared_start old.now new.now }
+    ensures in_old { result ≤ length old.now }
+    ensures in_new { result ≤ length new.now }
 {
     let mut at = 0;
     while at < old.len() && at < new.len() && old[at] == new[at] {
@@ -21,6 +23,8 @@ fn shared_start(old: &[char], new: &[char]) -> usize
 // How many characters are the same at their ends.
 fn shared_end(old: &[char], new: &[char]) -> usize
     ensures shared { result ≡ spec.shared_end old.now new.now }
+    ensures in_old { result ≤ length old.now }
+    ensures in_new { result ≤ length new.now }
 {
     let mut same = 0;
     while same < old.len()

@@ -44,7 +44,7 @@ use Rattle.edit_doc.proofs.Downs.{at_older, at_newer, led_down, names_here, turn
 -- ---- what an entry becomes, over the forest
 
 -- the trees that an entry's commands didn't see stay apart on both sides
-prunes_before : (before : Forest Content) (first : ℕ) → IsForest before → Prunes (is_hidden before first) before
+pub prunes_before : (before : Forest Content) (first : ℕ) → IsForest before → Prunes (is_hidden before first) before
 prunes_before before first is = prunes_roots (is_hidden before first) before is refl (λ l h. top_loose before l is.distinct (hidden_is before first l h).root)
 
 pub prunes_after : (before after : Forest Content) (first : ℕ) → IsForest after → ((l : ℕ) → is_hidden before first l ≡ true → 0 < times (tops after) l) → Prunes (is_hidden before first) after

@@ -15,3 +15,4 @@ pub mod Kept
 pub mod Extracting
 pub mod Logged
 pub mod Onward
+pub mod Changes

@@ -1,17 +1,20 @@
 //! The nodes of a document, with its numbers.
 
-ghost use Rattle.std.specs.Prelude.{◌≡◌, ◌+◌, IsTrue, OnOk, OnErr, IfErr};
+ghost use Rattle.std.specs.Prelude.{◌≡◌, ◌+◌, ◌≤◌, IsTrue, IfOk, OnOk, OnErr, IfErr};
 ghost use Rattle.edit_steps.specs.Step.{StepFits, step_applied, step_inverse};
-ghost use Rattle.undo_log.specs.Log.{abandoned, is_open, noted, first_length};
+ghost use Rattle.undo_log.specs.Log.{abandoned, is_open, noted, first_length, FitsUndo, FitsRedo};
 ghost use Rattle.undo_log.specs.Log.Open.{Closed};
 ghost use Rattle.undo_log.specs.States.{start};
 ghost use Rattle.undo_log.specs.Turning.{FitsBack};
+ghost use Rattle.edit_doc.specs.Changes.{steps_told, steps_told_back};
 ghost use Rattle.edit_doc.specs.Counted.{IsCounted};
 ghost use Rattle.edit_doc.specs.Trail.{FitsAlong, with_note, steps_along, arena_along, trail_along};
 
 use crate::history::{History, Way};
 use crate::{Arena, Counts, EditFault};
+use document_edits::DocumentEdit;
 use edit_steps::Step;
+use std::alloc::{AllocError, Global};
 use std::sync::ledger::Ledger;
 use step_count::Steps;
 use undo_log::Invertible;
@@ -93,5 +96,38 @@ impl CountedArena {
     {
         history.turn(way, &mut self.arena, steps);
         self.counts = counts;
+    }
+
+    // What the steps of the entry that undo would take tell, past the first `kept` of them.
+    pub(crate) fn changes(
+        &mut self,
+        alloc: Global,
+        history: &mut History,
+        kept: usize,
+    ) -> Result<Vec<DocumentEdit>, AllocError>
+        requires closed { history.old.log.open_entry ≡ Closed }
+        requires within { kept ≤ first_length history.old.log.undo }
+        requires fit { FitsUndo step_applied StepFits history.old.log.undo self.old.arena }
+        ensures told { IfOk result (λ edits. edits.items
+            ≡ steps_told kept history.old.log.undo self.old.arena.trees) }
+        ensures history { history.new ≡ history.old }
+        ensures arena { self.new.arena ≡ self.old.arena }
+    {
+        history.changes(alloc, kept, &mut self.arena)
+    }
+
+    // What the steps of the entry that redo would take tell as undo took it back.
+    pub(crate) fn undone_changes(
+        &mut self,
+        alloc: Global,
+        history: &mut History,
+    ) -> Result<Vec<DocumentEdit>, AllocError>
+        requires { FitsRedo step_applied StepFits history.old.log.redo self.old.arena }
+        ensures told { IfOk result (λ edits. edits.items
+            ≡ steps_told_back history.old.log.redo self.old.arena.trees) }
+        ensures history { history.new ≡ history.old }
+        ensures arena { self.new.arena ≡ self.old.arena }
+    {
+        history.undone_changes(alloc, &mut self.arena)
     }
 }

@@ -1,21 +1,23 @@
 //! The history of a document: the log of the steps, and a snapshot beside each entry of it.
 
-ghost use Rattle.std.specs.Prelude.{◌≡◌, ◌+◌, ◌<◌, ◌↔◌, ◌++◌, IsTrue, IfOk, OnOk, IfErr, [], length, take, drop, slice_get, option_copied, true, if◌then◌else◌};
+ghost use Rattle.std.specs.Prelude.{◌≡◌, ◌+◌, ◌<◌, ◌≤◌, ◌↔◌, ◌++◌, IsTrue, IfOk, OnOk, IfErr, [], length, take, drop, slice_get, option_copied, true, if◌then◌else◌};
 ghost use Rattle.std.specs.Option.{option_map};
 ghost use Rattle.edit_steps.specs.Step.{StepFits, step_applied};
 ghost use Rattle.undo_log.specs.Turning.{FitsBack};
-ghost use Rattle.undo_log.specs.Log.{begun, resumed, abandoned, is_open, is_resumed, noted, first_length};
+ghost use Rattle.undo_log.specs.Log.{begun, resumed, abandoned, is_open, is_resumed, noted, first_length, FitsUndo, FitsRedo};
 ghost use Rattle.undo_log.specs.Log.Open.{Closed};
 ghost use Rattle.undo_log.specs.States.{start};
 ghost use Rattle.edit_doc.specs.Fields.{SwapsLeft, Forgets, Enters};
 ghost use Rattle.edit_doc.specs.Sound.{next_first};
 ghost use Rattle.edit_doc.specs.Trail.{IsTrail, FitsAlong, first_trail, with_note, steps_along, snapshots_along, arena_along, trail_along};
 ghost use Rattle.edit_doc.specs.Closing.{Closes};
+ghost use Rattle.edit_doc.specs.Changes.{steps_told, steps_told_back};
 
 use crate::Counts;
 use crate::command::{Command, EntrySnapshot, EntrySpan};
 use crate::giving_up::keep_loose;
 use circular_buffer::HeapCircularBuffer;
+use document_edits::DocumentEdit;
 use edit_steps::Step;
 use live_range::Places;
 use node_arena::Arena;
@@ -24,6 +26,7 @@ use std::marker::Model;
 use std::mem::swap;
 use std::sync::ledger::Ledger;
 use step_count::Steps;
+use step_edits::EditRecorder;
 use undo_log::{Committed, UndoLog};
 
 // The two ways through the history: back, as undo goes, and forth again, as redo goes.
@@ -167,6 +170,43 @@ impl History {
                 }
             }
         }
+    }
+
+    // What the steps of the entry that undo would take tell, past the first `kept` of them.
+    pub(crate) fn changes(
+        &mut self,
+        alloc: Global,
+        kept: usize,
+        arena: &mut Arena,
+    ) -> Result<Vec<DocumentEdit>, AllocError>
+        requires closed { self.old.log.open_entry ≡ Closed }
+        requires within { kept ≤ first_length self.old.log.undo }
+        requires fit { FitsUndo step_applied StepFits self.old.log.undo arena.old }
+        ensures told { IfOk result (λ edits. edits.items
+            ≡ steps_told kept self.old.log.undo arena.old.trees) }
+        ensures history { self.new ≡ self.old }
+        ensures arena { arena.new ≡ arena.old }
+    {
+        let mut recorder = EditRecorder::new(alloc);
+        self.log.watch_last(kept, arena, &mut recorder);
+        recorder.into_edits()
+    }
+
+    // What the steps of the entry that redo would take tell as undo took it back.
+    pub(crate) fn undone_changes(
+        &mut self,
+        alloc: Global,
+        arena: &mut Arena,
+    ) -> Result<Vec<DocumentEdit>, AllocError>
+        requires { FitsRedo step_applied StepFits self.old.log.redo arena.old }
+        ensures told { IfOk result (λ edits. edits.items
+            ≡ steps_told_back self.old.log.redo arena.old.trees) }
+        ensures history { self.new ≡ self.old }
+        ensures arena { arena.new ≡ arena.old }
+    {
+        let mut recorder = EditRecorder::new(alloc);
+        self.log.watch_undone(arena, &mut recorder);
+        recorder.into_edits()
     }
 
     // Exchanges the detached trees of the command with those of the entry that undo would take.

@@ -10,6 +10,7 @@
 ghost use Rattle.std.specs.Prelude.{◌≡◌, ℕ, ◌<◌, IfOk};
 ghost use Rattle.edit_doc.specs.Whole.{HasNoLoose, first_doc};
 
+mod changes;
 mod command;
 mod commands;
 mod composed;
@@ -31,6 +32,7 @@ mod tree;
 pub use command::EntrySpan;
 use command::{Command, Kept};
 use counted_arena::CountedArena;
+pub use document_edits::{DocumentEdit, TreeNode};
 pub use dom_model::{Attributes, Chars, Name};
 pub use edit_model::{EditFault, Flags, Setting};
 pub use edit_parts::Counts;

@@ -1,0 +1,10 @@
+//! Steps of an undo log over an arena, told as edits of its document alone (crate `document_edits`,
+//! which says how a change is told), to one who looks on as they are applied.
+#![tactic(auto)]
+
+mod recorder;
+mod telling;
+mod trees;
+
+pub use recorder::EditRecorder;
+pub use trees::copy_content;
