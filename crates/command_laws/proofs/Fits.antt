@@ -3,9 +3,8 @@ use Rattle.std.proofs.Common.{ℕ, Bool, if◌then◌else◌, List, Option}
 use Rattle.edit_model.specs.State.{State}
 use Rattle.edit_model.specs.Edit.{Remove, Set, Unset}
 use Rattle.edit_model.specs.Action.{Action, Change}
-use Rattle.edit_model.specs.Laws.{LeavesStates}
 use Rattle.edit_model.specs.Run.{Run, ◌>>=◌, answer, look, given, for_each, while_at_most, remove, set_attribute, unset_attribute, perform}
-use Rattle.edit_laws.specs.Stateless.{Stateless}
+use Rattle.edit_laws.specs.Stateless.{IsSteady, Stateless}
 use Rattle.edit_laws.specs.OrderPreserving.{OrderPreserving, IsQuiet}
 use Rattle.edit_laws.proofs.StatelessRuns.{stateless_answer, stateless_bind, stateless_look_at, stateless_if, stateless_given, stateless_each, stateless_while, stateless_edit, stateless_perform}
 use Rattle.edit_laws.proofs.OrderPreserving.{order_preserving_answer, order_preserving_bind, order_preserving_look, order_preserving_if, order_preserving_given, order_preserving_each, order_preserving_while, order_preserving_remove, order_preserving_set, order_preserving_unset, order_preserving_perform}
@@ -43,13 +42,13 @@ fit_while bound test body a p = fit (order_preserving_while bound test body a (�
 pub fit_remove : (n : ℕ) → Fit (remove n)
 fit_remove n = fit (order_preserving_remove n) (stateless_edit (Remove n) tt)
 
-pub fit_set : (n : ℕ) (name value : List ℕ) → LeavesStates (Change (Set n name value)) → Fit (set_attribute n name value)
+pub fit_set : (n : ℕ) (name value : List ℕ) → IsSteady (Change (Set n name value)) → Fit (set_attribute n name value)
 fit_set n name value leaves = fit (order_preserving_set n name value) (stateless_edit (Set n name value) leaves)
 
-pub fit_unset : (n : ℕ) (name : List ℕ) → LeavesStates (Change (Unset n name)) → Fit (unset_attribute n name)
+pub fit_unset : (n : ℕ) (name : List ℕ) → IsSteady (Change (Unset n name)) → Fit (unset_attribute n name)
 fit_unset n name leaves = fit (order_preserving_unset n name) (stateless_edit (Unset n name) leaves)
 
-pub fit_perform : (a : Action) → IsQuiet a → LeavesStates a → Fit (perform a)
+pub fit_perform : (a : Action) → IsQuiet a → IsSteady a → Fit (perform a)
 fit_perform a quiet leaves = fit (order_preserving_perform a quiet) (stateless_perform a leaves)
 
 -- with these a run whose moves are fit is fit by its parts

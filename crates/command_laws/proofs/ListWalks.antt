@@ -6,11 +6,11 @@ use Rattle.dom_model.specs.declared.Content.{Content}
 use Rattle.dom_model.specs.Forest.{Seen, last_in, after_in, parent_of, children_of, next_of}
 use Rattle.dom_model.proofs.Links.{child_of_parent}
 use Rattle.edit_model.specs.State.{State}
-use Rattle.edit_model.specs.Laws.{LeavesStatesOn}
 use Rattle.edit_model.specs.Valid.{IsValid}
 use Rattle.edit_model.specs.Run.{Run, final, value, ◌>>=◌, look}
 use Rattle.edit_model.proofs.Steps.{final-bind, final-look}
 use Rattle.edit_model.proofs.Tests.{label_is}
+use Rattle.edit_laws.specs.Stateless.{SteadyOn}
 use Rattle.edit_laws.specs.Order.{KeepsOrder, IsKeeping}
 use Rattle.edit_laws.proofs.QuietActions.{keeping_final}
 use Rattle.edit_laws.proofs.Subsequences.{keeps_trans}
@@ -32,7 +32,7 @@ use Rattle.command_laws.proofs.Wrapping.{wrap_keeps, order_preserving_wrap_one}
 
 pub record FitAt {T : Type 0} (s : State) (m : Run T) : Type 0 where
   pub order : IsKeeping s → KeepsOrder s (final m s)
-  pub states : LeavesStatesOn (m.by_actions s)
+  pub states : SteadyOn (m.by_actions s)
 
 pub at_once : {T : Type 0} (m : Run T) (s : State) → IsValid s → Fit m → FitAt s m
 at_once m s is h = record { order = λ k. h.order.keeps s k; states = h.states.leaves s is }

@@ -22,6 +22,7 @@ use Rattle.edit_model.specs.Run.{Run, final}
 use Rattle.edit_model.proofs.Each.{copy_stateless}
 use Rattle.edit_model.proofs.States.{stated_value, states_along}
 use Rattle.edit_laws.specs.Stateless.{Stateless}
+use Rattle.edit_laws.proofs.StatelessRuns.{states_on}
 
 -- what is made with the attributes of the node has no state
 abbrev pub HasNoState : State → ℕ → Type 0
@@ -33,7 +34,7 @@ editable_unstated s n is editable name = copy_stateless s n name is editable
 pub made_unstated : {T : Type 0} (m : Run T) (s : State) (n : ℕ) → IsValid s → Stateless m → s.next ≤ n → HasNoState (final m s) n
 unfolding final
 made_unstated m s n is h high name =
-    by_content (content_of (m.run s).0.trees n) ((states_along (m.by_actions s) is (h.leaves s is)).made n high)
+    by_content (content_of (m.run s).0.trees n) ((states_along (m.by_actions s) is (states_on (m.by_actions s) (h.leaves s is))).made n high)
   where
     by_content : (o : Option Content) → stated_value (option_map contenteditable o) ≡ false
         → LeavesStates (MakeElement name (unwrap_or (option_and_then attributes_in o) []))

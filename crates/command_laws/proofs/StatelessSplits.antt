@@ -7,12 +7,11 @@ use Rattle.edit_model.specs.State.{State}
 use Rattle.edit_model.specs.Compositions.{tag_of, attribute_list_of}
 use Rattle.edit_model.specs.Confined.{is_editable_for}
 use Rattle.edit_model.specs.Valid.{IsValid}
-use Rattle.edit_model.specs.Laws.{LeavesStatesOn}
 use Rattle.edit_model.specs.Moves.{insert_before, move_all_before, move_each_last}
 use Rattle.edit_model.specs.Run.{Reaches, here, onward, reaches_trans, Run, final, value, ◌>>=◌, ◌>>◌, done, look, make_element, unset_attribute}
 use Rattle.edit_model.proofs.ValidRuns.{valid_along}
 use Rattle.edit_model.proofs.Steps.{final-answer, final-look}
-use Rattle.edit_laws.specs.Stateless.{Stateless}
+use Rattle.edit_laws.specs.Stateless.{SteadyOn, Stateless}
 use Rattle.edit_laws.proofs.StatelessRuns.{stateless_parts, stateless_answer, stateless_bind, stateless_copy}
 use Rattle.edit_actions.specs.Siblings.{starts_in, ends_in, has, until}
 use Rattle.wrap_split.specs.Breaks.{breaks_before, breaks_at_end, breaks_from}
@@ -23,9 +22,9 @@ use Rattle.command_laws.proofs.StatelessMoves.{stateless_moves}
 -- ---- a run from a state
 
 abbrev pub At : {T : Type 0} → State → Run T → Type 0
-At s m = LeavesStatesOn (m.by_actions s)
+At s m = SteadyOn (m.by_actions s)
 
-leaves_trans : {s t u : State} (p : Reaches s t) (q : Reaches t u) → LeavesStatesOn p → LeavesStatesOn q → LeavesStatesOn (reaches_trans p q)
+leaves_trans : {s t u : State} (p : Reaches s t) (q : Reaches t u) → SteadyOn p → SteadyOn q → SteadyOn (reaches_trans p q)
 unfolding reaches_trans
 leaves_trans p here h k = h
 leaves_trans p (onward q a) h k = (leaves_trans p q h k.0, k.1)

@@ -9,7 +9,7 @@ ghost use Rattle.edit_doc.specs.Whole.{HasNoLoose, IsClosed, first_edits};
 ghost use Rattle.command_gate.specs.Denied.{is_denied};
 ghost use Rattle.node_paths.specs.Paths.{label_at};
 ghost use Rattle.edit_engine.specs.Commands.{action_of};
-ghost use Rattle.edit_engine.specs.Confinement.{KeepsOutside, KeepsHtml, KeepsMarks, KeepsIslands, KeepsCharacters, GivesBack};
+ghost use Rattle.edit_engine.specs.Confinement.{KeepsOutside, KeepsHtml, KeepsSelection, KeepsMarks, KeepsIslands, KeepsCharacters, GivesBack};
 ghost use Rattle.edit_engine.specs.Editing.{EditorValue, IsJoinable, document, new_editing, undone, redone};
 ghost use Rattle.edit_engine.specs.Execution.{gated_outcome, outcome, command_outcome, run_outcome, Tells};
 ghost use Rattle.edit_engine.specs.Labels.{KeepsLabels, DrawsLabels, HaveOneKind};
@@ -92,6 +92,7 @@ impl Editor {
         ensures html { KeepsHtml self.old.editing self.new.editing }
         ensures labels { KeepsLabels self.old.editing self.new.editing }
         ensures drawn { DrawsLabels self.old.editing self.new.editing }
+        ensures selection { KeepsSelection self.old.editing self.new.editing }
         ensures marks { KeepsMarks self.old.editing self.new.editing }
         ensures islands { KeepsIslands self.old.editing self.new.editing }
         ensures characters { KeepsCharacters name.now self.old.editing self.new.editing }
@@ -129,6 +130,7 @@ impl Editor {
         ensures html { KeepsHtml self.old.editing self.new.editing }
         ensures labels { KeepsLabels self.old.editing self.new.editing }
         ensures drawn { DrawsLabels self.old.editing self.new.editing }
+        ensures selection { KeepsSelection self.old.editing self.new.editing }
         ensures marks { KeepsMarks self.old.editing self.new.editing }
         ensures islands { KeepsIslands self.old.editing self.new.editing }
         ensures characters { KeepsCharacters name.now self.old.editing self.new.editing }

@@ -22,6 +22,7 @@ pub mod BelowHost
 pub mod StatelessRuns
 pub mod Resting
 pub mod StayingKinds
+pub mod Selections
 pub mod Unwrapping
 pub mod Lines
 pub mod Adopting

@@ -4,14 +4,13 @@ use Rattle.edit_model.specs.State.{State}
 use Rattle.edit_model.specs.Action.{Action}
 use Rattle.edit_model.specs.Confined.{is_editable_for}
 use Rattle.edit_model.specs.Compositions.{attribute_list_of, set_tag_name, split_words}
-use Rattle.edit_model.specs.Laws.{LeavesStates}
 use Rattle.edit_model.specs.Moves.{unwrap}
 use Rattle.edit_model.specs.Valid.{IsValid}
 use Rattle.edit_model.specs.Run.{Run, ◌>>=◌, act, answer, look, given, for_each, while_at_most, make_element}
-use Rattle.edit_laws.specs.Stateless.{Stateless}
+use Rattle.edit_laws.specs.Stateless.{IsSteady, Stateless}
 
 abbrev pub StatelessActs : Type 0 → Type 0
-StatelessActs A = (a : Action) (tells : State → A) → LeavesStates a → Stateless (act a tells)
+StatelessActs A = (a : Action) (tells : State → A) → IsSteady a → Stateless (act a tells)
 
 abbrev pub StatelessAnswers : Type 0 → Type 0
 StatelessAnswers A = (a : A) → Stateless (answer a)

@@ -12,7 +12,7 @@ mod stateless;
 
 pub use commands::{
     islands_stay_at_rest, kinds_stay_at_rest, marks_stay_at_rest, order_stays_at_rest,
-    outside_stays_at_rest,
+    outside_stays_at_rest, selection_stays_at_rest,
 };
 pub use compositions::{split_texts_keep, tag_names_keep, unwraps_keep};
 pub use laws::{
