@@ -28,7 +28,7 @@ use Rattle.edit_laws.specs.OrderPreserving.{OrderPreserving}
 use Rattle.edit_laws.proofs.HostParts.{host_stays}
 use Rattle.edit_laws.proofs.Resting.{document_again, host_there, island_inside, outside_at_rest, marks_at_rest, islands_at_rest, order_at_rest}
 use Rattle.edit_laws.proofs.Selections.{selection_at_rest}
-use Rattle.edit_laws.proofs.StatelessRuns.{states_on}
+use Rattle.edit_laws.proofs.SteadyRuns.{states_on}
 use Rattle.edit_laws.proofs.StayingKinds.{kinds_at_rest}
 use Rattle.edit_laws.proofs.Subsequences.{keeps_refl}
 use Rattle.edit_actions.specs.ActiveRange.{affected_host}
@@ -190,7 +190,7 @@ module _ (old new : Editing) (name v : List ℕ) (stands : Standing old) where
       let k = (row_of run.command).keeping in
       let m = action_of run.command v in
       let b = begun (affected_host old.state) k old.state in
-      let steady = (fit run.command v).stateless.leaves b (valid_begun (affected_host old.state) k old.state law) in
+      let steady = (fit run.command v).steady.leaves b (valid_begun (affected_host old.state) k old.state law) in
       subst (λ (e : Editing). IsSome e.state.points.selection) run.is (selection_at_rest old.state (final m b) (affected_host old.state) k (m.by_actions b) steady some)
 
   pub selection_kept : (new ≡ old) ⊎ IsRun old new name v → KeepsSelection old new
@@ -253,7 +253,7 @@ module _ (old new : Editing) (name v : List ℕ) (stands : Standing old) where
       let b = begun (Some h) k old.state in
       let hosted = host_is_host old.state law.forest.distinct h host in
       let at_host : after_run old run.command (final m b) ≡ new = ap (λ o. after_run old run.command (final m (begun o k old.state))) (sym host) ∙ run.is in
-      let leaves = states_on (m.by_actions b) ((fit run.command v).stateless.leaves b (valid_begun (Some h) k old.state law)) in
+      let leaves = states_on (m.by_actions b) ((fit run.command v).steady.leaves b (valid_begun (Some h) k old.state law)) in
       subst (λ (e : Editing). StaysBelow old.state.trees e.state.trees h l ⊎ IsGone old e h l) at_host
       (island_of h l run.command k m (islands_at_rest old.state (final m b) h k law whole hosted (m.by_actions b) leaves l island))
 

@@ -19,7 +19,7 @@ pub mod Fronts
 pub mod Cancelling
 pub mod HostParts
 pub mod BelowHost
-pub mod StatelessRuns
+pub mod SteadyRuns
 pub mod Resting
 pub mod StayingKinds
 pub mod Selections

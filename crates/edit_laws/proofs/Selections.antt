@@ -10,7 +10,7 @@ use Rattle.edit_model.specs.History.{begun, rested}
 use Rattle.edit_model.specs.Run.{Reaches, here, onward}
 use Rattle.edit_model.proofs.Steps.{either_way}
 use Rattle.edit_model.proofs.TailSteps.{extracted_keeps}
-use Rattle.edit_laws.specs.Stateless.{IsSteady, SteadyOn}
+use Rattle.edit_laws.specs.Steady.{IsSteady, SteadyOn}
 
 Has : State → Type 0
 Has s = IsSome s.points.selection

@@ -14,7 +14,7 @@ use Rattle.edit_laws.specs.BelowHost.{below}
 use Rattle.edit_laws.specs.Islands.{IslandKept}
 use Rattle.edit_laws.specs.Kinds.{SameKinds, DrawsKinds}
 use Rattle.edit_laws.specs.Order.{KeepsLeaves, KeepsOrder}
-use Rattle.edit_laws.specs.Stateless.{SteadyOn}
+use Rattle.edit_laws.specs.Steady.{SteadyOn}
 
 -- what lies outside the host stays
 abbrev pub OutsideStays : Type 0
