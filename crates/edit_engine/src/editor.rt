@@ -17,7 +17,7 @@ ghost use Rattle.edit_engine.specs.Logs.{log_text};
 ghost use Rattle.edit_engine.specs.Places.{pair_at, placed_pair, selecting, unselecting, marking, unmarking, IsCrowded};
 ghost use Rattle.edit_engine.specs.Queries.{reply_of};
 ghost use Rattle.edit_engine.specs.Replaying.{LogReplays};
-ghost use Rattle.edit_engine.specs.ThereAndBack.{UndosComeBack};
+ghost use Rattle.edit_engine.specs.ThereAndBack.{UndosComeBack, RedosComeBack};
 ghost use Rattle.edit_engine.specs.Views.{view_text};
 
 use crate::actions::{joins, run_command, types_on};
@@ -383,10 +383,12 @@ impl Editor {
     }
 
     /// How undo and redo go together, for proofs: after some undos, each of which takes an entry,
-    /// and as many redos the document and the history are as before, and so are the selection and
-    /// the marks where none was moved since the last command. It does nothing.
-    pub fn undos_come_back(&self)
-        ensures { UndosComeBack self.now.editing }
+    /// and as many redos, or after redos and undos, the document and the history are as before, and
+    /// so are the selection and the marks where none was moved since the last command, undo or
+    /// redo. It does nothing.
+    pub fn turns_come_back(&self)
+        ensures undos { UndosComeBack self.now.editing }
+        ensures redos { RedosComeBack self.now.editing }
     {
         self.kept_nodes();
     }
