@@ -22,20 +22,20 @@ use Rattle.edit_model.specs.Run.{final, done}
 use Rattle.edit_model.proofs.Steps.{final-look}
 use Rattle.edit_laws.specs.MoveLaws.{IsBare}
 use Rattle.edit_laws.specs.Order.{KeepsOrder, IsKeeping}
-use Rattle.edit_laws.specs.Stateless.{Stateless}
+use Rattle.edit_laws.specs.Steady.{Steady}
 use Rattle.edit_laws.specs.OrderPreserving.{OrderPreserving}
 use Rattle.edit_laws.proofs.Renaming.{tag_name_keeps}
-use Rattle.edit_laws.proofs.StatelessRuns.{stateless_parts, stateless_bind, stateless_answer}
+use Rattle.edit_laws.proofs.SteadyRuns.{steady_parts, steady_bind, steady_answer}
 use Rattle.edit_laws.proofs.OrderPreserving.{order_preserving, order_preserving_answer, order_preserving_bind}
 use Rattle.wrap_split.specs.declared.rule.Criterion.TheVariants.{Named}
 use Rattle.wrap_split.specs.declared.rule.Recipe.TheVariants.{Make}
 use Rattle.edit_query.specs.Rows.{container_name}
 use Rattle.inline_value.specs.Ancestors.{is_prohibited, has_place, lifted, lift, is_description, description_list, wrap_description, hosts_none, split_out, part_child, part_children, lift_renamed, rename, replace_misplaced, fix_ancestors}
 use Rattle.command_laws.proofs.HostLine.{host_among}
-use Rattle.command_laws.proofs.PushingRuns.{order_preserving_record_values, order_preserving_restore_values, stateless_record_values, stateless_restore_values}
+use Rattle.command_laws.proofs.PushingRuns.{order_preserving_record_values, order_preserving_restore_values, steady_record_values, steady_restore_values}
 use Rattle.command_laws.proofs.Splitting.{then_order_preserving_on, order_preserving_split_one, order_preserving_split_around}
-use Rattle.command_laws.proofs.StatelessSplits.{stateless_split, stateless_split_around}
-use Rattle.command_laws.proofs.StatelessWraps.{stateless_wrap}
+use Rattle.command_laws.proofs.SteadySplits.{steady_split, steady_split_around}
+use Rattle.command_laws.proofs.SteadyWraps.{steady_wrap}
 use Rattle.command_laws.proofs.Wrapping.{order_preserving_wrap_one}
 
 -- ---- where a paragraph may stand, a rule may
@@ -180,42 +180,42 @@ order_preserving_fix_ancestors n = record { keeps = λ s is. rw final-look (by_t
 
 -- ---- the states of contenteditable
 
-stateless_lifted : (n : ℕ) → Stateless (lifted n)
+steady_lifted : (n : ℕ) → Steady (lifted n)
 unfolding lifted
-stateless_lifted n = search (stateless_parts, stateless_split_around)
+steady_lifted n = search (steady_parts, steady_split_around)
 
-stateless_lift : (n : ℕ) → Stateless (lift n)
+steady_lift : (n : ℕ) → Steady (lift n)
 unfolding lift
-stateless_lift n = search (stateless_parts, stateless_record_values, stateless_lifted, stateless_restore_values)
+steady_lift n = search (steady_parts, steady_record_values, steady_lifted, steady_restore_values)
 
-stateless_description : (n : ℕ) → Stateless (wrap_description n)
+steady_description : (n : ℕ) → Steady (wrap_description n)
 unfolding wrap_description
-stateless_description n = stateless_bind _ (λ _. done) (stateless_wrap (Named (codes "dl") true) (Make description_list) refl (n ∷ [])) (λ _. stateless_answer tt)
+steady_description n = steady_bind _ (λ _. done) (steady_wrap (Named (codes "dl") true) (Make description_list) refl (n ∷ [])) (λ _. steady_answer tt)
 
-stateless_split_out : (k : ℕ) → Stateless (split_out k)
+steady_split_out : (k : ℕ) → Steady (split_out k)
 unfolding split_out
-stateless_split_out k = search (stateless_parts, stateless_record_values, stateless_split, stateless_restore_values)
+steady_split_out k = search (steady_parts, steady_record_values, steady_split, steady_restore_values)
 
-stateless_part_child : (k : ℕ) → Stateless (part_child k)
+steady_part_child : (k : ℕ) → Steady (part_child k)
 unfolding part_child
-stateless_part_child k = search (stateless_parts, stateless_split_out)
+steady_part_child k = search (steady_parts, steady_split_out)
 
-stateless_part_children : (n : ℕ) → Stateless (part_children n)
+steady_part_children : (n : ℕ) → Steady (part_children n)
 unfolding part_children
-stateless_part_children n = search (stateless_parts, stateless_part_child)
+steady_part_children n = search (steady_parts, steady_part_child)
 
-stateless_lift_renamed : (n : ℕ) → Stateless (lift_renamed n)
+steady_lift_renamed : (n : ℕ) → Steady (lift_renamed n)
 unfolding lift_renamed
-stateless_lift_renamed n = search (stateless_parts, stateless_lift, stateless_part_children)
+steady_lift_renamed n = search (steady_parts, steady_lift, steady_part_children)
 
-stateless_rename : (n : ℕ) → Stateless (rename n)
+steady_rename : (n : ℕ) → Steady (rename n)
 unfolding rename
-stateless_rename n = search (stateless_parts, stateless_lift_renamed)
+steady_rename n = search (steady_parts, steady_lift_renamed)
 
-stateless_replace : (n : ℕ) → Stateless (replace_misplaced n)
+steady_replace : (n : ℕ) → Steady (replace_misplaced n)
 unfolding replace_misplaced
-stateless_replace n = search (stateless_parts, stateless_description, stateless_rename)
+steady_replace n = search (steady_parts, steady_description, steady_rename)
 
-pub stateless_fix_ancestors : (n : ℕ) → Stateless (fix_ancestors n)
+pub steady_fix_ancestors : (n : ℕ) → Steady (fix_ancestors n)
 unfolding fix_ancestors
-stateless_fix_ancestors n = search (stateless_parts, stateless_lift, stateless_replace)
+steady_fix_ancestors n = search (steady_parts, steady_lift, steady_replace)

@@ -11,11 +11,11 @@ use Rattle.edit_model.specs.Kept.{is_thing}
 use Rattle.edit_model.specs.Run.{final, ◌>>◌, done, answer}
 use Rattle.edit_model.proofs.Steps.{final-answer, final-bind, final-look}
 use Rattle.edit_laws.specs.Order.{KeepsOrder, IsKeeping}
-use Rattle.edit_laws.specs.Stateless.{Stateless}
+use Rattle.edit_laws.specs.Steady.{Steady}
 use Rattle.edit_laws.specs.OrderPreserving.{OrderPreserving}
 use Rattle.edit_laws.proofs.QuietActions.{keeping_final}
 use Rattle.edit_laws.proofs.Renaming.{tag_name_keeps}
-use Rattle.edit_laws.proofs.StatelessRuns.{stateless_parts, stateless_answer, stateless_bind, stateless_if, stateless_look_at}
+use Rattle.edit_laws.proofs.SteadyRuns.{steady_parts, steady_answer, steady_bind, steady_if, steady_look_at}
 use Rattle.edit_laws.proofs.Subsequences.{keeps_trans}
 use Rattle.edit_laws.proofs.OrderPreserving.{order_preserving_answer}
 use Rattle.wrap_split.specs.declared.rule.Criterion.{Criterion}
@@ -33,11 +33,11 @@ use Rattle.block_extend.specs.Series.{count_series, is_next}
 use Rattle.block_commands.specs.Series.{is_next_on_line}
 use Rattle.command_laws.specs.WrapLaws.{NamesNoThing}
 use Rattle.command_laws.proofs.Criteria.{no_thing, named_bare}
-use Rattle.command_laws.proofs.PushingRuns.{order_preserving_restore_values, stateless_record_values, stateless_restore_values, fit_record_values, fit_restore_values}
+use Rattle.command_laws.proofs.PushingRuns.{order_preserving_restore_values, steady_record_values, steady_restore_values, fit_record_values, fit_restore_values}
 use Rattle.command_laws.proofs.Series.{next_is, next_on_line, series_keeps}
 use Rattle.command_laws.proofs.Splitting.{then_order_preserving, then_order_preserving_on, order_preserving_unwrap}
-use Rattle.command_laws.proofs.StatelessSplits.{stateless_keeping_children}
-use Rattle.command_laws.proofs.StatelessWraps.{stateless_wrap}
+use Rattle.command_laws.proofs.SteadySplits.{steady_keeping_children}
+use Rattle.command_laws.proofs.SteadyWraps.{steady_wrap}
 use Rattle.command_laws.proofs.Unwrapped.{children_stay_together}
 use Rattle.command_laws.proofs.Fits.{Fit, fit, fits, fit_answer}
 use Rattle.command_laws.proofs.Walks.{fit_split_around, fit_unwrap, fit_fix, fit_unset_style}
@@ -85,11 +85,11 @@ module _ (name : List ℕ) (plain : is_thing name ≡ false) where
       by_name true = keeps Never tt
       by_name false = keeps (Named name true) plain
 
-  stateless_made : (list : List ℕ) → Stateless (made_block name list)
+  steady_made : (list : List ℕ) → Steady (made_block name list)
   unfolding made_block blocks.wrap_block
-  stateless_made list =
-      stateless_bind _ fixed
-      (stateless_if (is_apart name) _ _ (stateless_wrap Never (Make (bare name)) refl list) (stateless_wrap (Named name true) (Make (bare name)) refl list))
+  steady_made list =
+      steady_bind _ fixed
+      (steady_if (is_apart name) _ _ (steady_wrap Never (Make (bare name)) refl list) (steady_wrap (Named name true) (Make (bare name)) refl list))
       (λ made. (fit_fixed made).states)
 
   container_keeps : (n : ℕ) (s : State) → IsKeeping s → KeepsOrder s (final (format_children name n (children_of s.trees n)) s)
@@ -103,13 +103,13 @@ module _ (name : List ℕ) (plain : is_thing name ≡ false) where
       rw (final-bind, final-look, final-answer, final-bind)
       (keeps_trans ((order_preserving_unwrap n).keeps s is) (then_order_preserving (made_block name children) _ t is_t made (order_preserving_restore_values _)))
 
-  stateless_children : (n : ℕ) (children : List ℕ) → Stateless (format_children name n children)
+  steady_children : (n : ℕ) (children : List ℕ) → Steady (format_children name n children)
   unfolding format_children
-  stateless_children n children = search (stateless_parts, stateless_record_values, stateless_keeping_children, stateless_made, stateless_restore_values)
+  steady_children n children = search (steady_parts, steady_record_values, steady_keeping_children, steady_made, steady_restore_values)
 
   fit_container : (n : ℕ) → Fit (format_container name n)
   unfolding format_container
-  fit_container n = fit (record { keeps = λ s is. rw final-look (container_keeps n s is) }) (stateless_look_at _ (λ s. stateless_children n (children_of s.trees n)))
+  fit_container n = fit (record { keeps = λ s is. rw final-look (container_keeps n s is) }) (steady_look_at _ (λ s. steady_children n (children_of s.trees n)))
 
   series_block_keeps : (list : List ℕ) (s : State) → IsKeeping s → KeepsOrder s (final (made_block name (take (count_series (is_next_on_line s) list) list)) s)
   series_block_keeps list s is =
@@ -119,7 +119,7 @@ module _ (name : List ℕ) (plain : is_thing name ≡ false) where
   unfolding format_series
   fit_series list =
       fit (record { keeps = λ s is. rw final-look (then_order_preserving _ _ s is (series_block_keeps list s is) (order_preserving_answer _)) })
-      (stateless_look_at _ (λ s. stateless_bind _ _ (stateless_made (take (count_series (is_next_on_line s) list) list)) (λ _. stateless_answer _)))
+      (steady_look_at _ (λ s. steady_bind _ _ (steady_made (take (count_series (is_next_on_line s) list) list)) (λ _. steady_answer _)))
 
   fit_first : (list : List ℕ) (x : ℕ) → Fit (format_first name list x)
   unfolding format_first
@@ -152,8 +152,8 @@ fit_format_block v = by_name (names.is_formattable_block (block_name v)) refl
 pub order_preserving_format_block : (v : List ℕ) → OrderPreserving (format_block v)
 order_preserving_format_block v = (fit_format_block v).order
 
-pub stateless_format_block : (v : List ℕ) → Stateless (format_block v)
-stateless_format_block v = (fit_format_block v).states
+pub steady_format_block : (v : List ℕ) → Steady (format_block v)
+steady_format_block v = (fit_format_block v).states
 
 -- ---- justify, step 1
 
@@ -163,7 +163,7 @@ named_div_keeps e s is false h = (order_preserving_answer tt).keeps s is
 
 fit_name_div : (e : ℕ) → Fit (name_div e)
 unfolding name_div
-fit_name_div e = fit (record { keeps = λ s is. rw final-look (named_div_keeps e s is (has_name s.trees e (codes "center")) refl) }) (search stateless_parts)
+fit_name_div e = fit (record { keeps = λ s is. rw final-look (named_div_keeps e s is (has_name s.trees e (codes "center")) refl) }) (search steady_parts)
 
 fit_drop_plain : (e : ℕ) → Fit (drop_plain e)
 unfolding drop_plain
@@ -183,15 +183,15 @@ align_keeps : (alignment list : List ℕ) (s : State) → IsKeeping s → KeepsO
 unfolding aligning.wrap_aligned
 align_keeps alignment list s is = series_keeps (Aligned alignment) (Make (aligned_div alignment)) tt refl s is (is_next s.trees) (next_is s) list
 
-stateless_aligned : (alignment list : List ℕ) → Stateless (aligning.wrap_aligned alignment list)
+steady_aligned : (alignment list : List ℕ) → Steady (aligning.wrap_aligned alignment list)
 unfolding aligning.wrap_aligned
-stateless_aligned alignment list = stateless_wrap (Aligned alignment) (Make (aligned_div alignment)) refl list
+steady_aligned alignment list = steady_wrap (Aligned alignment) (Make (aligned_div alignment)) refl list
 
 fit_align : (alignment list : List ℕ) → Fit (align_series alignment list)
 unfolding align_series
 fit_align alignment list =
     fit (record { keeps = λ s is. rw final-look (then_order_preserving _ _ s is (align_keeps alignment list s is) (order_preserving_answer _)) })
-    (stateless_look_at _ (λ s. stateless_bind _ _ (stateless_aligned alignment (take (count_series (is_next s.trees) list) list)) (λ _. stateless_answer _)))
+    (steady_look_at _ (λ s. steady_bind _ _ (steady_aligned alignment (take (count_series (is_next s.trees) list) list)) (λ _. steady_answer _)))
 
 fit_align_all : (alignment list : List ℕ) → Fit (align_all alignment list)
 unfolding align_all
@@ -208,5 +208,5 @@ fit_justify alignment = search (fits, fit_clear_all, fit_align_range)
 pub order_preserving_justify : (alignment : List ℕ) → OrderPreserving (justify alignment)
 order_preserving_justify alignment = (fit_justify alignment).order
 
-pub stateless_justify : (alignment : List ℕ) → Stateless (justify alignment)
-stateless_justify alignment = (fit_justify alignment).states
+pub steady_justify : (alignment : List ℕ) → Steady (justify alignment)
+steady_justify alignment = (fit_justify alignment).states

@@ -23,18 +23,18 @@ use Rattle.edit_model.specs.Run.{final, ◌>>=◌, answer, done, given, unset_at
 use Rattle.edit_model.proofs.Steps.{final-look}
 use Rattle.edit_laws.specs.MoveLaws.{IsBare}
 use Rattle.edit_laws.specs.Order.{KeepsOrder, IsKeeping}
-use Rattle.edit_laws.specs.Stateless.{Stateless}
+use Rattle.edit_laws.specs.Steady.{Steady}
 use Rattle.edit_laws.specs.OrderPreserving.{OrderPreserving}
 use Rattle.edit_laws.proofs.Renaming.{tag_name_keeps}
-use Rattle.edit_laws.proofs.StatelessRuns.{stateless_parts, stateless_bind, stateless_answer, stateless_edit, stateless_if, stateless_look_at}
+use Rattle.edit_laws.proofs.SteadyRuns.{steady_parts, steady_bind, steady_answer, steady_edit, steady_if, steady_look_at}
 use Rattle.edit_laws.proofs.OrderPreserving.{order_preserving, order_preserving_answer}
-use Rattle.edit_laws.proofs.Unwrapping.{unwrap_keeps, stateless_unwrap}
+use Rattle.edit_laws.proofs.Unwrapping.{unwrap_keeps, steady_unwrap}
 use Rattle.wrap_split.specs.Split.{is_void_thing}
 use Rattle.inline_value.specs.Clearing.{write_words, drop_line, drop_word, drop_property, hint_of, drop_attribute, drop_hint, drop_link, span_for, stripped, unwrapped, clear_value}
 use Rattle.command_laws.proofs.Criteria.{modifiable_bare}
 use Rattle.command_laws.proofs.Fits.{Fit, fit}
 use Rattle.command_laws.proofs.Splitting.{then_order_preserving, then_order_preserving_on}
-use Rattle.command_laws.proofs.StylingRuns.{order_preserving_set_style, order_preserving_unset_style, stateless_set_style, stateless_unset_style}
+use Rattle.command_laws.proofs.StylingRuns.{order_preserving_set_style, order_preserving_unset_style, steady_set_style, steady_unset_style}
 
 -- ---- the order
 
@@ -122,78 +122,78 @@ order_preserving_clear_value command e = record { keeps = λ s is. rw final-look
 
 -- ---- the states of contenteditable
 
-stateless_words : (e : ℕ) (text : List ℕ) → Stateless (write_words e text)
+steady_words : (e : ℕ) (text : List ℕ) → Steady (write_words e text)
 unfolding write_words
-stateless_words e text = search (stateless_parts, stateless_set_style, stateless_unset_style)
+steady_words e text = search (steady_parts, steady_set_style, steady_unset_style)
 
-stateless_line : (line : DecorationLine) (e : ℕ) → Stateless (drop_line line e)
+steady_line : (line : DecorationLine) (e : ℕ) → Steady (drop_line line e)
 unfolding drop_line
-stateless_line line e = search (stateless_parts, stateless_words)
+steady_line line e = search (steady_parts, steady_words)
 
-stateless_word : (u : Subject) (e : ℕ) → Stateless (drop_word u e)
-stateless_word Link e = stateless_answer tt
-stateless_word Background e = stateless_answer tt
-stateless_word Script e = stateless_answer tt
-stateless_word (Line line) e = stateless_line line e
-stateless_word Weight e = stateless_answer tt
-stateless_word Slant e = stateless_answer tt
-stateless_word Family e = stateless_answer tt
-stateless_word Size e = stateless_answer tt
-stateless_word Foreground e = stateless_answer tt
-stateless_word Nothing e = stateless_answer tt
+steady_word : (u : Subject) (e : ℕ) → Steady (drop_word u e)
+steady_word Link e = steady_answer tt
+steady_word Background e = steady_answer tt
+steady_word Script e = steady_answer tt
+steady_word (Line line) e = steady_line line e
+steady_word Weight e = steady_answer tt
+steady_word Slant e = steady_answer tt
+steady_word Family e = steady_answer tt
+steady_word Size e = steady_answer tt
+steady_word Foreground e = steady_answer tt
+steady_word Nothing e = steady_answer tt
 
-stateless_property : (command : Command) (e : ℕ) → Stateless (drop_property command e)
+steady_property : (command : Command) (e : ℕ) → Steady (drop_property command e)
 unfolding drop_property
-stateless_property command e = search (stateless_parts, stateless_unset_style)
+steady_property command e = search (steady_parts, steady_unset_style)
 
-stateless_attribute : (name attribute : List ℕ) (e : ℕ) → bytes_eq attribute (codes "contenteditable") ≡ false → Stateless (drop_attribute name attribute e)
+steady_attribute : (name attribute : List ℕ) (e : ℕ) → bytes_eq attribute (codes "contenteditable") ≡ false → Steady (drop_attribute name attribute e)
 unfolding drop_attribute
-stateless_attribute name attribute e plain =
-    stateless_look_at _ (λ s. stateless_if _ _ _ (stateless_bind (unset_attribute e attribute) (λ _. done) (stateless_edit (Unset e attribute) plain) (λ _. stateless_answer tt)) (stateless_answer tt))
+steady_attribute name attribute e plain =
+    steady_look_at _ (λ s. steady_if _ _ _ (steady_bind (unset_attribute e attribute) (λ _. done) (steady_edit (Unset e attribute) plain) (λ _. steady_answer tt)) (steady_answer tt))
 
-stateless_hinted : (u : Subject) (e : ℕ) → Stateless (given (hint_of u) done (λ hint. drop_attribute (codes "font") hint e))
-stateless_hinted Link e = stateless_answer tt
-stateless_hinted Background e = stateless_answer tt
-stateless_hinted Script e = stateless_answer tt
-stateless_hinted (Line line) e = stateless_answer tt
-stateless_hinted Weight e = stateless_answer tt
-stateless_hinted Slant e = stateless_answer tt
-stateless_hinted Family e = stateless_attribute (codes "font") (codes "face") e refl
-stateless_hinted Size e = stateless_attribute (codes "font") (codes "size") e refl
-stateless_hinted Foreground e = stateless_attribute (codes "font") (codes "color") e refl
-stateless_hinted Nothing e = stateless_answer tt
+steady_hinted : (u : Subject) (e : ℕ) → Steady (given (hint_of u) done (λ hint. drop_attribute (codes "font") hint e))
+steady_hinted Link e = steady_answer tt
+steady_hinted Background e = steady_answer tt
+steady_hinted Script e = steady_answer tt
+steady_hinted (Line line) e = steady_answer tt
+steady_hinted Weight e = steady_answer tt
+steady_hinted Slant e = steady_answer tt
+steady_hinted Family e = steady_attribute (codes "font") (codes "face") e refl
+steady_hinted Size e = steady_attribute (codes "font") (codes "size") e refl
+steady_hinted Foreground e = steady_attribute (codes "font") (codes "color") e refl
+steady_hinted Nothing e = steady_answer tt
 
-stateless_hint : (command : Command) (e : ℕ) → Stateless (drop_hint command e)
+steady_hint : (command : Command) (e : ℕ) → Steady (drop_hint command e)
 unfolding drop_hint
-stateless_hint command e = stateless_hinted (subject command) e
+steady_hint command e = steady_hinted (subject command) e
 
-stateless_link : (u : Subject) (e : ℕ) → Stateless (drop_link u e)
-stateless_link Link e = stateless_attribute (codes "a") (codes "href") e refl
-stateless_link Background e = stateless_answer tt
-stateless_link Script e = stateless_answer tt
-stateless_link (Line line) e = stateless_answer tt
-stateless_link Weight e = stateless_answer tt
-stateless_link Slant e = stateless_answer tt
-stateless_link Family e = stateless_answer tt
-stateless_link Size e = stateless_answer tt
-stateless_link Foreground e = stateless_answer tt
-stateless_link Nothing e = stateless_answer tt
+steady_link : (u : Subject) (e : ℕ) → Steady (drop_link u e)
+steady_link Link e = steady_attribute (codes "a") (codes "href") e refl
+steady_link Background e = steady_answer tt
+steady_link Script e = steady_answer tt
+steady_link (Line line) e = steady_answer tt
+steady_link Weight e = steady_answer tt
+steady_link Slant e = steady_answer tt
+steady_link Family e = steady_answer tt
+steady_link Size e = steady_answer tt
+steady_link Foreground e = steady_answer tt
+steady_link Nothing e = steady_answer tt
 
-stateless_span : (command : Command) (e : ℕ) → Stateless (span_for command e)
+steady_span : (command : Command) (e : ℕ) → Steady (span_for command e)
 unfolding span_for
-stateless_span command e = search stateless_parts
+steady_span command e = search steady_parts
 
-stateless_stripped : (command : Command) (e : ℕ) → Stateless (stripped command e)
+steady_stripped : (command : Command) (e : ℕ) → Steady (stripped command e)
 unfolding stripped
-stateless_stripped command e = search (stateless_parts, stateless_word, stateless_property, stateless_hint, stateless_link, stateless_span)
+steady_stripped command e = search (steady_parts, steady_word, steady_property, steady_hint, steady_link, steady_span)
 
-stateless_unwrapped : (e : ℕ) → Stateless (unwrapped e)
+steady_unwrapped : (e : ℕ) → Steady (unwrapped e)
 unfolding unwrapped
-stateless_unwrapped e = search (stateless_parts, stateless_unwrap)
+steady_unwrapped e = search (steady_parts, steady_unwrap)
 
-stateless_clear_value : (command : Command) (e : ℕ) → Stateless (clear_value command e)
+steady_clear_value : (command : Command) (e : ℕ) → Steady (clear_value command e)
 unfolding clear_value
-stateless_clear_value command e = search (stateless_parts, stateless_unwrapped, stateless_stripped)
+steady_clear_value command e = search (steady_parts, steady_unwrapped, steady_stripped)
 
 pub fit_clear_value : (command : Command) (e : ℕ) → Fit (clear_value command e)
-fit_clear_value command e = fit (order_preserving_clear_value command e) (stateless_clear_value command e)
+fit_clear_value command e = fit (order_preserving_clear_value command e) (steady_clear_value command e)

@@ -13,10 +13,10 @@ use Rattle.edit_model.proofs.Steps.{final-answer, final-look, value-answer, valu
 use Rattle.edit_model.proofs.Tests.{label_is}
 use Rattle.edit_laws.specs.MoveLaws.{IsBare}
 use Rattle.edit_laws.specs.Order.{IsKeeping}
-use Rattle.edit_laws.specs.Stateless.{Stateless}
+use Rattle.edit_laws.specs.Steady.{Steady}
 use Rattle.edit_laws.proofs.Around.{self_one}
 use Rattle.edit_laws.proofs.Renaming.{tag_name_keeps}
-use Rattle.edit_laws.proofs.StatelessRuns.{stateless_parts}
+use Rattle.edit_laws.proofs.SteadyRuns.{steady_parts}
 use Rattle.edit_actions.specs.Siblings.{first_parent}
 use Rattle.block_extend.specs.Series.{count_after, is_next}
 use Rattle.wrap_split.specs.declared.rule.Criterion.{Criterion}
@@ -31,7 +31,7 @@ use Rattle.list_toggle.specs.Collecting.{Made, Collected, is_container, made_one
 use Rattle.command_laws.proofs.Criteria.{first_part, named_bare}
 use Rattle.command_laws.proofs.ListWalks.{Consecutive, alone, among, consecutive_keeps, series_consecutive}
 use Rattle.command_laws.proofs.Splitting.{last_some}
-use Rattle.command_laws.proofs.StatelessWraps.{stateless_wrap}
+use Rattle.command_laws.proofs.SteadyWraps.{steady_wrap}
 use Rattle.command_laws.proofs.Widening.{Siblings, member}
 use Rattle.command_laws.proofs.Growing.{Grown, together_none, together_one, together_next, next_parent, child_parted, only}
 use Rattle.command_laws.proofs.ItemTurns.{Turn, kept_grown, renamed_grown}
@@ -234,34 +234,34 @@ collect_ends s is list known = ends_look Items _ s (collect_turns (turn_bound s)
 
 -- ---- the states of contenteditable
 
-stateless_rename_item : (x : ℕ) → Stateless (rename_item x)
+steady_rename_item : (x : ℕ) → Steady (rename_item x)
 unfolding rename_item
-stateless_rename_item x = search stateless_parts
+steady_rename_item x = search steady_parts
 
-stateless_wrap_item : (line : List ℕ) → Stateless (wrap_item line)
+steady_wrap_item : (line : List ℕ) → Steady (wrap_item line)
 unfolding wrap_item
-stateless_wrap_item line = stateless_wrap Never (Make (bare (codes "li"))) refl line
+steady_wrap_item line = steady_wrap Never (Make (bare (codes "li"))) refl line
 
-stateless_wrap_first : (count : ℕ) (list : List ℕ) → Stateless (wrap_first count list)
+steady_wrap_first : (count : ℕ) (list : List ℕ) → Steady (wrap_first count list)
 unfolding wrap_first
-stateless_wrap_first count list = search (stateless_parts, stateless_wrap_item)
+steady_wrap_first count list = search (steady_parts, steady_wrap_item)
 
-stateless_wrap_line : (list : List ℕ) → Stateless (wrap_line list)
+steady_wrap_line : (list : List ℕ) → Steady (wrap_line list)
 unfolding wrap_line
-stateless_wrap_line list = search (stateless_parts, stateless_wrap_first)
+steady_wrap_line list = search (steady_parts, steady_wrap_first)
 
-stateless_make_item : (list : List ℕ) (x : ℕ) → Stateless (make_item list x)
+steady_make_item : (list : List ℕ) (x : ℕ) → Steady (make_item list x)
 unfolding make_item
-stateless_make_item list x = search (stateless_parts, stateless_rename_item, stateless_wrap_line)
+steady_make_item list x = search (steady_parts, steady_rename_item, steady_wrap_line)
 
-stateless_next_item : (list : List ℕ) → Stateless (next_item list)
+steady_next_item : (list : List ℕ) → Steady (next_item list)
 unfolding next_item
-stateless_next_item list = search (stateless_parts, stateless_make_item)
+steady_next_item list = search (steady_parts, steady_make_item)
 
-stateless_collect_next : (c : Collected) → Stateless (collect_next c)
+steady_collect_next : (c : Collected) → Steady (collect_next c)
 unfolding collect_next
-stateless_collect_next c = search (stateless_parts, stateless_next_item)
+steady_collect_next c = search (steady_parts, steady_next_item)
 
-pub stateless_collect : (list : List ℕ) → Stateless (collect_items list)
+pub steady_collect : (list : List ℕ) → Steady (collect_items list)
 unfolding collect_items
-stateless_collect list = search (stateless_parts, stateless_collect_next)
+steady_collect list = search (steady_parts, steady_collect_next)

@@ -1,8 +1,8 @@
 -- The delete command leaves the states of contenteditable.
 use Rattle.std.proofs.Common.{ℕ, Bool}
 use Rattle.live_range.specs.declared.places.Point.{Point}
-use Rattle.edit_laws.specs.Stateless.{Stateless}
-use Rattle.edit_laws.proofs.StatelessRuns.{stateless_parts}
+use Rattle.edit_laws.specs.Steady.{Steady}
+use Rattle.edit_laws.proofs.SteadyRuns.{steady_parts}
 use Rattle.inline_value.specs.Ancestors.{split_out}
 use Rattle.list_indent.specs.Outdenting.{outdent_node}
 use Rattle.list_indent.specs.Sublists.{normalize_sublists}
@@ -11,101 +11,101 @@ use Rattle.text_insertion.specs.Entries.{rename_stray}
 use Rattle.text_insertion.specs.Start.{erase}
 use Rattle.text_commands.specs.Entries.{lift_entry, outdent_line, part_entry, part_entries}
 use Rattle.text_commands.specs.Delete.{erase_single, erase_line, join, delete_across, delete_from, delete_at_caret, delete}
-use Rattle.command_laws.proofs.AncestorRuns.{stateless_fix_ancestors}
-use Rattle.command_laws.proofs.ErasingRuns.{stateless_canonicalize_start, stateless_delete_selection}
+use Rattle.command_laws.proofs.AncestorRuns.{steady_fix_ancestors}
+use Rattle.command_laws.proofs.ErasingRuns.{steady_canonicalize_start, steady_delete_selection}
 use Rattle.command_laws.proofs.IndentRuns.{fit_outdent_node}
-use Rattle.command_laws.proofs.PushingRuns.{stateless_record_values, stateless_restore_values}
-use Rattle.command_laws.proofs.RestoringRuns.{stateless_restore_states}
-use Rattle.command_laws.proofs.StatelessSplits.{stateless_split, stateless_keeping_children}
-use Rattle.command_laws.proofs.StatelessWraps.{stateless_append_break}
+use Rattle.command_laws.proofs.PushingRuns.{steady_record_values, steady_restore_values}
+use Rattle.command_laws.proofs.RestoringRuns.{steady_restore_states}
+use Rattle.command_laws.proofs.SteadySplits.{steady_split, steady_keeping_children}
+use Rattle.command_laws.proofs.SteadyWraps.{steady_append_break}
 use Rattle.command_laws.proofs.SublistRuns.{fit_normalize}
 
 -- ---- the ways back from a caret
 
-stateless_drop_child : (a : _) (k : ℕ) → Stateless (drop_child a k)
+steady_drop_child : (a : _) (k : ℕ) → Steady (drop_child a k)
 unfolding drop_child
-stateless_drop_child a k = search stateless_parts
+steady_drop_child a k = search steady_parts
 
-stateless_back_turn : (a : _) → Stateless (back_turn a)
+steady_back_turn : (a : _) → Steady (back_turn a)
 unfolding back_turn
-stateless_back_turn a = search (stateless_parts, stateless_drop_child, stateless_keeping_children) depth 14
+steady_back_turn a = search (steady_parts, steady_drop_child, steady_keeping_children) depth 14
 
-stateless_go_back : (p : Point) → Stateless (go_back p)
+steady_go_back : (p : Point) → Steady (go_back p)
 unfolding go_back
-stateless_go_back p = search (stateless_parts, stateless_back_turn)
+steady_go_back p = search (steady_parts, steady_back_turn)
 
-stateless_climb_turn : (a : _) → Stateless (climb_turn a)
+steady_climb_turn : (a : _) → Steady (climb_turn a)
 unfolding climb_turn
-stateless_climb_turn a = search (stateless_parts, stateless_drop_child)
+steady_climb_turn a = search (steady_parts, steady_drop_child)
 
-stateless_climb : (p : Point) → Stateless (climb p)
+steady_climb : (p : Point) → Steady (climb p)
 unfolding climb
-stateless_climb p = search (stateless_parts, stateless_climb_turn)
+steady_climb p = search (steady_parts, steady_climb_turn)
 
 -- ---- entries of lists, and indented lines
 
-stateless_normalize : (n : ℕ) → Stateless (normalize_sublists n)
-stateless_normalize n = (fit_normalize n).states
+steady_normalize : (n : ℕ) → Steady (normalize_sublists n)
+steady_normalize n = (fit_normalize n).states
 
-stateless_split_out : (n : ℕ) → Stateless (split_out n)
+steady_split_out : (n : ℕ) → Steady (split_out n)
 unfolding split_out
-stateless_split_out n = search (stateless_parts, stateless_record_values, stateless_split, stateless_restore_values)
+steady_split_out n = search (steady_parts, steady_record_values, steady_split, steady_restore_values)
 
-pub stateless_rename_stray : (n : ℕ) → Stateless (rename_stray n)
+pub steady_rename_stray : (n : ℕ) → Steady (rename_stray n)
 unfolding rename_stray
-stateless_rename_stray n = search stateless_parts
+steady_rename_stray n = search steady_parts
 
-stateless_lift_entry : (n : ℕ) → Stateless (lift_entry n)
+steady_lift_entry : (n : ℕ) → Steady (lift_entry n)
 unfolding lift_entry
-stateless_lift_entry n = search (stateless_parts, stateless_normalize, stateless_split_out, stateless_rename_stray, stateless_fix_ancestors)
+steady_lift_entry n = search (steady_parts, steady_normalize, steady_split_out, steady_rename_stray, steady_fix_ancestors)
 
-stateless_outdent_node : (n : ℕ) → Stateless (outdent_node n)
-stateless_outdent_node n = (fit_outdent_node n).states
+steady_outdent_node : (n : ℕ) → Steady (outdent_node n)
+steady_outdent_node n = (fit_outdent_node n).states
 
-stateless_outdent_line : (p : Point) → Stateless (outdent_line p)
+steady_outdent_line : (p : Point) → Steady (outdent_line p)
 unfolding outdent_line
-stateless_outdent_line p = search (stateless_parts, stateless_outdent_node)
+steady_outdent_line p = search (steady_parts, steady_outdent_node)
 
-stateless_part_entry : (k : ℕ) → Stateless (part_entry k)
+steady_part_entry : (k : ℕ) → Steady (part_entry k)
 unfolding part_entry
-stateless_part_entry k = search (stateless_parts, stateless_append_break)
+steady_part_entry k = search (steady_parts, steady_append_break)
 
-stateless_part_entries : (p : Point) → Stateless (part_entries p)
+steady_part_entries : (p : Point) → Steady (part_entries p)
 unfolding part_entries
-stateless_part_entries p = search (stateless_parts, stateless_part_entry)
+steady_part_entries p = search (steady_parts, steady_part_entry)
 
 -- ---- what goes, and what is joined
 
-pub stateless_erase : (merge strip backward : Bool) → Stateless (erase merge strip backward)
+pub steady_erase : (merge strip backward : Bool) → Steady (erase merge strip backward)
 unfolding erase
-stateless_erase merge strip backward = search (stateless_parts, stateless_delete_selection, stateless_restore_states)
+steady_erase merge strip backward = search (steady_parts, steady_delete_selection, steady_restore_states)
 
-stateless_erase_single : (p : Point) → Stateless (erase_single p)
+steady_erase_single : (p : Point) → Steady (erase_single p)
 unfolding erase_single
-stateless_erase_single p = search (stateless_parts, stateless_erase)
+steady_erase_single p = search (steady_parts, steady_erase)
 
-stateless_erase_line : (p q : Point) → Stateless (erase_line p q)
+steady_erase_line : (p q : Point) → Steady (erase_line p q)
 unfolding erase_line
-stateless_erase_line p q = search (stateless_parts, stateless_erase) depth 9
+steady_erase_line p q = search (steady_parts, steady_erase) depth 9
 
-stateless_join : (p q : Point) → Stateless (join p q)
+steady_join : (p q : Point) → Steady (join p q)
 unfolding join
-stateless_join p q = search (stateless_parts, stateless_part_entries, stateless_erase)
+steady_join p q = search (steady_parts, steady_part_entries, steady_erase)
 
 -- ---- the command
 
-stateless_delete_across : (p : Point) → Stateless (delete_across p)
+steady_delete_across : (p : Point) → Steady (delete_across p)
 unfolding delete_across
-stateless_delete_across p = search (stateless_parts, stateless_climb, stateless_outdent_line, stateless_erase_line, stateless_join) depth 12
+steady_delete_across p = search (steady_parts, steady_climb, steady_outdent_line, steady_erase_line, steady_join) depth 12
 
-stateless_delete_from : (p : Point) → Stateless (delete_from p)
+steady_delete_from : (p : Point) → Steady (delete_from p)
 unfolding delete_from
-stateless_delete_from p = search (stateless_parts, stateless_go_back, stateless_erase_single, stateless_lift_entry, stateless_delete_across) depth 12
+steady_delete_from p = search (steady_parts, steady_go_back, steady_erase_single, steady_lift_entry, steady_delete_across) depth 12
 
-stateless_delete_at_caret : Stateless delete_at_caret
+steady_delete_at_caret : Steady delete_at_caret
 unfolding delete_at_caret
-stateless_delete_at_caret = search (stateless_parts, stateless_canonicalize_start, stateless_delete_from)
+steady_delete_at_caret = search (steady_parts, steady_canonicalize_start, steady_delete_from)
 
-pub stateless_delete : Stateless delete
+pub steady_delete : Steady delete
 unfolding delete
-stateless_delete = search (stateless_parts, stateless_delete_at_caret, stateless_erase)
+steady_delete = search (steady_parts, steady_delete_at_caret, steady_erase)

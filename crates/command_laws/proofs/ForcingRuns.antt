@@ -17,12 +17,12 @@ use Rattle.edit_model.specs.Moves.{insert_before, move_before, move_last}
 use Rattle.edit_model.specs.Run.{Run, final, ◌>>=◌, ◌>>◌, answer, done, remove}
 use Rattle.edit_model.proofs.Steps.{final-bind, final-look, final-make_element, value-bind, value-look, value-make_element}
 use Rattle.edit_laws.specs.Order.{KeepsOrder, IsKeeping}
-use Rattle.edit_laws.specs.Stateless.{Stateless}
+use Rattle.edit_laws.specs.Steady.{Steady}
 use Rattle.edit_laws.specs.OrderPreserving.{OrderPreserving}
 use Rattle.edit_laws.proofs.Nesting.{Held, put_near, near_shaped, goes_in, goes_out}
 use Rattle.edit_laws.proofs.QuietActions.{keeping_final}
 use Rattle.edit_laws.proofs.Renaming.{tag_name_keeps, keeping_made}
-use Rattle.edit_laws.proofs.StatelessRuns.{stateless_parts, stateless_answer, stateless_bind, stateless_look_at, stateless_make_element}
+use Rattle.edit_laws.proofs.SteadyRuns.{steady_parts, steady_answer, steady_bind, steady_look_at, steady_make_element}
 use Rattle.edit_laws.proofs.Subsequences.{keeps_trans}
 use Rattle.edit_laws.proofs.OrderPreserving.{order_preserving, order_preserving_answer, order_preserving_bind, order_preserving_remove}
 use Rattle.wrap_split.specs.declared.rule.Criterion.TheVariants.{SameValue}
@@ -32,11 +32,11 @@ use Rattle.inline_value.specs.Forcing.{lacks, reorder_prev, reorder_next, joined
 use Rattle.inline_value.specs.Wrappers.{wrapper_for}
 use Rattle.command_laws.proofs.Criteria.{named_bare}
 use Rattle.command_laws.proofs.Fits.{Fit, fit, fits, fit_answer, fit_bind, fit_look, fit_if, fit_each}
-use Rattle.command_laws.proofs.ReorderRuns.{order_preserving_reorder, stateless_reorder}
+use Rattle.command_laws.proofs.ReorderRuns.{order_preserving_reorder, steady_reorder}
 use Rattle.command_laws.proofs.Splitting.{then_order_preserving}
-use Rattle.command_laws.proofs.StatelessMoves.{stateless_moves}
-use Rattle.command_laws.proofs.StatelessWraps.{stateless_wrap_found}
-use Rattle.command_laws.proofs.StylingRuns.{Shaping, shaping, shaping_set_style, order_preserving_set_style, stateless_set_style}
+use Rattle.command_laws.proofs.SteadyMoves.{steady_moves}
+use Rattle.command_laws.proofs.SteadyWraps.{steady_wrap_found}
+use Rattle.command_laws.proofs.StylingRuns.{Shaping, shaping, shaping_set_style, order_preserving_set_style, steady_set_style}
 use Rattle.command_laws.proofs.WrapperNames.{plain_wrapper}
 use Rattle.command_laws.proofs.Wrapping.{order_preserving_wrap_one}
 
@@ -163,83 +163,83 @@ order_preserving_wrapped command v n = record {
 
 -- ---- the states of contenteditable
 
-stateless_reorder_prev : (command : Command) (v : List ℕ) (n : ℕ) → Stateless (reorder_prev command v n)
+steady_reorder_prev : (command : Command) (v : List ℕ) (n : ℕ) → Steady (reorder_prev command v n)
 unfolding reorder_prev
-stateless_reorder_prev command v n = search (stateless_parts, stateless_reorder)
+steady_reorder_prev command v n = search (steady_parts, steady_reorder)
 
-stateless_reorder_next : (command : Command) (v : List ℕ) (n : ℕ) → Stateless (reorder_next command v n)
+steady_reorder_next : (command : Command) (v : List ℕ) (n : ℕ) → Steady (reorder_next command v n)
 unfolding reorder_next
-stateless_reorder_next command v n = search (stateless_parts, stateless_reorder)
+steady_reorder_next command v n = search (steady_parts, steady_reorder)
 
-stateless_joined : (command : Command) (v : List ℕ) (n : ℕ) → Stateless (joined command v n)
+steady_joined : (command : Command) (v : List ℕ) (n : ℕ) → Steady (joined command v n)
 unfolding joined
-stateless_joined command v n = search (stateless_parts, stateless_reorder_prev, stateless_reorder_next, stateless_wrap_found)
+steady_joined command v n = search (steady_parts, steady_reorder_prev, steady_reorder_next, steady_wrap_found)
 
-stateless_rename_link : (e : ℕ) → Stateless (rename_link e)
+steady_rename_link : (e : ℕ) → Steady (rename_link e)
 unfolding rename_link
-stateless_rename_link e = search stateless_parts
+steady_rename_link e = search steady_parts
 
-stateless_rename_links : (n : ℕ) → Stateless (rename_links n)
+steady_rename_links : (n : ℕ) → Steady (rename_links n)
 unfolding rename_links
-stateless_rename_links n = search (stateless_parts, stateless_rename_link)
+steady_rename_links n = search (steady_parts, steady_rename_link)
 
-stateless_clear_way : (u : Subject) (n : ℕ) → Stateless (clear_way u n)
-stateless_clear_way Link n = stateless_rename_links n
-stateless_clear_way Background n = stateless_answer tt
-stateless_clear_way Script n = stateless_answer tt
-stateless_clear_way (Line line) n = stateless_answer tt
-stateless_clear_way Weight n = stateless_answer tt
-stateless_clear_way Slant n = stateless_answer tt
-stateless_clear_way Family n = stateless_answer tt
-stateless_clear_way Size n = stateless_answer tt
-stateless_clear_way Foreground n = stateless_answer tt
-stateless_clear_way Nothing n = stateless_answer tt
+steady_clear_way : (u : Subject) (n : ℕ) → Steady (clear_way u n)
+steady_clear_way Link n = steady_rename_links n
+steady_clear_way Background n = steady_answer tt
+steady_clear_way Script n = steady_answer tt
+steady_clear_way (Line line) n = steady_answer tt
+steady_clear_way Weight n = steady_answer tt
+steady_clear_way Slant n = steady_answer tt
+steady_clear_way Family n = steady_answer tt
+steady_clear_way Size n = steady_answer tt
+steady_clear_way Foreground n = steady_answer tt
+steady_clear_way Nothing n = steady_answer tt
 
-stateless_make_wrapper : (command : Command) (v : List ℕ) (n : ℕ) → Stateless (make_wrapper command v n)
+steady_make_wrapper : (command : Command) (v : List ℕ) (n : ℕ) → Steady (make_wrapper command v n)
 unfolding make_wrapper
-stateless_make_wrapper command v n =
-    stateless_bind (clear_way (subject command) n) _ (stateless_clear_way (subject command) n)
-    (λ _. stateless_look_at _ (λ s. stateless_make_element _ _ (plain_wrapper s.flags.css_styling command v).stateless))
+steady_make_wrapper command v n =
+    steady_bind (clear_way (subject command) n) _ (steady_clear_way (subject command) n)
+    (λ _. steady_look_at _ (λ s. steady_make_element _ _ (plain_wrapper s.flags.css_styling command v).steady))
 
-stateless_style_by : (u : Subject) (command : Command) (v : List ℕ) (p : ℕ) → Stateless (style_by u command v p)
-stateless_style_by Link command v p = search (stateless_parts, stateless_set_style)
-stateless_style_by Background command v p = search (stateless_parts, stateless_set_style)
-stateless_style_by Script command v p = search (stateless_parts, stateless_set_style)
-stateless_style_by (Line line) command v p = stateless_set_style p (codes "text-decoration") v
-stateless_style_by Weight command v p = search (stateless_parts, stateless_set_style)
-stateless_style_by Slant command v p = search (stateless_parts, stateless_set_style)
-stateless_style_by Family command v p = search (stateless_parts, stateless_set_style)
-stateless_style_by Size command v p = search (stateless_parts, stateless_set_style)
-stateless_style_by Foreground command v p = search (stateless_parts, stateless_set_style)
-stateless_style_by Nothing command v p = search (stateless_parts, stateless_set_style)
+steady_style_by : (u : Subject) (command : Command) (v : List ℕ) (p : ℕ) → Steady (style_by u command v p)
+steady_style_by Link command v p = search (steady_parts, steady_set_style)
+steady_style_by Background command v p = search (steady_parts, steady_set_style)
+steady_style_by Script command v p = search (steady_parts, steady_set_style)
+steady_style_by (Line line) command v p = steady_set_style p (codes "text-decoration") v
+steady_style_by Weight command v p = search (steady_parts, steady_set_style)
+steady_style_by Slant command v p = search (steady_parts, steady_set_style)
+steady_style_by Family command v p = search (steady_parts, steady_set_style)
+steady_style_by Size command v p = search (steady_parts, steady_set_style)
+steady_style_by Foreground command v p = search (steady_parts, steady_set_style)
+steady_style_by Nothing command v p = search (steady_parts, steady_set_style)
 
-stateless_style_wrapper : (command : Command) (v : List ℕ) (p : ℕ) → Stateless (style_wrapper command v p)
+steady_style_wrapper : (command : Command) (v : List ℕ) (p : ℕ) → Steady (style_wrapper command v p)
 unfolding style_wrapper
-stateless_style_wrapper command v p = search (stateless_parts, stateless_style_by)
+steady_style_wrapper command v p = search (steady_parts, steady_style_by)
 
-stateless_taken_back : (n p : ℕ) → Stateless (taken_back n p)
+steady_taken_back : (n p : ℕ) → Steady (taken_back n p)
 unfolding taken_back
-stateless_taken_back n p = search (stateless_parts, stateless_moves)
+steady_taken_back n p = search (steady_parts, steady_moves)
 
-stateless_confirm_value : (command : Command) (v : List ℕ) (n p : ℕ) → Stateless (confirm_value command v n p)
+steady_confirm_value : (command : Command) (v : List ℕ) (n p : ℕ) → Steady (confirm_value command v n p)
 unfolding confirm_value
-stateless_confirm_value command v n p = search (stateless_parts, stateless_taken_back)
+steady_confirm_value command v n p = search (steady_parts, steady_taken_back)
 
-stateless_put_in : (command : Command) (v : List ℕ) (n p : ℕ) → Stateless (put_in command v n p)
+steady_put_in : (command : Command) (v : List ℕ) (n p : ℕ) → Steady (put_in command v n p)
 unfolding put_in
-stateless_put_in command v n p = search (stateless_parts, stateless_moves, stateless_style_wrapper, stateless_confirm_value)
+steady_put_in command v n p = search (steady_parts, steady_moves, steady_style_wrapper, steady_confirm_value)
 
-stateless_wrapped : (command : Command) (v : List ℕ) (n : ℕ) → Stateless (wrapped command v n)
+steady_wrapped : (command : Command) (v : List ℕ) (n : ℕ) → Steady (wrapped command v n)
 unfolding wrapped
-stateless_wrapped command v n = search (stateless_parts, stateless_make_wrapper, stateless_put_in)
+steady_wrapped command v n = search (steady_parts, steady_make_wrapper, steady_put_in)
 
 -- ---- the whole
 
 fit_joined : (command : Command) (v : List ℕ) (n : ℕ) → Fit (joined command v n)
-fit_joined command v n = fit (order_preserving_joined command v n) (stateless_joined command v n)
+fit_joined command v n = fit (order_preserving_joined command v n) (steady_joined command v n)
 
 fit_wrapped : (command : Command) (v : List ℕ) (n : ℕ) → Fit (wrapped command v n)
-fit_wrapped command v n = fit (order_preserving_wrapped command v n) (stateless_wrapped command v n)
+fit_wrapped command v n = fit (order_preserving_wrapped command v n) (steady_wrapped command v n)
 
 fit_unless : (command : Command) (v : List ℕ) (n : ℕ) → Fit (unless_alike command v n)
 unfolding unless_alike

@@ -24,21 +24,21 @@ use Rattle.edit_model.proofs.Steps.{final-bind, final-answer, final-look, final-
 use Rattle.edit_model.proofs.Tests.{goes, removes, parent_there}
 use Rattle.edit_laws.specs.MoveLaws.{IsBare}
 use Rattle.edit_laws.specs.Order.{KeepsOrder, IsKeeping}
-use Rattle.edit_laws.specs.Stateless.{Stateless}
+use Rattle.edit_laws.specs.Steady.{Steady}
 use Rattle.edit_laws.specs.OrderPreserving.{OrderPreserving}
 use Rattle.edit_laws.proofs.Lifting.{final_move_before}
 use Rattle.edit_laws.proofs.Loose.{before_root}
 use Rattle.edit_laws.proofs.QuietActions.{keeping_final}
-use Rattle.edit_laws.proofs.StatelessRuns.{stateless_parts}
+use Rattle.edit_laws.proofs.SteadyRuns.{steady_parts}
 use Rattle.edit_laws.proofs.Subsequences.{keeps_trans}
 use Rattle.edit_laws.proofs.OrderPreserving.{order_preserving, order_preserving_answer}
-use Rattle.edit_laws.proofs.Unwrapping.{unwrap_keeps, stateless_unwrap}
+use Rattle.edit_laws.proofs.Unwrapping.{unwrap_keeps, steady_unwrap}
 use Rattle.inline_commands.specs.RemovingFormat.{is_candidate, candidates_in_range, unwrap_candidates, part_from_format, part_nodes, clear_command, clear_commands, remove_format}
 use Rattle.inline_value.specs.Selections.{nodes_in_range}
 use Rattle.command_laws.proofs.Criteria.{no_thing, second_part}
-use Rattle.command_laws.proofs.SelectionRuns.{order_preserving_set_value, order_preserving_split_ends, stateless_set_value, stateless_split_ends}
+use Rattle.command_laws.proofs.SelectionRuns.{order_preserving_set_value, order_preserving_split_ends, steady_set_value, steady_split_ends}
 use Rattle.command_laws.proofs.Splitting.{order_preserving_split_around}
-use Rattle.command_laws.proofs.StatelessSplits.{stateless_split_around}
+use Rattle.command_laws.proofs.SteadySplits.{steady_split_around}
 
 -- ---- what nodes have stays where others move and go
 
@@ -162,22 +162,22 @@ order_preserving_remove_format = search (order_preserving, order_preserving_unwr
 
 -- ---- the states of contenteditable
 
-stateless_unwrap_candidates : Stateless unwrap_candidates
+steady_unwrap_candidates : Steady unwrap_candidates
 unfolding unwrap_candidates
-stateless_unwrap_candidates = search (stateless_parts, stateless_unwrap)
+steady_unwrap_candidates = search (steady_parts, steady_unwrap)
 
-stateless_part : (n : ℕ) → Stateless (part_from_format n)
+steady_part : (n : ℕ) → Steady (part_from_format n)
 unfolding part_from_format
-stateless_part n = search (stateless_parts, stateless_split_around)
+steady_part n = search (steady_parts, steady_split_around)
 
-stateless_part_nodes : Stateless part_nodes
+steady_part_nodes : Steady part_nodes
 unfolding part_nodes
-stateless_part_nodes = search (stateless_parts, stateless_part)
+steady_part_nodes = search (steady_parts, steady_part)
 
-stateless_clear_commands : Stateless clear_commands
+steady_clear_commands : Steady clear_commands
 unfolding clear_commands clear_command
-stateless_clear_commands = search (stateless_parts, stateless_set_value)
+steady_clear_commands = search (steady_parts, steady_set_value)
 
-pub stateless_remove_format : Stateless remove_format
+pub steady_remove_format : Steady remove_format
 unfolding remove_format
-stateless_remove_format = search (stateless_parts, stateless_unwrap_candidates, stateless_split_ends, stateless_part_nodes, stateless_clear_commands)
+steady_remove_format = search (steady_parts, steady_unwrap_candidates, steady_split_ends, steady_part_nodes, steady_clear_commands)

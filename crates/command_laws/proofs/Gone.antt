@@ -24,7 +24,7 @@ use Rattle.edit_laws.proofs.Around.{self_one}
 use Rattle.edit_laws.proofs.Fronts.{child_by}
 use Rattle.edit_laws.proofs.Handing.{final_move_last}
 use Rattle.edit_laws.proofs.Slides.{parent_other, not_within_beside}
-use Rattle.command_laws.proofs.StatelessSplits.{valid_final}
+use Rattle.command_laws.proofs.SteadySplits.{valid_final}
 use Rattle.command_laws.proofs.Together.{dropped, dropped-append, dropped-absent, put_in-end}
 use Rattle.command_laws.proofs.Growing.{moved_to, only}
 use Rattle.command_laws.proofs.Openness.{open_same}

@@ -27,7 +27,7 @@ use Rattle.edit_laws.proofs.Handing.{final_move_last}
 use Rattle.edit_laws.proofs.Lifting.{move_stays}
 use Rattle.edit_actions.specs.Siblings.{members}
 use Rattle.command_laws.proofs.Splitting.{parted}
-use Rattle.command_laws.proofs.StatelessSplits.{valid_final}
+use Rattle.command_laws.proofs.SteadySplits.{valid_final}
 use Rattle.command_laws.proofs.Together.{dropped, dropped-append, dropped-absent, taken-dropped, parent-unlinked, parent-linked, members-append, members-one, members-other, members-same, members-few, Together, together-same, together_removed, together_put, put_in-end, next_edited}
 use Rattle.command_laws.proofs.Widening.{Siblings, last_parted, pushed-last, one_after}
 

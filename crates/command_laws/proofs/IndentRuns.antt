@@ -13,10 +13,10 @@ use Rattle.edit_model.specs.Valid.{IsValid}
 use Rattle.edit_model.specs.Run.{Run, final, value, ◌>>◌, done, given, for_each, unset_attribute}
 use Rattle.edit_model.proofs.Steps.{final-answer, final-look}
 use Rattle.edit_laws.specs.MoveLaws.{IsBare}
-use Rattle.edit_laws.specs.Stateless.{Stateless}
+use Rattle.edit_laws.specs.Steady.{Steady}
 use Rattle.edit_laws.specs.OrderPreserving.{OrderPreserving}
 use Rattle.edit_laws.proofs.Renaming.{tag_name_keeps}
-use Rattle.edit_laws.proofs.StatelessRuns.{stateless_tag_name}
+use Rattle.edit_laws.proofs.SteadyRuns.{steady_tag_name}
 use Rattle.edit_actions.specs.Siblings.{until}
 use Rattle.wrap_split.specs.declared.rule.Criterion.TheVariants.{Named, SimpleIndentation}
 use Rattle.wrap_split.specs.declared.rule.Recipe.TheVariants.{Make}
@@ -34,7 +34,7 @@ use Rattle.list_indent.specs.Commands.{normalize_range, normalize_before, normal
 use Rattle.command_laws.proofs.Copies.{plain_tag}
 use Rattle.command_laws.proofs.Criteria.{first_part, named_bare, indentation_bare}
 use Rattle.command_laws.proofs.ListWalks.{FitAt, at_once, looking, onwards, then_fit, fit_seen, Consecutive, among, wrap_fits, split_fits, fit_series}
-use Rattle.command_laws.proofs.StatelessSplits.{valid_final}
+use Rattle.command_laws.proofs.SteadySplits.{valid_final}
 use Rattle.command_laws.proofs.StylingRuns.{Shaping, shaping, shaping_unset_style}
 use Rattle.command_laws.proofs.SublistRuns.{fit_normalize}
 use Rattle.command_laws.proofs.Fits.{Fit, fits, fit_answer, fit_bind}
@@ -121,7 +121,7 @@ to_div_fits s n is plain = looking _ s (by_test (is_element_at s.trees n))
     by_test false = at_once done s is (fit_answer tt)
     by_test true =
         then_fit (set_tag_name n (codes "div")) (λ _. done) s is
-        (record { order = λ k. tag_name_keeps n (codes "div") s k plain refl; states = (stateless_tag_name n (codes "div")).leaves s is })
+        (record { order = λ k. tag_name_keeps n (codes "div") s k plain refl; states = (steady_tag_name n (codes "div")).leaves s is })
         (λ _. fit_answer tt)
 
 -- a node is bare after attributes were set
@@ -328,11 +328,11 @@ fit_outdent = search (fits, fit_range, fit_outdent_gathered)
 pub order_preserving_indent : OrderPreserving indent
 order_preserving_indent = fit_indent.order
 
-pub stateless_indent : Stateless indent
-stateless_indent = fit_indent.states
+pub steady_indent : Steady indent
+steady_indent = fit_indent.states
 
 pub order_preserving_outdent : OrderPreserving outdent
 order_preserving_outdent = fit_outdent.order
 
-pub stateless_outdent : Stateless outdent
-stateless_outdent = fit_outdent.states
+pub steady_outdent : Steady outdent
+steady_outdent = fit_outdent.states

@@ -37,7 +37,7 @@ use Rattle.wrap_split.specs.Wrap.{all_hidden, if_hidden, list_on, extended_front
 use Rattle.inline_value.specs.Wrappers.{bare}
 use Rattle.command_laws.proofs.Sides.{before_list}
 use Rattle.command_laws.proofs.Splitting.{last_some, all_members}
-use Rattle.command_laws.proofs.StatelessSplits.{valid_final}
+use Rattle.command_laws.proofs.SteadySplits.{valid_final}
 use Rattle.command_laws.proofs.Widening.{Siblings, first_parted, member, widened_siblings}
 use Rattle.command_laws.proofs.Gone.{gone_all}
 use Rattle.command_laws.proofs.Growing.{Grown, Growing, growing, growing_answer, growing_look}

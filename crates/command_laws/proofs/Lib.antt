@@ -11,9 +11,9 @@ pub mod NewBreaks
 pub mod MovingIn
 pub mod Merging
 pub mod Wrapping
-pub mod StatelessMoves
-pub mod StatelessSplits
-pub mod StatelessWraps
+pub mod SteadyMoves
+pub mod SteadySplits
+pub mod SteadyWraps
 pub mod Fits
 pub mod StylingRuns
 pub mod ClearingRuns

@@ -1,8 +1,8 @@
 -- Making links, and unlink, keep the order, and leave the states of contenteditable.
 use Rattle.std.proofs.Common.{ℕ, List, [], ◌∷◌}
-use Rattle.edit_laws.specs.Stateless.{Stateless}
+use Rattle.edit_laws.specs.Steady.{Steady}
 use Rattle.edit_laws.specs.OrderPreserving.{OrderPreserving}
-use Rattle.edit_laws.proofs.StatelessRuns.{stateless_parts}
+use Rattle.edit_laws.proofs.SteadyRuns.{steady_parts}
 use Rattle.edit_laws.proofs.OrderPreserving.{order_preserving}
 use Rattle.inline_commands.specs.Linking.{relink, relink_above, relink_range, link_range, link_to, create_link}
 use Rattle.inline_commands.specs.Unlink.{clear_links, unlink}
@@ -15,12 +15,12 @@ order_preserving_relink : (v : List ℕ) (e : ℕ) → OrderPreserving (relink v
 unfolding relink
 order_preserving_relink v e = search order_preserving
 
-stateless_relink : (v : List ℕ) (e : ℕ) → Stateless (relink v e)
+steady_relink : (v : List ℕ) (e : ℕ) → Steady (relink v e)
 unfolding relink
-stateless_relink v e = search stateless_parts
+steady_relink v e = search steady_parts
 
 fit_relink : (v : List ℕ) (e : ℕ) → Fit (relink v e)
-fit_relink v e = fit (order_preserving_relink v e) (stateless_relink v e)
+fit_relink v e = fit (order_preserving_relink v e) (steady_relink v e)
 
 fit_relink_above : (v : List ℕ) (n : ℕ) → Fit (relink_above v n)
 unfolding relink_above
@@ -57,11 +57,11 @@ fit_unlink = search (fits, fit_clear_links)
 pub order_preserving_create_link : (v : List ℕ) → OrderPreserving (create_link v)
 order_preserving_create_link v = (fit_create_link v).order
 
-pub stateless_create_link : (v : List ℕ) → Stateless (create_link v)
-stateless_create_link v = (fit_create_link v).states
+pub steady_create_link : (v : List ℕ) → Steady (create_link v)
+steady_create_link v = (fit_create_link v).states
 
 pub order_preserving_unlink : OrderPreserving unlink
 order_preserving_unlink = fit_unlink.order
 
-pub stateless_unlink : Stateless unlink
-stateless_unlink = fit_unlink.states
+pub steady_unlink : Steady unlink
+steady_unlink = fit_unlink.states

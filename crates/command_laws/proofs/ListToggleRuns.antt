@@ -26,13 +26,13 @@ use Rattle.edit_model.proofs.Steps.{final-bind, final-answer, final-look, value-
 use Rattle.edit_model.proofs.Tests.{label_is}
 use Rattle.edit_laws.specs.MoveLaws.{IsBare}
 use Rattle.edit_laws.specs.Order.{KeepsOrder, IsKeeping}
-use Rattle.edit_laws.specs.Stateless.{Stateless}
+use Rattle.edit_laws.specs.Steady.{Steady}
 use Rattle.edit_laws.specs.OrderPreserving.{OrderPreserving}
 use Rattle.edit_laws.proofs.Around.{self_one}
 use Rattle.edit_laws.proofs.QuietActions.{keeping_final}
 use Rattle.edit_laws.proofs.Renaming.{tag_name_keeps}
 use Rattle.edit_laws.proofs.Slides.{parent_other}
-use Rattle.edit_laws.proofs.StatelessRuns.{stateless_parts, stateless_perform}
+use Rattle.edit_laws.proofs.SteadyRuns.{steady_parts, steady_perform}
 use Rattle.edit_laws.proofs.Subsequences.{keeps_refl, keeps_trans}
 use Rattle.edit_laws.proofs.OrderPreserving.{order_preserving_answer, order_preserving_perform}
 use Rattle.edit_actions.specs.Siblings.{first_parent, members}
@@ -55,17 +55,17 @@ use Rattle.list_toggle.specs.Ranges.{keep_range, free_range, is_other_list, othe
 use Rattle.list_toggle.specs.Toggle.{goes_on_out, release_from, release_series, release_all, release_lines, wrap_list, move_items, enlist, stays, place_from, place_items, place_collected, enlist_next, enlist_all, enlist_lines, toggle_on, toggle_range, toggle_from, toggle_lists}
 use Rattle.command_laws.proofs.Criteria.{first_part, second_part, named_bare}
 use Rattle.command_laws.proofs.ListWalks.{FitAt, at_once, looking, fit_seen, Consecutive, fit_series}
-use Rattle.command_laws.proofs.PushingRuns.{stateless_record_values, stateless_restore_values, order_preserving_restore_values}
+use Rattle.command_laws.proofs.PushingRuns.{steady_record_values, steady_restore_values, order_preserving_restore_values}
 use Rattle.command_laws.proofs.IndentRuns.{fit_outdent_node, recorded_same, fit_range, fit_fixed, split_items_fits}
 use Rattle.command_laws.proofs.Splitting.{then_order_preserving, then_order_preserving_on, all_members, split_keeps}
-use Rattle.command_laws.proofs.StatelessSplits.{stateless_split}
-use Rattle.command_laws.proofs.StatelessWraps.{stateless_wrap, stateless_wrap_found}
+use Rattle.command_laws.proofs.SteadySplits.{steady_split}
+use Rattle.command_laws.proofs.SteadyWraps.{steady_wrap, steady_wrap_found}
 use Rattle.command_laws.proofs.SublistRuns.{Ends, ends_answer, ends_look, ends_bind}
 use Rattle.command_laws.proofs.Together.{Together}
 use Rattle.command_laws.proofs.Fits.{Fit, fit, fits, fit_answer}
 use Rattle.command_laws.proofs.Widening.{member}
 use Rattle.command_laws.proofs.Wrapping.{together_keeps}
-use Rattle.command_laws.proofs.CollectRuns.{Items, collect_ends, stateless_collect}
+use Rattle.command_laws.proofs.CollectRuns.{Items, collect_ends, steady_collect}
 use Rattle.command_laws.proofs.Growing.{Grown, together_none}
 use Rattle.command_laws.proofs.KeptNames.{name_stays}
 use Rattle.command_laws.proofs.SplitTogether.{split_list_together}
@@ -84,7 +84,7 @@ list_of_bare ordered s l h = named_bare s l (list_name ordered) (list_thing orde
 -- ---- steps 1 and 2
 
 fit_scratch : (pair : Pair) → Fit (set_scratch pair)
-fit_scratch pair = fit (order_preserving_perform (Scratch pair) tt) (stateless_perform (Scratch pair) tt)
+fit_scratch pair = fit (order_preserving_perform (Scratch pair) tt) (steady_perform (Scratch pair) tt)
 
 fit_keep_range : Fit keep_range
 unfolding keep_range
@@ -111,13 +111,13 @@ joined_keeps ordered l children s is kids =
     by_children [] e = together_none _
     by_children (a ∷ rest) e = split_children_together s is.valid l a rest e
 
-stateless_join : (ordered : Bool) (children : List ℕ) → Stateless (join ordered children)
+steady_join : (ordered : Bool) (children : List ℕ) → Steady (join ordered children)
 unfolding join
-stateless_join ordered children = search (stateless_parts, stateless_record_values, stateless_split, stateless_wrap_found, stateless_restore_values)
+steady_join ordered children = search (steady_parts, steady_record_values, steady_split, steady_wrap_found, steady_restore_values)
 
 fit_join_list : (ordered : Bool) (l : ℕ) → Fit (join_list ordered l)
 unfolding join_list
-fit_join_list ordered l = fit_seen _ (λ s is. (record { order = λ keeping. joined_keeps ordered l (children_of s.trees l) s keeping refl; states = (stateless_join ordered (children_of s.trees l)).leaves s is }))
+fit_join_list ordered l = fit_seen _ (λ s is. (record { order = λ keeping. joined_keeps ordered l (children_of s.trees l) s keeping refl; states = (steady_join ordered (children_of s.trees l)).leaves s is }))
 
 named_keeps : (ordered : Bool) (l : ℕ) (s : State) → IsKeeping s → IsBare s l → KeepsOrder s (final (name_list ordered l) s)
 unfolding name_list
@@ -127,9 +127,9 @@ named_keeps ordered l s is plain = rw final-look (by (is_element_at s.trees l))
     by true = then_order_preserving (set_tag_name l (list_name ordered)) done s is (tag_name_keeps l (list_name ordered) s is plain (list_thing ordered)) (order_preserving_answer tt)
     by false = rw final-answer (keeps_refl _)
 
-stateless_name_list : (ordered : Bool) (l : ℕ) → Stateless (name_list ordered l)
+steady_name_list : (ordered : Bool) (l : ℕ) → Steady (name_list ordered l)
 unfolding name_list
-stateless_name_list ordered l = search stateless_parts
+steady_name_list ordered l = search steady_parts
 
 convert_keeps : (ordered : Bool) (l : ℕ) (s : State) → IsKeeping s → IsBare s l → KeepsOrder s (final (convert_list ordered l) s)
 unfolding convert_list
@@ -139,12 +139,12 @@ convert_keeps ordered l s is plain = rw final-look (by (is_beside_fit ordered s 
     by true = (fit_join_list ordered l).order.keeps s is
     by false = named_keeps ordered l s is plain
 
-stateless_join_list : (ordered : Bool) (l : ℕ) → Stateless (join_list ordered l)
-stateless_join_list ordered l = (fit_join_list ordered l).states
+steady_join_list : (ordered : Bool) (l : ℕ) → Steady (join_list ordered l)
+steady_join_list ordered l = (fit_join_list ordered l).states
 
-stateless_convert : (ordered : Bool) (l : ℕ) → Stateless (convert_list ordered l)
+steady_convert : (ordered : Bool) (l : ℕ) → Steady (convert_list ordered l)
 unfolding convert_list
-stateless_convert ordered l = search (stateless_parts, stateless_join_list, stateless_name_list)
+steady_convert ordered l = search (steady_parts, steady_join_list, steady_name_list)
 
 -- one after the other: what was a list of the other kind when they were listed is one when its turn comes
 AllLists : Bool → State → List ℕ → Type 0
@@ -185,7 +185,7 @@ fit_convert_lists : (ordered : Bool) → Fit (convert_lists ordered)
 unfolding convert_lists
 fit_convert_lists ordered = fit
     (record { keeps = λ s is. rw final-look (convert_each ordered (other_lists ordered s) s is (all_other ordered s)) })
-    (search (stateless_parts, stateless_convert))
+    (search (steady_parts, steady_convert))
 
 -- ---- step 5
 
@@ -205,8 +205,8 @@ release_series_fits ordered s list is k = by (first_in list)
     by None = at_once done s is (fit_answer tt)
     by (Some x) = release_from_fits ordered s list x is k
 
-stateless_free_range : Stateless free_range
-stateless_free_range = fit_free_range.states
+steady_free_range : Steady free_range
+steady_free_range = fit_free_range.states
 
 fit_release_all : (ordered : Bool) (list : List ℕ) → Fit (release_all ordered list)
 unfolding release_all goes_on_out
@@ -218,41 +218,41 @@ fit_release_lines ordered = search (fits, fit_free_range, fit_release_all)
 
 -- ---- step 6, b to d
 
-stateless_wrap_list : (ordered : Bool) (items : List ℕ) → Stateless (wrap_list ordered items)
+steady_wrap_list : (ordered : Bool) (items : List ℕ) → Steady (wrap_list ordered items)
 unfolding wrap_list
-stateless_wrap_list true items = stateless_wrap (Named (codes "ol") false) (Make (bare (codes "ol"))) refl items
-stateless_wrap_list false items = stateless_wrap (Named (codes "ul") false) (Make (bare (codes "ul"))) refl items
+steady_wrap_list true items = steady_wrap (Named (codes "ol") false) (Make (bare (codes "ol"))) refl items
+steady_wrap_list false items = steady_wrap (Named (codes "ul") false) (Make (bare (codes "ul"))) refl items
 
-stateless_move_items : (ordered : Bool) (items : List ℕ) → Stateless (move_items ordered items)
+steady_move_items : (ordered : Bool) (items : List ℕ) → Steady (move_items ordered items)
 unfolding move_items
-stateless_move_items ordered items = search (stateless_parts, stateless_record_values, stateless_split, stateless_wrap_list, stateless_restore_values)
+steady_move_items ordered items = search (steady_parts, steady_record_values, steady_split, steady_wrap_list, steady_restore_values)
 
-stateless_fixed : (o : Option ℕ) → Stateless (fixed o)
-stateless_fixed o = (fit_fixed o).states
+steady_fixed : (o : Option ℕ) → Steady (fixed o)
+steady_fixed o = (fit_fixed o).states
 
-stateless_enlist : (ordered : Bool) (items : List ℕ) → Stateless (enlist ordered items)
+steady_enlist : (ordered : Bool) (items : List ℕ) → Steady (enlist ordered items)
 unfolding enlist
-stateless_enlist ordered items = search (stateless_parts, stateless_wrap_list, stateless_fixed)
+steady_enlist ordered items = search (steady_parts, steady_wrap_list, steady_fixed)
 
-stateless_place_from : (ordered : Bool) (items : List ℕ) (a : ℕ) → Stateless (place_from ordered items a)
+steady_place_from : (ordered : Bool) (items : List ℕ) (a : ℕ) → Steady (place_from ordered items a)
 unfolding place_from
-stateless_place_from ordered items a = search (stateless_parts, stateless_move_items, stateless_enlist)
+steady_place_from ordered items a = search (steady_parts, steady_move_items, steady_enlist)
 
-stateless_place_items : (ordered : Bool) (items : List ℕ) → Stateless (place_items ordered items)
+steady_place_items : (ordered : Bool) (items : List ℕ) → Steady (place_items ordered items)
 unfolding place_items
-stateless_place_items ordered items = search (stateless_parts, stateless_place_from)
+steady_place_items ordered items = search (steady_parts, steady_place_from)
 
-stateless_place_collected : (ordered : Bool) (c : Collected) → Stateless (place_collected ordered c)
+steady_place_collected : (ordered : Bool) (c : Collected) → Steady (place_collected ordered c)
 unfolding place_collected
-stateless_place_collected ordered c = search (stateless_parts, stateless_place_items)
+steady_place_collected ordered c = search (steady_parts, steady_place_items)
 
-stateless_enlist_next : (ordered : Bool) (list : List ℕ) → Stateless (enlist_next ordered list)
+steady_enlist_next : (ordered : Bool) (list : List ℕ) → Steady (enlist_next ordered list)
 unfolding enlist_next
-stateless_enlist_next ordered list = search (stateless_parts, stateless_collect, stateless_place_collected)
+steady_enlist_next ordered list = search (steady_parts, steady_collect, steady_place_collected)
 
-stateless_enlist_all : (ordered : Bool) (list : List ℕ) → Stateless (enlist_all ordered list)
+steady_enlist_all : (ordered : Bool) (list : List ℕ) → Steady (enlist_all ordered list)
 unfolding enlist_all
-stateless_enlist_all ordered list = search (stateless_parts, stateless_enlist_next)
+steady_enlist_all ordered list = search (steady_parts, steady_enlist_next)
 
 -- of a list that is together the taken ones are split off
 same_split : (s : State) (o : ℕ) (m : List ℕ) → first_parent s m ≡ Some o → members s o m ≡ m → final (split_parent m) s ≡ final (split_members o m) s
@@ -424,7 +424,7 @@ fit_enlist_lines : (ordered : Bool) → Fit (enlist_lines ordered)
 unfolding enlist_lines
 fit_enlist_lines ordered = fit
     (record { keeps = λ s is. rw final-look (lines_keep ordered s is) })
-    (search (stateless_parts, stateless_free_range, stateless_enlist_all))
+    (search (steady_parts, steady_free_range, steady_enlist_all))
   where
     lines_keep : (ordered : Bool) (s : State) → IsKeeping s → KeepsOrder s (final (free_range >> enlist_all ordered (range_lines s)) s)
     lines_keep ordered s is =
@@ -455,5 +455,5 @@ fit_toggle ordered = search (fits, fit_toggle_from)
 pub order_preserving_toggle_lists : (ordered : Bool) → OrderPreserving (toggle_lists ordered)
 order_preserving_toggle_lists ordered = (fit_toggle ordered).order
 
-pub stateless_toggle_lists : (ordered : Bool) → Stateless (toggle_lists ordered)
-stateless_toggle_lists ordered = (fit_toggle ordered).states
+pub steady_toggle_lists : (ordered : Bool) → Steady (toggle_lists ordered)
+steady_toggle_lists ordered = (fit_toggle ordered).states

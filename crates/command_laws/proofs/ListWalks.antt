@@ -6,11 +6,11 @@ use Rattle.dom_model.specs.declared.Content.{Content}
 use Rattle.dom_model.specs.Forest.{Seen, last_in, after_in, parent_of, children_of, next_of}
 use Rattle.dom_model.proofs.Links.{child_of_parent}
 use Rattle.edit_model.specs.State.{State}
-use Rattle.edit_model.specs.Laws.{LeavesStatesOn}
 use Rattle.edit_model.specs.Valid.{IsValid}
 use Rattle.edit_model.specs.Run.{Run, final, value, ◌>>=◌, look}
 use Rattle.edit_model.proofs.Steps.{final-bind, final-look}
 use Rattle.edit_model.proofs.Tests.{label_is}
+use Rattle.edit_laws.specs.Steady.{SteadyOn}
 use Rattle.edit_laws.specs.Order.{KeepsOrder, IsKeeping}
 use Rattle.edit_laws.proofs.QuietActions.{keeping_final}
 use Rattle.edit_laws.proofs.Subsequences.{keeps_trans}
@@ -22,8 +22,8 @@ use Rattle.block_extend.specs.Series.{count_after, is_next}
 use Rattle.list_indent.specs.Series.{for_series}
 use Rattle.command_laws.specs.WrapLaws.{NamesNoThing, MakesNoThing, MakesNoState}
 use Rattle.command_laws.proofs.Splitting.{parted, split_keeps, order_preserving_split_one}
-use Rattle.command_laws.proofs.StatelessSplits.{at_bind, at_look, valid_final, stateless_split}
-use Rattle.command_laws.proofs.StatelessWraps.{stateless_wrap}
+use Rattle.command_laws.proofs.SteadySplits.{at_bind, at_look, valid_final, steady_split}
+use Rattle.command_laws.proofs.SteadyWraps.{steady_wrap}
 use Rattle.command_laws.proofs.Fits.{Fit, fit, fit_answer}
 use Rattle.command_laws.proofs.Widening.{Siblings, pushed-last, one_after, same_list}
 use Rattle.command_laws.proofs.Wrapping.{wrap_keeps, order_preserving_wrap_one}
@@ -32,7 +32,7 @@ use Rattle.command_laws.proofs.Wrapping.{wrap_keeps, order_preserving_wrap_one}
 
 pub record FitAt {T : Type 0} (s : State) (m : Run T) : Type 0 where
   pub order : IsKeeping s → KeepsOrder s (final m s)
-  pub states : LeavesStatesOn (m.by_actions s)
+  pub states : SteadyOn (m.by_actions s)
 
 pub at_once : {T : Type 0} (m : Run T) (s : State) → IsValid s → Fit m → FitAt s m
 at_once m s is h = record { order = λ k. h.order.keeps s k; states = h.states.leaves s is }
@@ -67,10 +67,10 @@ consecutive_keeps c r plain makes s is list (alone x e) = subst (λ l. KeepsOrde
 consecutive_keeps c r plain makes s is list (among o w) = wrap_keeps c r w.front list w.rest o s plain makes is w.is
 
 pub wrap_fits : (c : Criterion) (r : Recipe) → NamesNoThing c → MakesNoThing r → MakesNoState r → (s : State) (list : List ℕ) → IsValid s → Consecutive s list → FitAt s (wrap c r list)
-wrap_fits c r plain makes none s list is k = record { order = λ keeping. consecutive_keeps c r plain makes s keeping list k; states = (stateless_wrap c r none list).leaves s is }
+wrap_fits c r plain makes none s list is k = record { order = λ keeping. consecutive_keeps c r plain makes s keeping list k; states = (steady_wrap c r none list).leaves s is }
 
 pub split_fits : (s : State) (list : List ℕ) → IsValid s → Consecutive s list → FitAt s (split_parent list)
-split_fits s list is k = record { order = λ keeping. by k keeping; states = (stateless_split list).leaves s is }
+split_fits s list is k = record { order = λ keeping. by k keeping; states = (steady_split list).leaves s is }
   where
     by : Consecutive s list → IsKeeping s → KeepsOrder s (final (split_parent list) s)
     by (alone x e) keeping = subst (λ l. KeepsOrder s (final (split_parent l) s)) (sym e) ((order_preserving_split_one x).keeps s keeping)

@@ -1,4 +1,4 @@
--- Nodes without a state of contenteditable: those that are editable, and those that a stateless run made. An element made
+-- Nodes without a state of contenteditable: those that are editable, and those that a steady run made. An element made
 -- with the attributes of such a node, but for the id, has no state.
 use Rattle.std.proofs.Common.{◌≡◌, ℕ, ◌≤◌, true, false, List, [], ◌∷◌, Option, Some, None, refl, subst, inl, inr}
 use Rattle.std.specs.Prelude.{bytes_eq, codes, unwrap_or}
@@ -21,7 +21,8 @@ use Rattle.edit_model.specs.Valid.{IsValid}
 use Rattle.edit_model.specs.Run.{Run, final}
 use Rattle.edit_model.proofs.Each.{copy_stateless}
 use Rattle.edit_model.proofs.States.{stated_value, states_along}
-use Rattle.edit_laws.specs.Stateless.{Stateless}
+use Rattle.edit_laws.specs.Steady.{Steady}
+use Rattle.edit_laws.proofs.SteadyRuns.{states_on}
 
 -- what is made with the attributes of the node has no state
 abbrev pub HasNoState : State → ℕ → Type 0
@@ -30,10 +31,10 @@ HasNoState s n = (name : List ℕ) → LeavesStates (MakeElement name (attribute
 pub editable_unstated : (s : State) (n : ℕ) → IsValid s → is_editable_for s n ≡ true → HasNoState s n
 editable_unstated s n is editable name = copy_stateless s n name is editable
 
-pub made_unstated : {T : Type 0} (m : Run T) (s : State) (n : ℕ) → IsValid s → Stateless m → s.next ≤ n → HasNoState (final m s) n
+pub made_unstated : {T : Type 0} (m : Run T) (s : State) (n : ℕ) → IsValid s → Steady m → s.next ≤ n → HasNoState (final m s) n
 unfolding final
 made_unstated m s n is h high name =
-    by_content (content_of (m.run s).0.trees n) ((states_along (m.by_actions s) is (h.leaves s is)).made n high)
+    by_content (content_of (m.run s).0.trees n) ((states_along (m.by_actions s) is (states_on (m.by_actions s) (h.leaves s is))).made n high)
   where
     by_content : (o : Option Content) → stated_value (option_map contenteditable o) ≡ false
         → LeavesStates (MakeElement name (unwrap_or (option_and_then attributes_in o) []))

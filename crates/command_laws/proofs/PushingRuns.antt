@@ -3,7 +3,7 @@ use Rattle.std.proofs.Common.{ℕ, List, [], ◌∷◌, Option, Some, None}
 use Rattle.dom_model.specs.Forest.{first_in}
 use Rattle.html_names.specs.declared.commands.Command.{Command}
 use Rattle.command_value.specs.SpecifiedValues.{specified}
-use Rattle.edit_laws.specs.Stateless.{Stateless}
+use Rattle.edit_laws.specs.Steady.{Steady}
 use Rattle.edit_laws.specs.OrderPreserving.{OrderPreserving}
 use Rattle.inline_value.specs.Pushing.{push_to, clear_level, push_level, own_or, push_levels, push_from, push_listed, push_down}
 use Rattle.inline_value.specs.Recording.{Recorded, restored_to, restore_value, restore_values, record_values}
@@ -64,11 +64,11 @@ fit_record_values list = search fits
 pub order_preserving_restore_values : (list : List Recorded) → OrderPreserving (restore_values list)
 order_preserving_restore_values list = (fit_restore_values list).order
 
-pub stateless_restore_values : (list : List Recorded) → Stateless (restore_values list)
-stateless_restore_values list = (fit_restore_values list).states
+pub steady_restore_values : (list : List Recorded) → Steady (restore_values list)
+steady_restore_values list = (fit_restore_values list).states
 
 pub order_preserving_record_values : (list : List ℕ) → OrderPreserving (record_values list)
 order_preserving_record_values list = (fit_record_values list).order
 
-pub stateless_record_values : (list : List ℕ) → Stateless (record_values list)
-stateless_record_values list = (fit_record_values list).states
+pub steady_record_values : (list : List ℕ) → Steady (record_values list)
+steady_record_values list = (fit_record_values list).states

@@ -31,7 +31,7 @@ use Rattle.edit_laws.proofs.Around.{self_one}
 use Rattle.edit_laws.proofs.Hosts.{host_from-join}
 use Rattle.edit_laws.proofs.Patterns.{tree_of-join}
 use Rattle.edit_laws.proofs.Renaming.{made_trees}
-use Rattle.command_laws.proofs.StatelessSplits.{valid_final}
+use Rattle.command_laws.proofs.SteadySplits.{valid_final}
 use Rattle.command_laws.proofs.Together.{parent-linked}
 use Rattle.command_laws.proofs.Wrapping.{put_in-middle}
 use Rattle.command_laws.proofs.Openness.{open_same}

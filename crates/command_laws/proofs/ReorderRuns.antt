@@ -12,16 +12,16 @@ use Rattle.edit_model.specs.Valid.{IsValid}
 use Rattle.edit_model.specs.Run.{final, done}
 use Rattle.edit_model.proofs.Steps.{final-look}
 use Rattle.edit_laws.specs.Order.{KeepsOrder, IsKeeping}
-use Rattle.edit_laws.specs.Stateless.{Stateless}
+use Rattle.edit_laws.specs.Steady.{Steady}
 use Rattle.edit_laws.specs.OrderPreserving.{OrderPreserving}
 use Rattle.edit_laws.proofs.Lines.{holder_there}
-use Rattle.edit_laws.proofs.StatelessRuns.{stateless_parts}
+use Rattle.edit_laws.proofs.SteadyRuns.{steady_parts}
 use Rattle.edit_laws.proofs.Swapping.{change_places}
 use Rattle.edit_laws.proofs.OrderPreserving.{order_preserving_answer}
 use Rattle.wrap_split.specs.Walks.{turn_bound}
 use Rattle.inline_value.specs.Reordering.{gives_value, if_sole, sole_child, reorder_step, reordered, swapped, reorder_with, reorder}
 use Rattle.command_laws.proofs.Cleared.{walk_keeps}
-use Rattle.command_laws.proofs.StatelessMoves.{stateless_moves}
+use Rattle.command_laws.proofs.SteadyMoves.{steady_moves}
 use Rattle.command_laws.proofs.Criteria.{first_part, modifiable_bare, modifiable_no_break}
 
 -- ---- where the walk leads
@@ -84,14 +84,14 @@ order_preserving_reorder command v n = record { keeps = λ s is. rw final-look (
 
 -- ---- the states of contenteditable
 
-stateless_swapped : (n c : ℕ) → Stateless (swapped n c)
+steady_swapped : (n c : ℕ) → Steady (swapped n c)
 unfolding swapped
-stateless_swapped n c = search (stateless_parts, stateless_moves) depth 10
+steady_swapped n c = search (steady_parts, steady_moves) depth 10
 
-stateless_with : (command : Command) (v : List ℕ) (n c : ℕ) → Stateless (reorder_with command v n c)
+steady_with : (command : Command) (v : List ℕ) (n c : ℕ) → Steady (reorder_with command v n c)
 unfolding reorder_with
-stateless_with command v n c = search (stateless_parts, stateless_swapped)
+steady_with command v n c = search (steady_parts, steady_swapped)
 
-pub stateless_reorder : (command : Command) (v : List ℕ) (n : ℕ) → Stateless (reorder command v n)
+pub steady_reorder : (command : Command) (v : List ℕ) (n : ℕ) → Steady (reorder command v n)
 unfolding reorder
-stateless_reorder command v n = search (stateless_parts, stateless_with)
+steady_reorder command v n = search (steady_parts, steady_with)

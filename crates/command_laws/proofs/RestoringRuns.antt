@@ -5,7 +5,7 @@ use Rattle.html_names.specs.declared.commands.Command.TheVariants as command
 use Rattle.edit_model.specs.Action.{Override}
 use Rattle.edit_model.specs.declared.settings.Setting.{Setting}
 use Rattle.edit_model.specs.declared.settings.Setting.TheVariants.{On, Off, Text, Absent}
-use Rattle.edit_laws.specs.Stateless.{Stateless}
+use Rattle.edit_laws.specs.Steady.{Steady}
 use Rattle.edit_laws.specs.OrderPreserving.{OrderPreserving}
 use Rattle.inline_value.specs.declared.overrides.Override as overrides
 use Rattle.inline_commands.specs.RestoringStates.{override_by, set_override, turn_round, toggle_state, restore_on, restore_off, restore_shown, restore_link, restore_size, restore_text, restore_setting, restore_entry, restore_states}
@@ -134,5 +134,5 @@ fit_restore_states list = search (fits, fit_set_override, fit_entry)
 pub order_preserving_restore_states : (list : List overrides.Override) → OrderPreserving (restore_states list)
 order_preserving_restore_states list = (fit_restore_states list).order
 
-pub stateless_restore_states : (list : List overrides.Override) → Stateless (restore_states list)
-stateless_restore_states list = (fit_restore_states list).states
+pub steady_restore_states : (list : List overrides.Override) → Steady (restore_states list)
+steady_restore_states list = (fit_restore_states list).states

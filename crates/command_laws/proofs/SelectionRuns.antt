@@ -17,10 +17,10 @@ use Rattle.edit_model.specs.declared.settings.Setting.TheVariants.{Absent}
 use Rattle.edit_model.specs.Run.{final, ◌>>=◌, ◌>>◌, done}
 use Rattle.edit_model.proofs.Steps.{final-look}
 use Rattle.edit_laws.specs.Order.{KeepsOrder, IsKeeping}
-use Rattle.edit_laws.specs.Stateless.{Stateless}
+use Rattle.edit_laws.specs.Steady.{Steady}
 use Rattle.edit_laws.specs.OrderPreserving.{OrderPreserving}
 use Rattle.edit_laws.proofs.Splitting.{split_keeps}
-use Rattle.edit_laws.proofs.StatelessRuns.{stateless_parts}
+use Rattle.edit_laws.proofs.SteadyRuns.{steady_parts}
 use Rattle.edit_laws.proofs.OrderPreserving.{order_preserving, order_preserving_answer}
 use Rattle.inline_value.specs.Selections.{is_amid, with_start, set_start, start_text, split_at_start, split_at_end, split_start, split_end, split_ends, unset_rival, set_overrides, clear_one, clear_elements, force_phrase, give_node, give_nodes, give_range, set_value}
 use Rattle.command_laws.proofs.ClearingRuns.{fit_clear_value}
@@ -90,39 +90,39 @@ order_preserving_split_ends = search (order_preserving, order_preserving_start, 
 
 -- ---- splitting leaves the states of contenteditable
 
-stateless_with_start : (f : Forest Content) (pair : Pair) (at : Point) → Stateless (with_start f pair at)
-stateless_with_start f pair at = search stateless_parts
+steady_with_start : (f : Forest Content) (pair : Pair) (at : Point) → Steady (with_start f pair at)
+steady_with_start f pair at = search steady_parts
 
-stateless_set_start : (at : Point) → Stateless (set_start at)
+steady_set_start : (at : Point) → Steady (set_start at)
 unfolding set_start
-stateless_set_start at = search (stateless_parts, stateless_with_start)
+steady_set_start at = search (steady_parts, steady_with_start)
 
-stateless_start_text : (n : ℕ) → Stateless (start_text n)
+steady_start_text : (n : ℕ) → Steady (start_text n)
 unfolding start_text
-stateless_start_text n = search (stateless_parts, stateless_set_start)
+steady_start_text n = search (steady_parts, steady_set_start)
 
-stateless_at_start : (at : Point) → Stateless (split_at_start at)
+steady_at_start : (at : Point) → Steady (split_at_start at)
 unfolding split_at_start
-stateless_at_start at = search (stateless_parts, stateless_start_text)
+steady_at_start at = search (steady_parts, steady_start_text)
 
-stateless_at_end : (at : Point) → Stateless (split_at_end at)
+steady_at_end : (at : Point) → Steady (split_at_end at)
 unfolding split_at_end
-stateless_at_end at = search stateless_parts
+steady_at_end at = search steady_parts
 
-stateless_start : Stateless split_start
+steady_start : Steady split_start
 unfolding split_start
-stateless_start = search (stateless_parts, stateless_at_start)
+steady_start = search (steady_parts, steady_at_start)
 
-stateless_end : Stateless split_end
+steady_end : Steady split_end
 unfolding split_end
-stateless_end = search (stateless_parts, stateless_at_end)
+steady_end = search (steady_parts, steady_at_end)
 
-pub stateless_split_ends : Stateless split_ends
+pub steady_split_ends : Steady split_ends
 unfolding split_ends
-stateless_split_ends = search (stateless_parts, stateless_start, stateless_end)
+steady_split_ends = search (steady_parts, steady_start, steady_end)
 
 fit_split_ends : Fit split_ends
-fit_split_ends = fit order_preserving_split_ends stateless_split_ends
+fit_split_ends = fit order_preserving_split_ends steady_split_ends
 
 -- ---- the overrides
 
@@ -199,5 +199,5 @@ fit_set_value c v = search (fits, fit_set_overrides, fit_give_range)
 pub order_preserving_set_value : (c : Command) (v : Option (List ℕ)) → OrderPreserving (set_value c v)
 order_preserving_set_value c v = (fit_set_value c v).order
 
-pub stateless_set_value : (c : Command) (v : Option (List ℕ)) → Stateless (set_value c v)
-stateless_set_value c v = (fit_set_value c v).states
+pub steady_set_value : (c : Command) (v : Option (List ℕ)) → Steady (set_value c v)
+steady_set_value c v = (fit_set_value c v).states

@@ -23,7 +23,7 @@ use Rattle.edit_laws.proofs.Lifting.{final_move_before, move_stays}
 use Rattle.edit_laws.proofs.Slides.{parent_other}
 use Rattle.edit_laws.proofs.ReversedBefore.{final_move_after}
 use Rattle.edit_actions.specs.Siblings.{members}
-use Rattle.command_laws.proofs.StatelessSplits.{valid_final}
+use Rattle.command_laws.proofs.SteadySplits.{valid_final}
 use Rattle.command_laws.proofs.Together.{dropped, dropped-append, dropped-absent, members-append, members-one, members-other, members-same, Together, put_in-seam}
 use Rattle.command_laws.proofs.Widening.{Siblings}
 use Rattle.command_laws.proofs.Wrapping.{put_in-middle}

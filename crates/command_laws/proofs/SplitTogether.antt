@@ -34,7 +34,7 @@ use Rattle.wrap_split.specs.Split.{break_before, break_after, clear_before, copi
 use Rattle.command_laws.proofs.Copies.{until_front}
 use Rattle.command_laws.proofs.Cleared.{cleared}
 use Rattle.command_laws.proofs.Splitting.{last_some}
-use Rattle.command_laws.proofs.StatelessSplits.{valid_final}
+use Rattle.command_laws.proofs.SteadySplits.{valid_final}
 use Rattle.command_laws.proofs.Together.{parent-unlinked, parent-linked, members-append, members-one, members-none, members-same, Together, together_removed, together_made, together_put, next_no_member, Holding, holding, put_in-seam, next_edited, before_nothing, first_beside}
 use Rattle.command_laws.proofs.Widening.{last_parted}
 use Rattle.command_laws.proofs.Growing.{together_shaped, together_apart, together_moved, moved_to, child_parted}

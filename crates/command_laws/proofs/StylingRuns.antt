@@ -4,13 +4,13 @@ use Rattle.edit_model.specs.State.{State}
 use Rattle.edit_model.specs.Valid.{IsValid}
 use Rattle.edit_model.specs.Run.{Run, final, value, ◌>>=◌, answer, look, given, for_each, set_attribute, unset_attribute}
 use Rattle.edit_model.proofs.Steps.{final-bind, final-answer, final-look, final-edit}
-use Rattle.edit_laws.specs.Stateless.{Stateless}
+use Rattle.edit_laws.specs.Steady.{Steady}
 use Rattle.edit_laws.specs.OrderPreserving.{OrderPreserving}
 use Rattle.edit_laws.proofs.Nesting.{Shaped, shaped_refl, shaped_trans, shaped_set, shaped_unset}
-use Rattle.edit_laws.proofs.StatelessRuns.{stateless_parts}
+use Rattle.edit_laws.proofs.SteadyRuns.{steady_parts}
 use Rattle.edit_laws.proofs.OrderPreserving.{order_preserving}
 use Rattle.inline_value.specs.Styling.{write_text, set_style, unset_style}
-use Rattle.command_laws.proofs.StatelessSplits.{valid_final}
+use Rattle.command_laws.proofs.SteadySplits.{valid_final}
 
 -- ---- runs that leave the shape of the trees
 
@@ -63,17 +63,17 @@ pub order_preserving_unset_style : (e : ℕ) (name : List ℕ) → OrderPreservi
 unfolding unset_style
 order_preserving_unset_style e name = search (order_preserving, order_preserving_text)
 
-stateless_text : (e : ℕ) (text : List ℕ) → Stateless (write_text e text)
+steady_text : (e : ℕ) (text : List ℕ) → Steady (write_text e text)
 unfolding write_text
-stateless_text e text = search stateless_parts
+steady_text e text = search steady_parts
 
-pub stateless_set_style : (e : ℕ) (name value : List ℕ) → Stateless (set_style e name value)
+pub steady_set_style : (e : ℕ) (name value : List ℕ) → Steady (set_style e name value)
 unfolding set_style
-stateless_set_style e name value = search (stateless_parts, stateless_text)
+steady_set_style e name value = search (steady_parts, steady_text)
 
-pub stateless_unset_style : (e : ℕ) (name : List ℕ) → Stateless (unset_style e name)
+pub steady_unset_style : (e : ℕ) (name : List ℕ) → Steady (unset_style e name)
 unfolding unset_style
-stateless_unset_style e name = search (stateless_parts, stateless_text)
+steady_unset_style e name = search (steady_parts, steady_text)
 
 shaping_text : (e : ℕ) (text : List ℕ) → Shaping (write_text e text)
 unfolding write_text

@@ -8,17 +8,17 @@ use Rattle.edit_model.specs.Moves.{move_after, move_first, move_all_after}
 use Rattle.edit_model.specs.Run.{Run, final, value, ◌>>=◌, answer, look, given, while_at_most, for_each, make_element}
 use Rattle.edit_model.proofs.Steps.{final-bind, final-answer, final-look, final-make_element, value-bind, value-answer, value-look, value-make_element, for_each-cons, for_each-nil}
 use Rattle.edit_laws.specs.Order.{KeepsOrder, IsKeeping}
-use Rattle.edit_laws.specs.Stateless.{Stateless}
+use Rattle.edit_laws.specs.Steady.{Steady}
 use Rattle.edit_laws.specs.OrderPreserving.{OrderPreserving}
 use Rattle.edit_laws.proofs.MoveLaws.{go_after}
 use Rattle.edit_laws.proofs.QuietActions.{keeping_final}
-use Rattle.edit_laws.proofs.StatelessRuns.{stateless_parts, stateless_make_element}
+use Rattle.edit_laws.proofs.SteadyRuns.{steady_parts, steady_make_element}
 use Rattle.edit_laws.proofs.Subsequences.{keeps_refl, keeps_trans}
 use Rattle.edit_laws.proofs.OrderPreserving.{order_preserving_answer}
 use Rattle.list_indent.specs.Sublists.{has_sublist, leaves, parted, make_follower, follower_of, handed_on, part_child, part_last, part_sublists, normalize_sublists}
 use Rattle.command_laws.proofs.Followers.{Follows, goes_on, stands_after}
 use Rattle.command_laws.proofs.Splitting.{then_order_preserving}
-use Rattle.command_laws.proofs.StatelessMoves.{stateless_moves, stateless_move_after, stateless_move_first}
+use Rattle.command_laws.proofs.SteadyMoves.{steady_moves, steady_move_after, steady_move_first}
 use Rattle.command_laws.proofs.Fits.{Fit, fit, fits}
 use Rattle.command_laws.proofs.Widening.{last_parted}
 
@@ -120,37 +120,37 @@ module _ (item : ℕ) where
 
 -- ---- the states of contenteditable
 
-stateless_parted : (item c : ℕ) → Stateless (parted item c)
+steady_parted : (item c : ℕ) → Steady (parted item c)
 unfolding parted
-stateless_parted item c = search (stateless_parts, stateless_move_after)
+steady_parted item c = search (steady_parts, steady_move_after)
 
-stateless_new : Stateless (make_element (codes "li") [])
-stateless_new = stateless_make_element (codes "li") [] refl
+steady_new : Steady (make_element (codes "li") [])
+steady_new = steady_make_element (codes "li") [] refl
 
-stateless_follower : (item : ℕ) (follower : Option ℕ) → Stateless (follower_of item follower)
+steady_follower : (item : ℕ) (follower : Option ℕ) → Steady (follower_of item follower)
 unfolding follower_of make_follower
-stateless_follower item follower = search (stateless_parts, stateless_moves, stateless_new)
+steady_follower item follower = search (steady_parts, steady_moves, steady_new)
 
-stateless_handed : (c n : ℕ) → Stateless (handed_on c n)
+steady_handed : (c n : ℕ) → Steady (handed_on c n)
 unfolding handed_on
-stateless_handed c n = search (stateless_parts, stateless_move_first)
+steady_handed c n = search (steady_parts, steady_move_first)
 
-stateless_child : (item : ℕ) (follower : Option ℕ) (c : ℕ) → Stateless (part_child item follower c)
+steady_child : (item : ℕ) (follower : Option ℕ) (c : ℕ) → Steady (part_child item follower c)
 unfolding part_child
-stateless_child item follower c = search (stateless_parts, stateless_parted, stateless_follower, stateless_handed)
+steady_child item follower c = search (steady_parts, steady_parted, steady_follower, steady_handed)
 
-stateless_last : (item : ℕ) (follower : Option ℕ) → Stateless (part_last item follower)
+steady_last : (item : ℕ) (follower : Option ℕ) → Steady (part_last item follower)
 unfolding part_last
-stateless_last item follower = search (stateless_parts, stateless_child)
+steady_last item follower = search (steady_parts, steady_child)
 
-stateless_sublists : (item : ℕ) → Stateless (part_sublists item)
+steady_sublists : (item : ℕ) → Steady (part_sublists item)
 unfolding part_sublists
-stateless_sublists item = search (stateless_parts, stateless_last)
+steady_sublists item = search (steady_parts, steady_last)
 
 -- ---- both
 
 fit_sublists : (item : ℕ) → Fit (part_sublists item)
-fit_sublists item = fit (order_preserving_sublists item) (stateless_sublists item)
+fit_sublists item = fit (order_preserving_sublists item) (steady_sublists item)
 
 pub fit_normalize : (n : ℕ) → Fit (normalize_sublists n)
 unfolding normalize_sublists

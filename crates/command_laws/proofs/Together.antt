@@ -23,7 +23,7 @@ use Rattle.edit_laws.proofs.Around.{self_one, off_by}
 use Rattle.edit_laws.proofs.Fronts.{child_by}
 use Rattle.edit_laws.proofs.Renaming.{made_trees}
 use Rattle.edit_actions.specs.Siblings.{members}
-use Rattle.command_laws.proofs.StatelessSplits.{valid_final}
+use Rattle.command_laws.proofs.SteadySplits.{valid_final}
 use Rattle.command_laws.proofs.Widening.{Siblings}
 use Rattle.command_laws.proofs.Wrapping.{put_in-middle}
 

@@ -2,7 +2,7 @@
 -- contenteditable.
 use Rattle.std.proofs.Common.{ℕ, Bool, List, Option}
 use Rattle.html_names.specs.declared.commands.Command.{Command}
-use Rattle.edit_laws.specs.Stateless.{Stateless}
+use Rattle.edit_laws.specs.Steady.{Steady}
 use Rattle.edit_laws.specs.OrderPreserving.{OrderPreserving}
 use Rattle.inline_commands.specs.Toggling.{set_toggled, toggle_style, set_unless, set_script, toggle_script}
 use Rattle.inline_commands.specs.ValueCommands.{set_taken, take, apply_value}
@@ -46,17 +46,17 @@ fit_apply_value c v = search (fits, fit_take)
 pub order_preserving_toggle_style : (c : Command) → OrderPreserving (toggle_style c)
 order_preserving_toggle_style c = (fit_toggle_style c).order
 
-pub stateless_toggle_style : (c : Command) → Stateless (toggle_style c)
-stateless_toggle_style c = (fit_toggle_style c).states
+pub steady_toggle_style : (c : Command) → Steady (toggle_style c)
+steady_toggle_style c = (fit_toggle_style c).states
 
 pub order_preserving_toggle_script : (c : Command) → OrderPreserving (toggle_script c)
 order_preserving_toggle_script c = (fit_toggle_script c).order
 
-pub stateless_toggle_script : (c : Command) → Stateless (toggle_script c)
-stateless_toggle_script c = (fit_toggle_script c).states
+pub steady_toggle_script : (c : Command) → Steady (toggle_script c)
+steady_toggle_script c = (fit_toggle_script c).states
 
 pub order_preserving_apply_value : (c : Command) (v : List ℕ) → OrderPreserving (apply_value c v)
 order_preserving_apply_value c v = (fit_apply_value c v).order
 
-pub stateless_apply_value : (c : Command) (v : List ℕ) → Stateless (apply_value c v)
-stateless_apply_value c v = (fit_apply_value c v).states
+pub steady_apply_value : (c : Command) (v : List ℕ) → Steady (apply_value c v)
+steady_apply_value c v = (fit_apply_value c v).states

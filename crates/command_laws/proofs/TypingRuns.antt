@@ -11,8 +11,8 @@ use Rattle.edit_model.specs.Valid.{IsValid}
 use Rattle.edit_model.specs.Moves.{insert_after}
 use Rattle.edit_model.specs.Run.{◌>>=◌, ◌>>◌, final, value, answer, done, given, make_element, extract_tail}
 use Rattle.edit_model.proofs.Steps.{final-answer, final-look, value-bind, value-answer, value-look}
-use Rattle.edit_laws.specs.Stateless.{Stateless}
-use Rattle.edit_laws.proofs.StatelessRuns.{stateless_parts, stateless_answer, stateless_make_element}
+use Rattle.edit_laws.specs.Steady.{Steady}
+use Rattle.edit_laws.proofs.SteadyRuns.{steady_parts, steady_answer, steady_make_element}
 use Rattle.wrap_split.specs.declared.rule.Criterion.TheVariants.{Never}
 use Rattle.wrap_split.specs.declared.rule.Recipe.TheVariants.{Make}
 use Rattle.wrap_split.specs.Wrap.{wrap}
@@ -22,75 +22,75 @@ use Rattle.text_insertion.specs.Halves.{parting_point, second_name, make_second,
 use Rattle.text_insertion.specs.Paragraph.{leave_text, split_text, holds_lines, break_line, part_line, part_line_if, part_paragraph, insert_paragraph_inside, insert_paragraph}
 use Rattle.text_insertion.specs.Start.{active_start, insert_at, insert_at_start}
 use Rattle.text_insertion.specs.Typing.{drop_sole_break, put_at, put_char, close_text, type_char, insert_char_at, insert_char_inside, insert_char, insert_several, insert_chars, insert_text}
-use Rattle.command_laws.proofs.AncestorRuns.{stateless_fix_ancestors}
+use Rattle.command_laws.proofs.AncestorRuns.{steady_fix_ancestors}
 use Rattle.command_laws.proofs.Criteria.{first_part}
-use Rattle.command_laws.proofs.DeleteRuns.{stateless_rename_stray, stateless_erase}
-use Rattle.command_laws.proofs.ErasingRuns.{stateless_canonicalize, stateless_canonicalize_start, stateless_canonicalize_end, stateless_collapse_selection, stateless_fill_empty}
+use Rattle.command_laws.proofs.DeleteRuns.{steady_rename_stray, steady_erase}
+use Rattle.command_laws.proofs.ErasingRuns.{steady_canonicalize, steady_canonicalize_start, steady_canonicalize_end, steady_collapse_selection, steady_fill_empty}
 use Rattle.command_laws.proofs.NewWraps.{IsNew, new_parts, new_wrap}
 use Rattle.command_laws.proofs.NoStates.{HasNoState, editable_unstated, made_unstated, unstated_without_id}
-use Rattle.command_laws.proofs.RestoringRuns.{stateless_restore_states}
-use Rattle.command_laws.proofs.StatelessMoves.{stateless_moves, stateless_insert_after}
-use Rattle.command_laws.proofs.StatelessSplits.{At, at_bind, at_look, valid_final, stateless_split}
-use Rattle.command_laws.proofs.StatelessWraps.{stateless_append_break, stateless_wrap}
+use Rattle.command_laws.proofs.RestoringRuns.{steady_restore_states}
+use Rattle.command_laws.proofs.SteadyMoves.{steady_moves, steady_insert_after}
+use Rattle.command_laws.proofs.SteadySplits.{At, at_bind, at_look, valid_final, steady_split}
+use Rattle.command_laws.proofs.SteadyWraps.{steady_append_break, steady_wrap}
 
-stateless_insert_at : (x : ℕ) (p : Point) → Stateless (insert_at x p)
+steady_insert_at : (x : ℕ) (p : Point) → Steady (insert_at x p)
 unfolding insert_at
-stateless_insert_at x p = search stateless_parts
+steady_insert_at x p = search steady_parts
 
-pub stateless_insert_at_start : (x : ℕ) → Stateless (insert_at_start x)
+pub steady_insert_at_start : (x : ℕ) → Steady (insert_at_start x)
 unfolding insert_at_start
-stateless_insert_at_start x = search (stateless_parts, stateless_insert_at)
+steady_insert_at_start x = search (steady_parts, steady_insert_at)
 
 -- ---- the text is split, and a line ends with a br, or an entry leaves its list
 
-stateless_leave_text : (p : Point) → Stateless (leave_text p)
+steady_leave_text : (p : Point) → Steady (leave_text p)
 unfolding leave_text
-stateless_leave_text p = search stateless_parts
+steady_leave_text p = search steady_parts
 
-stateless_split_text : (p : Point) → Stateless (split_text p)
+steady_split_text : (p : Point) → Steady (split_text p)
 unfolding split_text
-stateless_split_text p = search (stateless_parts, stateless_leave_text)
+steady_split_text p = search (steady_parts, steady_leave_text)
 
-stateless_break_line : (p : Point) (c : ℕ) → Stateless (break_line p c)
+steady_break_line : (p : Point) (c : ℕ) → Steady (break_line p c)
 unfolding break_line
-stateless_break_line p c = search (stateless_parts, stateless_moves, stateless_insert_at_start) depth 9
+steady_break_line p c = search (steady_parts, steady_moves, steady_insert_at_start) depth 9
 
-stateless_leave_list : (c : ℕ) → Stateless (leave_list c)
+steady_leave_list : (c : ℕ) → Steady (leave_list c)
 unfolding leave_list
-stateless_leave_list c =
-    search (stateless_parts, stateless_split, stateless_fill_empty, stateless_rename_stray, stateless_fix_ancestors)
+steady_leave_list c =
+    search (steady_parts, steady_split, steady_fill_empty, steady_rename_stray, steady_fix_ancestors)
 
 -- ---- the container of a line
 
-stateless_plain : (name : List ℕ) → Stateless (make_element name [])
-stateless_plain name = stateless_make_element name [] refl
+steady_plain : (name : List ℕ) → Steady (make_element name [])
+steady_plain name = steady_make_element name [] refl
 
-stateless_make_container : Stateless make_container
+steady_make_container : Steady make_container
 unfolding make_container
-stateless_make_container = search (stateless_parts, stateless_plain, stateless_append_break)
+steady_make_container = search (steady_parts, steady_plain, steady_append_break)
 
-stateless_insert_container : Stateless insert_container
+steady_insert_container : Steady insert_container
 unfolding insert_container
-stateless_insert_container = search (stateless_parts, stateless_make_container, stateless_insert_at_start)
+steady_insert_container = search (steady_parts, steady_make_container, steady_insert_at_start)
 
-stateless_add_container : Stateless add_container
+steady_add_container : Steady add_container
 unfolding add_container
-stateless_add_container = search (stateless_parts, stateless_insert_container)
+steady_add_container = search (steady_parts, steady_insert_container)
 
-stateless_wrap_plain : (name : List ℕ) (list : List ℕ) → Stateless (wrap Never (Make (record { name = name; attributes = [] })) list)
-stateless_wrap_plain name list = stateless_wrap Never (Make (record { name = name; attributes = [] })) refl list
+steady_wrap_plain : (name : List ℕ) (list : List ℕ) → Steady (wrap Never (Make (record { name = name; attributes = [] })) list)
+steady_wrap_plain name list = steady_wrap Never (Make (record { name = name; attributes = [] })) refl list
 
-stateless_wrap_line : (k : ℕ) → Stateless (wrap_line k)
+steady_wrap_line : (k : ℕ) → Steady (wrap_line k)
 unfolding wrap_line
-stateless_wrap_line k = search (stateless_parts, stateless_wrap_plain)
+steady_wrap_line k = search (steady_parts, steady_wrap_plain)
 
-stateless_make_line : Stateless make_line
+steady_make_line : Steady make_line
 unfolding make_line
-stateless_make_line = search (stateless_parts, stateless_add_container, stateless_wrap_line)
+steady_make_line = search (steady_parts, steady_add_container, steady_wrap_line)
 
-stateless_own_container : (c : ℕ) → Stateless (own_container c)
+steady_own_container : (c : ℕ) → Steady (own_container c)
 unfolding own_container
-stateless_own_container c = search (stateless_parts, stateless_make_line)
+steady_own_container c = search (steady_parts, steady_make_line)
 
 -- ---- a container that is made for a line is new
 
@@ -120,7 +120,7 @@ own_unstated c s is x e = rw final-look (by_test (is_editable_for s c && is_sing
   where
     by_test : (v : Bool) → (is_editable_for s c && is_single_line s.trees c) ≡ v
         → value (if v then answer (Some c) else make_line) s ≡ Some x → HasNoState (final (if v then answer (Some c) else make_line) s) x
-    by_test false test found = made_unstated make_line s x is stateless_make_line ((new_make_line s).later x found)
+    by_test false test found = made_unstated make_line s x is steady_make_line ((new_make_line s).later x found)
     by_test true test found =
         let here : Some c ≡ Some x = sym (value-answer (Some c) s) ∙ found in
         let same : c ≡ x = (let at = here in cc) in
@@ -128,16 +128,16 @@ own_unstated c s is x e = rw final-look (by_test (is_editable_for s c && is_sing
 
 -- ---- the second half
 
-stateless_fill_hidden : (c : ℕ) → Stateless (fill_hidden c)
+steady_fill_hidden : (c : ℕ) → Steady (fill_hidden c)
 unfolding fill_hidden
-stateless_fill_hidden c = search (stateless_parts, stateless_append_break)
+steady_fill_hidden c = search (steady_parts, steady_append_break)
 
-stateless_close_both : (c d : ℕ) → Stateless (close_both c d)
+steady_close_both : (c d : ℕ) → Steady (close_both c d)
 unfolding close_both
-stateless_close_both c d = search (stateless_parts, stateless_fill_hidden)
+steady_close_both c d = search (steady_parts, steady_fill_hidden)
 
-stateless_put_second : (q : Point) (c d : ℕ) → Stateless (insert_after c d >> (extract_tail q c d >> close_both c d))
-stateless_put_second q c d = search (stateless_parts, stateless_insert_after, stateless_close_both)
+steady_put_second : (q : Point) (c d : ℕ) → Steady (insert_after c d >> (extract_tail q c d >> close_both c d))
+steady_put_second q c d = search (steady_parts, steady_insert_after, steady_close_both)
 
 module _ (s : State) (is : IsValid s) (c : ℕ) (none : HasNoState s c) where
   second_at : (q : Point) → At s (make_second q c)
@@ -145,20 +145,20 @@ module _ (s : State) (is : IsValid s) (c : ℕ) (none : HasNoState s c) where
   second_at q =
       let list = attribute_list_of s.trees c in
       let name = second_name s q c in
-      at_look _ s ((stateless_make_element name (unset_in list (codes "id")) (unstated_without_id name list (none name))).leaves s is)
+      at_look _ s ((steady_make_element name (unset_in list (codes "id")) (unstated_without_id name list (none name))).leaves s is)
 
   part_at_at : (q : Point) → At s (part_at q c)
   unfolding part_at
   part_at_at q =
       at_bind (make_second q c) _ s (second_at q)
-      ((stateless_put_second q c (value (make_second q c) s)).leaves (final (make_second q c) s) (valid_final (make_second q c) s is))
+      ((steady_put_second q c (value (make_second q c) s)).leaves (final (make_second q c) s) (valid_final (make_second q c) s is))
 
   part_container_at : At s (part_container c)
   unfolding part_container
   part_container_at = at_look _ s (by_start (active_start s))
     where
       by_start : (o : Option Point) → At s (given o done λ p. part_at (parting_point s p) c)
-      by_start None = (stateless_answer tt).leaves s is
+      by_start None = (steady_answer tt).leaves s is
       by_start (Some p) = part_at_at (parting_point s p)
 
   part_line_at : (p : Point) → At s (part_line p c)
@@ -166,80 +166,80 @@ module _ (s : State) (is : IsValid s) (c : ℕ) (none : HasNoState s c) where
   part_line_at p = at_look _ s (by_tests (holds_lines s c) (is_empty_entry s c))
     where
       by_tests : (v w : Bool) → At s (if v then break_line p c else (if w then leave_list c else part_container c))
-      by_tests true w = (stateless_break_line p c).leaves s is
-      by_tests false true = (stateless_leave_list c).leaves s is
+      by_tests true w = (steady_break_line p c).leaves s is
+      by_tests false true = (steady_leave_list c).leaves s is
       by_tests false false = part_container_at
 
 -- ---- inserting a paragraph
 
-stateless_part_own : (p : Point) (c : ℕ) → Stateless (own_container c >>= part_line_if p)
-stateless_part_own p c = record {
+steady_part_own : (p : Point) (c : ℕ) → Steady (own_container c >>= part_line_if p)
+steady_part_own p c = record {
   leaves = λ s is.
-      at_bind (own_container c) (part_line_if p) s ((stateless_own_container c).leaves s is) (by_answer s is (value (own_container c) s) refl);
+      at_bind (own_container c) (part_line_if p) s ((steady_own_container c).leaves s is) (by_answer s is (value (own_container c) s) refl);
 }
   where
     by_answer : (s : State) → IsValid s → (o : Option ℕ) → value (own_container c) s ≡ o → At (final (own_container c) s) (part_line_if p o)
-    by_answer s is None e = (stateless_answer tt).leaves (final (own_container c) s) (valid_final (own_container c) s is)
+    by_answer s is None e = (steady_answer tt).leaves (final (own_container c) s) (valid_final (own_container c) s is)
     by_answer s is (Some x) e =
         part_line_at (final (own_container c) s) (valid_final (own_container c) s is) x (own_unstated c s is x e) p
 
-stateless_part_paragraph : (p : Point) → Stateless (part_paragraph p)
+steady_part_paragraph : (p : Point) → Steady (part_paragraph p)
 unfolding part_paragraph
-stateless_part_paragraph p = search (stateless_parts, stateless_part_own)
+steady_part_paragraph p = search (steady_parts, steady_part_own)
 
-stateless_paragraph_inside : Stateless insert_paragraph_inside
+steady_paragraph_inside : Steady insert_paragraph_inside
 unfolding insert_paragraph_inside
-stateless_paragraph_inside = search (stateless_parts, stateless_split_text, stateless_part_paragraph)
+steady_paragraph_inside = search (steady_parts, steady_split_text, steady_part_paragraph)
 
-pub stateless_insert_paragraph : Stateless insert_paragraph
+pub steady_insert_paragraph : Steady insert_paragraph
 unfolding insert_paragraph
-stateless_insert_paragraph = search (stateless_parts, stateless_erase, stateless_paragraph_inside)
+steady_insert_paragraph = search (steady_parts, steady_erase, steady_paragraph_inside)
 
 -- ---- inserting text
 
-stateless_drop_sole_break : (n : ℕ) → Stateless (drop_sole_break n)
+steady_drop_sole_break : (n : ℕ) → Steady (drop_sole_break n)
 unfolding drop_sole_break
-stateless_drop_sole_break n = search stateless_parts depth 8
+steady_drop_sole_break n = search steady_parts depth 8
 
-stateless_put_at : (c : ℕ) (p : Point) → Stateless (put_at c p)
+steady_put_at : (c : ℕ) (p : Point) → Steady (put_at c p)
 unfolding put_at
-stateless_put_at c p = search (stateless_parts, stateless_drop_sole_break, stateless_insert_at_start) depth 9
+steady_put_at c p = search (steady_parts, steady_drop_sole_break, steady_insert_at_start) depth 9
 
-stateless_put_char : (c : ℕ) → Stateless (put_char c)
+steady_put_char : (c : ℕ) → Steady (put_char c)
 unfolding put_char
-stateless_put_char c = search (stateless_parts, stateless_put_at)
+steady_put_char c = search (steady_parts, steady_put_at)
 
-stateless_close_text : Stateless close_text
+steady_close_text : Steady close_text
 unfolding close_text
-stateless_close_text = search (stateless_parts, stateless_canonicalize_start, stateless_canonicalize_end, stateless_collapse_selection)
+steady_close_text = search (steady_parts, steady_canonicalize_start, steady_canonicalize_end, steady_collapse_selection)
 
-stateless_type_char : (c : ℕ) (p : Point) → Stateless (type_char c p)
+steady_type_char : (c : ℕ) (p : Point) → Steady (type_char c p)
 unfolding type_char
-stateless_type_char c p =
-    search (stateless_parts, stateless_canonicalize, stateless_put_char, stateless_restore_states, stateless_close_text) depth 8
+steady_type_char c p =
+    search (steady_parts, steady_canonicalize, steady_put_char, steady_restore_states, steady_close_text) depth 8
 
-stateless_char_at : (c : ℕ) (p : Point) → Stateless (insert_char_at c p)
+steady_char_at : (c : ℕ) (p : Point) → Steady (insert_char_at c p)
 unfolding insert_char_at
-stateless_char_at c p = search (stateless_parts, stateless_insert_paragraph, stateless_type_char)
+steady_char_at c p = search (steady_parts, steady_insert_paragraph, steady_type_char)
 
-stateless_char_inside : (c : ℕ) → Stateless (insert_char_inside c)
+steady_char_inside : (c : ℕ) → Steady (insert_char_inside c)
 unfolding insert_char_inside
-stateless_char_inside c = search (stateless_parts, stateless_char_at)
+steady_char_inside c = search (steady_parts, steady_char_at)
 
-stateless_char : (c : ℕ) → Stateless (insert_char c)
+steady_char : (c : ℕ) → Steady (insert_char c)
 unfolding insert_char
-stateless_char c = search (stateless_parts, stateless_erase, stateless_char_inside)
+steady_char c = search (steady_parts, steady_erase, steady_char_inside)
 
-stateless_several : (value : List ℕ) → Stateless (insert_several value)
+steady_several : (value : List ℕ) → Steady (insert_several value)
 unfolding insert_several
-stateless_several value = search (stateless_parts, stateless_char)
+steady_several value = search (steady_parts, steady_char)
 
-stateless_chars : (value : List ℕ) → Stateless (insert_chars value)
+steady_chars : (value : List ℕ) → Steady (insert_chars value)
 unfolding insert_chars
-stateless_chars [] = stateless_answer tt
-stateless_chars (c ∷ []) = stateless_char_inside c
-stateless_chars (c ∷ d ∷ rest) = stateless_several (c ∷ d ∷ rest)
+steady_chars [] = steady_answer tt
+steady_chars (c ∷ []) = steady_char_inside c
+steady_chars (c ∷ d ∷ rest) = steady_several (c ∷ d ∷ rest)
 
-pub stateless_insert_text : (value : List ℕ) → Stateless (insert_text value)
+pub steady_insert_text : (value : List ℕ) → Steady (insert_text value)
 unfolding insert_text
-stateless_insert_text value = search (stateless_parts, stateless_erase, stateless_chars)
+steady_insert_text value = search (steady_parts, steady_erase, steady_chars)

@@ -15,14 +15,14 @@ use Rattle.inline_value.specs.Wrappers.{bare, with_attribute, hex_text, size_of_
 
 pub record IsPlain (b : Blank) : Type 0 where
   pub named : is_thing b.name ≡ false
-  pub stateless : (is_true_state (Element b.name b.attributes) || is_false_state (Element b.name b.attributes)) ≡ false
+  pub steady : (is_true_state (Element b.name b.attributes) || is_false_state (Element b.name b.attributes)) ≡ false
 
 plain : {name : List ℕ} {attributes : List Attribute} → is_thing name ≡ false → (is_true_state (Element name attributes) || is_false_state (Element name attributes)) ≡ false → IfSome (Some (record { name = name; attributes = attributes })) IsPlain
-plain named stateless = record { named = named; stateless = stateless }
+plain named steady = record { named = named; steady = steady }
 
 plain_named : (v : Bool) (name : List ℕ) → is_thing name ≡ false → (is_true_state (Element name []) || is_false_state (Element name [])) ≡ false → IfSome (if v then Some (bare name) else None) IsPlain
-plain_named true name named stateless = record { named = named; stateless = stateless }
-plain_named false name named stateless = tt
+plain_named true name named steady = record { named = named; steady = steady }
+plain_named false name named steady = tt
 
 plain_colour : (o : Option Colour) → IfSome (colour_font_of o) IsPlain
 plain_colour None = tt
@@ -120,7 +120,7 @@ plain_chosen css command.InsertHorizontalRule v = plain_unless css command.Inser
 plain_chosen css command.InsertImage v = plain_unless css command.InsertImage v
 
 plain_or : (o : Option Blank) → IfSome o IsPlain → IsPlain (unwrap_or o (bare (codes "span")))
-plain_or None h = record { named = refl; stateless = refl }
+plain_or None h = record { named = refl; steady = refl }
 plain_or (Some b) h = h
 
 pub plain_wrapper : (css : Bool) (c : Command) (v : List ℕ) → IsPlain (wrapper_for css c v)

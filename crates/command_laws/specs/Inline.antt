@@ -2,7 +2,7 @@
 -- keeps the order and leaves the states of contenteditable.
 use Rattle.std.specs.Prelude.{ℕ, List}
 use Rattle.html_names.specs.declared.commands.Command.{Command}
-use Rattle.edit_laws.specs.Stateless.{Stateless}
+use Rattle.edit_laws.specs.Steady.{Steady}
 use Rattle.edit_laws.specs.OrderPreserving.{OrderPreserving}
 use Rattle.inline_value.specs.declared.overrides.Override.{Override}
 use Rattle.inline_value.specs.Ancestors.{fix_ancestors}
@@ -17,51 +17,51 @@ use Rattle.inline_commands.specs.ValueCommands.{apply_value}
 abbrev pub StylesKeepOrder : Type 0
 StylesKeepOrder = (c : Command) → OrderPreserving (toggle_style c)
 
-abbrev pub StylesAreStateless : Type 0
-StylesAreStateless = (c : Command) → Stateless (toggle_style c)
+abbrev pub StylesAreSteady : Type 0
+StylesAreSteady = (c : Command) → Steady (toggle_style c)
 
 -- subscript and superscript
 abbrev pub ScriptsKeepOrder : Type 0
 ScriptsKeepOrder = (c : Command) → OrderPreserving (toggle_script c)
 
-abbrev pub ScriptsAreStateless : Type 0
-ScriptsAreStateless = (c : Command) → Stateless (toggle_script c)
+abbrev pub ScriptsAreSteady : Type 0
+ScriptsAreSteady = (c : Command) → Steady (toggle_script c)
 
 abbrev pub LinkingKeepsOrder : Type 0
 LinkingKeepsOrder = (v : List ℕ) → OrderPreserving (create_link v)
 
-abbrev pub LinkingIsStateless : Type 0
-LinkingIsStateless = (v : List ℕ) → Stateless (create_link v)
+abbrev pub LinkingIsSteady : Type 0
+LinkingIsSteady = (v : List ℕ) → Steady (create_link v)
 
 abbrev pub UnlinkKeepsOrder : Type 0
 UnlinkKeepsOrder = OrderPreserving unlink
 
-abbrev pub UnlinkIsStateless : Type 0
-UnlinkIsStateless = Stateless unlink
+abbrev pub UnlinkIsSteady : Type 0
+UnlinkIsSteady = Steady unlink
 
 abbrev pub FormatGoesInOrder : Type 0
 FormatGoesInOrder = OrderPreserving remove_format
 
-abbrev pub FormatGoesStateless : Type 0
-FormatGoesStateless = Stateless remove_format
+abbrev pub FormatGoesSteady : Type 0
+FormatGoesSteady = Steady remove_format
 
 -- fontName, fontSize, foreColor, backColor and hiliteColor
 abbrev pub ValuesKeepOrder : Type 0
 ValuesKeepOrder = (c : Command) (v : List ℕ) → OrderPreserving (apply_value c v)
 
-abbrev pub ValuesAreStateless : Type 0
-ValuesAreStateless = (c : Command) (v : List ℕ) → Stateless (apply_value c v)
+abbrev pub ValuesAreSteady : Type 0
+ValuesAreSteady = (c : Command) (v : List ℕ) → Steady (apply_value c v)
 
 -- ---- for block commands and deletion
 
 abbrev pub AncestorsAreFixedInOrder : Type 0
 AncestorsAreFixedInOrder = (n : ℕ) → OrderPreserving (fix_ancestors n)
 
-abbrev pub AncestorsAreFixedStateless : Type 0
-AncestorsAreFixedStateless = (n : ℕ) → Stateless (fix_ancestors n)
+abbrev pub AncestorsAreFixedSteady : Type 0
+AncestorsAreFixedSteady = (n : ℕ) → Steady (fix_ancestors n)
 
 abbrev pub StatesComeBackInOrder : Type 0
 StatesComeBackInOrder = (list : List Override) → OrderPreserving (restore_states list)
 
-abbrev pub StatesComeBackStateless : Type 0
-StatesComeBackStateless = (list : List Override) → Stateless (restore_states list)
+abbrev pub StatesComeBackSteady : Type 0
+StatesComeBackSteady = (list : List Override) → Steady (restore_states list)

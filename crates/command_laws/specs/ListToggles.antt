@@ -1,7 +1,7 @@
 -- The laws of toggling ordered and unordered lists: that its run keeps the order and leaves the
 -- states of contenteditable.
 use Rattle.std.specs.Prelude.{Bool}
-use Rattle.edit_laws.specs.Stateless.{Stateless}
+use Rattle.edit_laws.specs.Steady.{Steady}
 use Rattle.edit_laws.specs.OrderPreserving.{OrderPreserving}
 use Rattle.list_toggle.specs.Toggle.{toggle_lists}
 
@@ -9,5 +9,5 @@ use Rattle.list_toggle.specs.Toggle.{toggle_lists}
 abbrev pub ListTogglesKeepOrder : Type 0
 ListTogglesKeepOrder = (ordered : Bool) → OrderPreserving (toggle_lists ordered)
 
-abbrev pub ListTogglesAreStateless : Type 0
-ListTogglesAreStateless = (ordered : Bool) → Stateless (toggle_lists ordered)
+abbrev pub ListTogglesAreSteady : Type 0
+ListTogglesAreSteady = (ordered : Bool) → Steady (toggle_lists ordered)

@@ -4,7 +4,7 @@ use Rattle.dom_model.specs.Forest.{children_of}
 use Rattle.edit_model.specs.State.{State}
 use Rattle.edit_model.specs.Run.{final}
 use Rattle.edit_laws.specs.Order.{KeepsOrder, IsKeeping}
-use Rattle.edit_laws.specs.Stateless.{Stateless}
+use Rattle.edit_laws.specs.Steady.{Steady}
 use Rattle.edit_laws.specs.OrderPreserving.{OrderPreserving}
 use Rattle.wrap_split.specs.Split.{split_parent, remove_keeping_children}
 
@@ -22,5 +22,5 @@ abbrev pub NodesGoAndChildrenStay : Type 0
 NodesGoAndChildrenStay = (n : ℕ) → OrderPreserving (remove_keeping_children n)
 
 -- splitting a parent leaves the states of contenteditable
-abbrev pub SplitsStateless : Type 0
-SplitsStateless = (list : List ℕ) → Stateless (split_parent list)
+abbrev pub SplitsSteady : Type 0
+SplitsSteady = (list : List ℕ) → Steady (split_parent list)

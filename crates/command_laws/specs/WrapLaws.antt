@@ -7,7 +7,7 @@ use Rattle.edit_model.specs.State.{State}
 use Rattle.edit_model.specs.Kept.{is_thing}
 use Rattle.edit_model.specs.Run.{final}
 use Rattle.edit_laws.specs.Order.{KeepsOrder, IsKeeping}
-use Rattle.edit_laws.specs.Stateless.{Stateless}
+use Rattle.edit_laws.specs.Steady.{Steady}
 use Rattle.edit_laws.specs.OrderPreserving.{OrderPreserving}
 use Rattle.wrap_split.specs.declared.rule.Criterion.{Criterion}
 use Rattle.wrap_split.specs.declared.rule.Criterion.TheVariants.{Named}
@@ -55,6 +55,6 @@ OneWraps = (c : Criterion) (r : Recipe) (n : ℕ) → NamesNoThing c → MakesNo
     → OrderPreserving (wrap c r (n ∷ []))
 
 -- wrapping leaves the states of contenteditable
-abbrev pub WrapsStateless : Type 0
-WrapsStateless =
-    (c : Criterion) (r : Recipe) (list : List ℕ) → MakesNoState r → Stateless (wrap c r list)
+abbrev pub WrapsSteady : Type 0
+WrapsSteady =
+    (c : Criterion) (r : Recipe) (list : List ℕ) → MakesNoState r → Steady (wrap c r list)

@@ -1,6 +1,6 @@
 //! The laws of the block commands.
 
-ghost use Rattle.command_laws.specs.Blocks.{BlocksKeepOrder, BlocksAreStateless, JustifyingKeepsOrder, JustifyingIsStateless};
+ghost use Rattle.command_laws.specs.Blocks.{BlocksKeepOrder, BlocksAreSteady, JustifyingKeepsOrder, JustifyingIsSteady};
 
 /// Formatting blocks keeps the order of characters, images and rules.
 pub fn format_block_keeps_order()
@@ -8,8 +8,8 @@ pub fn format_block_keeps_order()
 {}
 
 /// Formatting blocks gives no node a state of contenteditable, and takes none away.
-pub fn format_block_is_stateless()
-    ensures { BlocksAreStateless }
+pub fn format_block_is_steady()
+    ensures { BlocksAreSteady }
 {}
 
 /// Justifying keeps the order of characters, images and rules.
@@ -18,6 +18,6 @@ pub fn justify_keeps_order()
 {}
 
 /// Justifying gives no node a state of contenteditable, and takes none away.
-pub fn justify_is_stateless()
-    ensures { JustifyingIsStateless }
+pub fn justify_is_steady()
+    ensures { JustifyingIsSteady }
 {}

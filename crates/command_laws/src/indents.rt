@@ -1,6 +1,6 @@
 //! The laws of indent and outdent.
 
-ghost use Rattle.command_laws.specs.Indents.{IndentKeepsOrder, IndentIsStateless, OutdentKeepsOrder, OutdentIsStateless};
+ghost use Rattle.command_laws.specs.Indents.{IndentKeepsOrder, IndentIsSteady, OutdentKeepsOrder, OutdentIsSteady};
 
 /// Indent keeps the order of characters, images and rules.
 pub fn indent_keeps_order()
@@ -8,8 +8,8 @@ pub fn indent_keeps_order()
 {}
 
 /// Indent gives no node a state of contenteditable, and takes none away.
-pub fn indent_is_stateless()
-    ensures { IndentIsStateless }
+pub fn indent_is_steady()
+    ensures { IndentIsSteady }
 {}
 
 /// Outdent keeps the order of characters, images and rules.
@@ -18,6 +18,6 @@ pub fn outdent_keeps_order()
 {}
 
 /// Outdent gives no node a state of contenteditable, and takes none away.
-pub fn outdent_is_stateless()
-    ensures { OutdentIsStateless }
+pub fn outdent_is_steady()
+    ensures { OutdentIsSteady }
 {}

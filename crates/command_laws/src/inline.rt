@@ -1,6 +1,6 @@
 //! The laws of the inline commands, and of what other commands take from them.
 
-ghost use Rattle.command_laws.specs.Inline.{StylesKeepOrder, StylesAreStateless, ScriptsKeepOrder, ScriptsAreStateless, LinkingKeepsOrder, LinkingIsStateless, UnlinkKeepsOrder, UnlinkIsStateless, FormatGoesInOrder, FormatGoesStateless, ValuesKeepOrder, ValuesAreStateless, AncestorsAreFixedInOrder, AncestorsAreFixedStateless, StatesComeBackInOrder, StatesComeBackStateless};
+ghost use Rattle.command_laws.specs.Inline.{StylesKeepOrder, StylesAreSteady, ScriptsKeepOrder, ScriptsAreSteady, LinkingKeepsOrder, LinkingIsSteady, UnlinkKeepsOrder, UnlinkIsSteady, FormatGoesInOrder, FormatGoesSteady, ValuesKeepOrder, ValuesAreSteady, AncestorsAreFixedInOrder, AncestorsAreFixedSteady, StatesComeBackInOrder, StatesComeBackSteady};
 
 /// Bold, italic, underline and strikethrough keep the order of characters, images and rules.
 pub fn toggle_style_keeps_order()
@@ -9,8 +9,8 @@ pub fn toggle_style_keeps_order()
 
 /// Bold, italic, underline and strikethrough give no node a state of contenteditable, and take none
 /// away.
-pub fn toggle_style_is_stateless()
-    ensures { StylesAreStateless }
+pub fn toggle_style_is_steady()
+    ensures { StylesAreSteady }
 {}
 
 /// Subscript and superscript keep the order of characters, images and rules.
@@ -19,8 +19,8 @@ pub fn toggle_script_keeps_order()
 {}
 
 /// Subscript and superscript give no node a state of contenteditable, and take none away.
-pub fn toggle_script_is_stateless()
-    ensures { ScriptsAreStateless }
+pub fn toggle_script_is_steady()
+    ensures { ScriptsAreSteady }
 {}
 
 /// Making links keeps the order of characters, images and rules.
@@ -29,8 +29,8 @@ pub fn create_link_keeps_order()
 {}
 
 /// Making links gives no node a state of contenteditable, and takes none away.
-pub fn create_link_is_stateless()
-    ensures { LinkingIsStateless }
+pub fn create_link_is_steady()
+    ensures { LinkingIsSteady }
 {}
 
 /// Unlink keeps the order of characters, images and rules.
@@ -39,8 +39,8 @@ pub fn unlink_keeps_order()
 {}
 
 /// Unlink gives no node a state of contenteditable, and takes none away.
-pub fn unlink_is_stateless()
-    ensures { UnlinkIsStateless }
+pub fn unlink_is_steady()
+    ensures { UnlinkIsSteady }
 {}
 
 /// Removing the format keeps the order of characters, images and rules.
@@ -49,8 +49,8 @@ pub fn remove_format_keeps_order()
 {}
 
 /// Removing the format gives no node a state of contenteditable, and takes none away.
-pub fn remove_format_is_stateless()
-    ensures { FormatGoesStateless }
+pub fn remove_format_is_steady()
+    ensures { FormatGoesSteady }
 {}
 
 /// Fonts, sizes and colours keep the order of characters, images and rules.
@@ -59,8 +59,8 @@ pub fn apply_value_keeps_order()
 {}
 
 /// Fonts, sizes and colours give no node a state of contenteditable, and take none away.
-pub fn apply_value_is_stateless()
-    ensures { ValuesAreStateless }
+pub fn apply_value_is_steady()
+    ensures { ValuesAreSteady }
 {}
 
 /// Fixing disallowed ancestors keeps the order of characters, images and rules.
@@ -69,8 +69,8 @@ pub fn fix_ancestors_keeps_order()
 {}
 
 /// Fixing disallowed ancestors gives no node a state of contenteditable, and takes none away.
-pub fn fix_ancestors_is_stateless()
-    ensures { AncestorsAreFixedStateless }
+pub fn fix_ancestors_is_steady()
+    ensures { AncestorsAreFixedSteady }
 {}
 
 /// Restoring states and values keeps the order of characters, images and rules.
@@ -79,6 +79,6 @@ pub fn restore_states_keeps_order()
 {}
 
 /// Restoring states and values gives no node a state of contenteditable, and takes none away.
-pub fn restore_states_is_stateless()
-    ensures { StatesComeBackStateless }
+pub fn restore_states_is_steady()
+    ensures { StatesComeBackSteady }
 {}

@@ -1,6 +1,6 @@
 //! The laws of toggling lists.
 
-ghost use Rattle.command_laws.specs.ListToggles.{ListTogglesKeepOrder, ListTogglesAreStateless};
+ghost use Rattle.command_laws.specs.ListToggles.{ListTogglesKeepOrder, ListTogglesAreSteady};
 
 /// Toggling lists keeps the order of characters, images and rules.
 pub fn toggle_lists_keeps_order()
@@ -8,6 +8,6 @@ pub fn toggle_lists_keeps_order()
 {}
 
 /// Toggling lists gives no node a state of contenteditable, and takes none away.
-pub fn toggle_lists_is_stateless()
-    ensures { ListTogglesAreStateless }
+pub fn toggle_lists_is_steady()
+    ensures { ListTogglesAreSteady }
 {}

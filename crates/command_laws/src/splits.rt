@@ -1,6 +1,6 @@
 //! The laws of splitting the parent of a list, and of removing a node while its children stay.
 
-ghost use Rattle.command_laws.specs.SplitLaws.{ParentsSplit, ParentOfOneSplits, NodesGoAndChildrenStay, SplitsStateless};
+ghost use Rattle.command_laws.specs.SplitLaws.{ParentsSplit, ParentOfOneSplits, NodesGoAndChildrenStay, SplitsSteady};
 
 /// Splitting the parent of a list keeps the order of characters, images and rules, where the list
 /// has consecutive children of a node.
@@ -19,6 +19,6 @@ pub fn nodes_go_and_children_stay()
 {}
 
 /// Splitting the parent of a list gives no node a state of contenteditable, and takes none away.
-pub fn splits_stateless()
-    ensures { SplitsStateless }
+pub fn splits_steady()
+    ensures { SplitsSteady }
 {}

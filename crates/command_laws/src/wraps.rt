@@ -1,6 +1,6 @@
 //! The laws of wrapping a list.
 
-ghost use Rattle.command_laws.specs.WrapLaws.{ListsWrap, TakenWrap, OneWraps, WrapsStateless};
+ghost use Rattle.command_laws.specs.WrapLaws.{ListsWrap, TakenWrap, OneWraps, WrapsSteady};
 
 /// Wrapping a list keeps the order of characters, images and rules, where the list has consecutive
 /// children of a node, and neither a name that a criterion wants nor that of a new element is img
@@ -22,6 +22,6 @@ pub fn one_wraps()
 
 /// Wrapping a list gives no node a state of contenteditable, and takes none away, where a new
 /// element has none.
-pub fn wraps_stateless()
-    ensures { WrapsStateless }
+pub fn wraps_steady()
+    ensures { WrapsSteady }
 {}

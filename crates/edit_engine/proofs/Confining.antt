@@ -1,5 +1,5 @@
 -- What every execution of a command keeps: either nothing changed, or the run of a command did it all.
-use Rattle.std.proofs.Common.{◌≡◌, ◌⊎◌, ℕ, zero, suc, ◌<◌, Bool, true, false, not, cond, eqb, List, [], ◌∷◌, ◌++◌, length, take, Option, Some, None, Result, Ok, Err, refl, sym, ap, subst, ◌∙◌, inl, inr, arith, length-append}
+use Rattle.std.proofs.Common.{◌≡◌, ◌⊎◌, ℕ, zero, suc, ◌<◌, Bool, true, false, not, cond, eqb, List, [], ◌∷◌, ◌++◌, length, take, Option, Some, None, IsSome, IfSome, Result, Ok, Err, refl, sym, ap, subst, ◌∙◌, inl, inr, arith, length-append}
 use Rattle.std.specs.Prelude.{nat_lt}
 use Rattle.std.specs.List.{AllZip}
 use Rattle.std.specs.Option.{option_map_or}
@@ -13,7 +13,7 @@ use Rattle.live_range.specs.declared.places.Pair.{Pair}
 use Rattle.edit_model.specs.State.{State}
 use Rattle.edit_model.specs.History.{Entry, History, begun, rested, entry_of, with_entry, joined, joined_in, recorded, view_of, at_view, undone_state, undone_state_by}
 use Rattle.edit_model.specs.Laws.{KeepsMark}
-use Rattle.edit_model.specs.Valid.{IsValid}
+use Rattle.edit_model.specs.Valid.{IsPlacedPair, IsValid}
 use Rattle.edit_model.specs.Outside.{hollowed, outside_by, is_island}
 use Rattle.edit_model.specs.Run.{Reaches, Run, final}
 use Rattle.edit_model.proofs.Commands.{valid_begun}
@@ -27,6 +27,8 @@ use Rattle.edit_laws.specs.Order.{KeepsLeaves, KeepsOrder}
 use Rattle.edit_laws.specs.OrderPreserving.{OrderPreserving}
 use Rattle.edit_laws.proofs.HostParts.{host_stays}
 use Rattle.edit_laws.proofs.Resting.{document_again, host_there, island_inside, outside_at_rest, marks_at_rest, islands_at_rest, order_at_rest}
+use Rattle.edit_laws.proofs.Selections.{selection_at_rest}
+use Rattle.edit_laws.proofs.SteadyRuns.{states_on}
 use Rattle.edit_laws.proofs.StayingKinds.{kinds_at_rest}
 use Rattle.edit_laws.proofs.Subsequences.{keeps_refl}
 use Rattle.edit_actions.specs.ActiveRange.{affected_host}
@@ -36,7 +38,7 @@ use Rattle.edit_engine.specs.declared.answers.Answer.TheVariants.{Yes, No}
 use Rattle.edit_engine.specs.declared.answers.ExecFault.{ExecFault}
 use Rattle.edit_engine.specs.declared.answers.ExecFault.TheVariants as fault
 use Rattle.edit_engine.specs.Commands.{row_of, types_text, action_of, is_enabled}
-use Rattle.edit_engine.specs.Confinement.{KeepsOutside, KeepsHtml, KeepsMarks, HasEntry, HasJoined, IsGone, KeepsIslands, KeepsCharacters, IsSeenAs, joins_last, GivesBack}
+use Rattle.edit_engine.specs.Confinement.{KeepsOutside, KeepsHtml, KeepsMarks, KeepsSelection, HasEntry, HasJoined, IsGone, KeepsIslands, KeepsCharacters, IsSeenAs, joins_last, GivesBack}
 use Rattle.edit_engine.specs.Editing.{Editing, IsJoinable, IsResting, undone}
 use Rattle.edit_engine.specs.Labels.{KeepsLabels, DrawsLabels}
 use Rattle.edit_engine.specs.Execution.{Refused, Deep, Full, Acted, depth_limit, began, ran, answered, joins, after_run, run_outcome, command_outcome, outcome, Tells}
@@ -112,6 +114,10 @@ same_labels e = (
   λ l k there. inl there,
 )
 
+some_pair : (P : Pair → Type 0) (o : Option Pair) → IsSome o → IfSome o P → (q : Pair) × (o ≡ Some q) × P q
+some_pair P None some h = absurd (let some' = some in cc)
+some_pair P (Some q) some h = (q, refl, h)
+
 module _ (old new : Editing) (name v : List ℕ) (stands : Standing old) where
   law : IsValid old.state
   law = stands.valid
@@ -175,6 +181,21 @@ module _ (old new : Editing) (name v : List ℕ) (stands : Standing old) where
           let last : 0 < count_of (tree_of new.state.trees 0) h = omega (arith, still, hollowed_le (tree_of new.state.trees 0) h h) in
           (first, subst (λ g. 0 < count_of g h) alone last)
 
+  -- ---- the selection
+
+  still_selected : (new ≡ old) ⊎ IsRun old new name v → IsSome old.state.points.selection → IsSome new.state.points.selection
+  unfolding final
+  still_selected (inl same) some = subst (λ (e : Editing). IsSome e.state.points.selection) (sym same) some
+  still_selected (inr run) some =
+      let k = (row_of run.command).keeping in
+      let m = action_of run.command v in
+      let b = begun (affected_host old.state) k old.state in
+      let steady = (fit run.command v).steady.leaves b (valid_begun (affected_host old.state) k old.state law) in
+      subst (λ (e : Editing). IsSome e.state.points.selection) run.is (selection_at_rest old.state (final m b) (affected_host old.state) k (m.by_actions b) steady some)
+
+  pub selection_kept : (new ≡ old) ⊎ IsRun old new name v → KeepsSelection old new
+  selection_kept k some = some_pair (IsPlacedPair new.state.trees) new.state.points.selection (still_selected k some) (new_stands k).0.placed.selection
+
   -- ---- islands
 
   -- an island that stays is where it was
@@ -232,7 +253,7 @@ module _ (old new : Editing) (name v : List ℕ) (stands : Standing old) where
       let b = begun (Some h) k old.state in
       let hosted = host_is_host old.state law.forest.distinct h host in
       let at_host : after_run old run.command (final m b) ≡ new = ap (λ o. after_run old run.command (final m (begun o k old.state))) (sym host) ∙ run.is in
-      let leaves = (fit run.command v).stateless.leaves b (valid_begun (Some h) k old.state law) in
+      let leaves = states_on (m.by_actions b) ((fit run.command v).steady.leaves b (valid_begun (Some h) k old.state law)) in
       subst (λ (e : Editing). StaysBelow old.state.trees e.state.trees h l ⊎ IsGone old e h l) at_host
       (island_of h l run.command k m (islands_at_rest old.state (final m b) h k law whole hosted (m.by_actions b) leaves l island))
 

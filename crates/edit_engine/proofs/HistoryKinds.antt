@@ -1,5 +1,5 @@
 -- A label has one kind in all documents that undo and redo lead to: the nodes that are held have them all.
-use Rattle.std.proofs.Common.{◌≡◌, ℕ, ◌≤◌, List, [], ◌∷◌, ◌++◌, Option, Some, refl, sym, ap, subst, ◌∙◌, arith}
+use Rattle.std.proofs.Common.{◌≡◌, ℕ, List, [], ◌∷◌, Option, Some, refl, sym, ap, subst, ◌∙◌, arith}
 use Rattle.std.specs.Prelude.{unwrap_or}
 use Rattle.std.specs.Option.{option_map}
 use Rattle.dom_model.specs.declared.Content.{Content}
@@ -7,19 +7,19 @@ use Rattle.dom_model.specs.declared.Content.TheVariants.{Document, Element, Word
 use Rattle.dom_model.specs.declared.attributes.Attribute.{Attribute}
 use Rattle.dom_model.specs.Change as change
 use Rattle.dom_model.specs.Contents.{with_chars, with_attributes}
-use Rattle.dom_model.specs.Forest.{Forest, parent_of, tree_of, unlink}
+use Rattle.dom_model.specs.Forest.{Forest, parent_of, unlink}
 use Rattle.dom_model.proofs.Kept.{content_of-link, content_of-unlink}
 use Rattle.undo_log.specs.Turning.{back, forth, FitsBack, FitsForth}
 use Rattle.forest_changes.specs.Change.{Change, IsForest, Fits, applied}
 use Rattle.forest_changes.specs.Named.{Each}
 use Rattle.forest_changes.proofs.ChangeLists.{each_join, each_first, each_rest, each_of}
 use Rattle.forest_changes.proofs.Twice.{IsForest-unlink, IsForest-applied, given_parent}
-use Rattle.edit_model.specs.History.{Entry, History, document_of, undone_state, undone_state_by, redone_state, redone_state_by, at_view}
-use Rattle.edit_doc.specs.Kept.{LeadAllBack, LeadAllForth, IsNeeded, HoldsOnlyNeeded}
+use Rattle.edit_model.specs.History.{Entry, document_of, undone_state, undone_state_by, redone_state, redone_state_by, at_view}
+use Rattle.edit_doc.specs.Kept.{LeadAllBack, LeadAllForth, HoldsOnlyNeeded}
 use Rattle.edit_laws.specs.Kinds.{Kind, kind_in, kind_of, SameKinds}
 use Rattle.edit_laws.proofs.StayingKinds.{kind_of-revised, kind-tree}
 use Rattle.edit_engine.specs.Editing.{Editing, EditorValue, document, undone, redone}
-use Rattle.edit_engine.specs.Labels.{KeepsLabels, documents_in, documents_of, AgreesWith, HaveOneKind}
+use Rattle.edit_engine.specs.Labels.{KeepsLabels, documents_in, AgreesWith, HaveOneKind}
 
 -- ---- changes keep the kinds
 

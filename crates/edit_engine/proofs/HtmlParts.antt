@@ -1,10 +1,9 @@
 -- The HTML of documents that differ in the children of one node alone.
-use Rattle.std.proofs.Common.{◌≡◌, ℕ, ◌<◌, cond, eqb, List, [], ◌++◌, Option, Some, None, refl, sym, ap, ◌∙◌, append_assoc}
-use Rattle.std.specs.Prelude.{nat_lt}
+use Rattle.std.proofs.Common.{◌≡◌, ℕ, ◌<◌, List, ◌++◌, Option, Some, None, refl, sym, ap, ◌∙◌, append_assoc}
 use Rattle.std.proofs.lemmas.List.{append-nil}
 use Rattle.dom_model.specs.declared.Content.{Content}
 use Rattle.dom_model.specs.declared.Content.TheVariants.{Document}
-use Rattle.dom_model.specs.Forest.{Forest, Seen, seek, tops, count_of, tree_of, IsDistinct}
+use Rattle.dom_model.specs.Forest.{Forest, seek, tops, count_of, tree_of}
 use Rattle.dom_model.specs.Forest.Forest.{Nil, Tree}
 use Rattle.page_write.specs.Html.{opening, closing, html_of, document_html}
 use Rattle.edit_model.specs.Outside.{hollowed, outside_by}

@@ -1,14 +1,14 @@
--- As many redos after undos give back the document.
-use Rattle.std.proofs.Common.{◌≡◌, ℕ, zero, suc, ◌≤◌, List, [], ◌∷◌, length, refl, sym, ap, subst, ◌∙◌, arith}
+-- As many redos after undos, and as many undos after redos, give back the document.
+use Rattle.std.proofs.Common.{◌≡◌, ℕ, zero, suc, ◌≤◌, List, [], ◌∷◌, length, Option, Some, refl, sym, ap, subst, ◌∙◌, arith}
+use Rattle.std.specs.Prelude.{IfSome}
 use Rattle.dom_model.specs.declared.Content.{Content}
 use Rattle.dom_model.specs.Forest.{Forest}
-use Rattle.live_range.specs.LivePoints.{LivePoints}
 use Rattle.forest_changes.specs.Change.{Change}
 use Rattle.edit_model.specs.State.{State}
-use Rattle.edit_model.specs.History.{Entry, History, document_of, at_view, undone_history, undone_history_by, redone_state, redone_state_by, redone_history, redone_history_by}
-use Rattle.edit_doc.specs.Kept.{LeadAllBack, HoldsOnlyNeeded}
+use Rattle.edit_model.specs.History.{Entry, History, View, document_of, at_view, undone_state, undone_state_by, undone_history, undone_history_by, redone_state, redone_state_by, redone_history, redone_history_by}
+use Rattle.edit_doc.specs.Kept.{LeadAllBack, LeadAllForth, HoldsOnlyNeeded}
 use Rattle.edit_engine.specs.Editing.{Editing, EditorValue, document, undone, redone, turned_times}
-use Rattle.edit_engine.specs.ThereAndBack.{there_and_back, AreAsLeft, IsBack, UndosComeBack}
+use Rattle.edit_engine.specs.ThereAndBack.{there_and_back, AreAt, after_first, before_first, IsBack, UndosComeBack, RedosComeBack}
 
 -- one more turn may be the last one
 turned_last : (n : ℕ) (turn : Editing → Editing) (e : Editing) → turned_times (suc n) turn e ≡ turn (turned_times n turn e)
@@ -16,54 +16,85 @@ unfolding turned_times
 turned_last zero turn e = refl
 turned_last (suc n) turn e = turned_last n turn (turn e)
 
-back_last : (n : ℕ) (e : Editing) → there_and_back (suc n) e ≡ redone (there_and_back n (undone e))
-unfolding turned_times
-back_last n e = turned_last n redone (turned_times n undone (undone e))
-
--- ---- the history
-
-back_again : (h : History) (u : Entry) (us : List Entry) → h.undo ≡ u ∷ us → redone_history (undone_history h) ≡ h
-unfolding redone_history undone_history
-back_again h u us is =
-    ap (λ (es : List Entry). redone_history_by (undone_history_by es h).redo (undone_history_by es h)) is
-    ∙ ap (λ (es : List Entry). record h { undo = es }) (sym is)
-
 first_entry : (es : List Entry) (n : ℕ) → suc n ≤ length es → (u : Entry) × (us : List Entry) × (es ≡ u ∷ us)
 first_entry [] n some = absurd (omega (arith, some))
 first_entry (u ∷ us) n some = (u, us, refl)
 
-undone_length : (h : History) (u : Entry) (us : List Entry) → h.undo ≡ u ∷ us → (undone_history h).undo ≡ us
-unfolding undone_history
-undone_length h u us is = ap (λ (es : List Entry). (undone_history_by es h).undo) is
+rest_long : (es : List Entry) (u : Entry) (us : List Entry) (n : ℕ) → es ≡ u ∷ us → suc n ≤ length es → n ≤ length us
+rest_long es u us n is some = let count : length es ≡ suc (length us) = ap length is in omega (arith, some, count)
 
-undone_redo : (h : History) (u : Entry) (us : List Entry) → h.undo ≡ u ∷ us → (undone_history h).redo ≡ u ∷ h.redo
-unfolding undone_history
-undone_redo h u us is = ap (λ (es : List Entry). (undone_history_by es h).redo) is
+-- ---- one way and the other
 
-history_back : (n : ℕ) (e : Editing) → n ≤ length e.history.undo → (there_and_back n e).history ≡ e.history
-unfolding turned_times
-history_back zero e some = refl
-history_back (suc n) e some =
-    let t = first_entry e.history.undo n some in
-    let count : length e.history.undo ≡ suc (length t.1) = ap length t.2 in
-    let left : length (undone_history e.history).undo ≡ length t.1 = ap length (undone_length e.history t.0 t.1 t.2) in
-    ap (λ (x : Editing). x.history) (back_last n e)
-    ∙ (ap redone_history (history_back n (undone e) (omega (arith, some, count, left)))
-    ∙ back_again e.history t.0 t.1 t.2)
+-- the entries that lie one way, and what a turn that way and one back make of the history and of the state: past the first entry, and
+-- back to its view on this side
+record Ways (there back : Editing → Editing) (ahead : History → List Entry) (view : Entry → View) : Type 0 where
+  past : (e : Editing) (u : Entry) (us : List Entry) → ahead e.history ≡ u ∷ us → ahead (there e).history ≡ us
+  again : (x e : Editing) (u : Entry) (us : List Entry) → ahead e.history ≡ u ∷ us → x.history ≡ (there e).history → (back x).history ≡ e.history
+  state : (x e : Editing) (u : Entry) (us : List Entry) → ahead e.history ≡ u ∷ us → x.history ≡ (there e).history → (back x).state ≡ at_view (view u) x.state
 
--- ---- the state is at the view after the last entry
+module _ (there back : Editing → Editing) (ahead : History → List Entry) (view : Entry → View) (ways : Ways there back ahead view) where
+  back_last : (n : ℕ) (e : Editing) → there_and_back (suc n) there back e ≡ back (there_and_back n there back (there e))
+  unfolding turned_times
+  back_last n e = turned_last n back (turned_times n there (there e))
 
-state_back : (n : ℕ) (e : Editing) (u : Entry) (us : List Entry) → e.history.undo ≡ u ∷ us → suc n ≤ length e.history.undo → (s : State) × ((there_and_back (suc n) e).state ≡ at_view u.after s)
-unfolding redone_state
-state_back n e u us is some =
-    let y = there_and_back n (undone e) in
-    let count : length e.history.undo ≡ suc (length us) = ap length is in
-    let left : length (undone_history e.history).undo ≡ length us = ap length (undone_length e.history u us is) in
-    let history : y.history ≡ undone_history e.history = history_back n (undone e) (omega (arith, some, count, left)) in
-    let redo : y.history.redo ≡ u ∷ e.history.redo = ap (λ (h : History). h.redo) history ∙ undone_redo e.history u us is in
-    (y.state, ap (λ (x : Editing). x.state) (back_last n e) ∙ ap (λ (es : List Entry). redone_state_by es y.state) redo)
+  history_back : (n : ℕ) (e : Editing) → n ≤ length (ahead e.history) → (there_and_back n there back e).history ≡ e.history
+  unfolding turned_times
+  history_back zero e some = refl
+  history_back (suc n) e some =
+      let t = first_entry (ahead e.history) n some in
+      let left = rest_long (ahead e.history) t.0 t.1 n t.2 some in
+      let past = ways.past e t.0 t.1 t.2 in
+      ap (λ (x : Editing). x.history) (back_last n e)
+      ∙ ways.again (there_and_back n there back (there e)) e t.0 t.1 t.2 (history_back n (there e) (subst (λ es. n ≤ length es) (sym past) left))
 
--- the document after the last entry is the one that is there
+  state_back : (n : ℕ) (e : Editing) (u : Entry) (us : List Entry) → ahead e.history ≡ u ∷ us → suc n ≤ length (ahead e.history) → (s : State) × ((there_and_back (suc n) there back e).state ≡ at_view (view u) s)
+  state_back n e u us is some =
+      let y = there_and_back n there back (there e) in
+      let left = rest_long (ahead e.history) u us n is some in
+      let history = history_back n (there e) (subst (λ es. n ≤ length es) (sym (ways.past e u us is)) left) in
+      (y.state, ap (λ (x : Editing). x.state) (back_last n e) ∙ ways.state y e u us is history)
+
+  -- where the first entry has this document on this side, and this is its view
+  come_back : (e : Editing) (o : Option View) → ((u : Entry) (us : List Entry) → ahead e.history ≡ u ∷ us → ((view u).document ≡ e.state.trees) × (o ≡ Some (view u))) → (n : ℕ) → n ≤ length (ahead e.history) → IsBack o e (there_and_back n there back e)
+  unfolding turned_times at_view
+  come_back e o first zero some = record { document = refl; history = refl; points = λ _. (refl, refl) }
+  come_back e o first (suc n) some =
+      let t = first_entry (ahead e.history) n some in
+      let k = state_back n e t.0 t.1 t.2 some in
+      let own = first t.0 t.1 t.2 in
+      record {
+        document = ap (λ (s : State). s.trees) k.1 ∙ own.0;
+        history = history_back (suc n) e some;
+        points = λ at. (
+            let placed : AreAt e.state.points (view t.0) = subst (λ p. IfSome p (AreAt e.state.points)) own.1 at in
+            (ap (λ (s : State). s.points.selection) k.1 ∙ sym placed.0, ap (λ (s : State). s.points.marks) k.1 ∙ sym placed.1));
+      }
+
+-- ---- undos, and redos
+
+undo_ways : Ways undone redone (λ h. h.undo) (λ u. u.after)
+unfolding undone_history redone_history redone_state
+undo_ways = record {
+  past = λ e u us is. ap (λ (es : List Entry). (undone_history_by es e.history).undo) is;
+  again = λ x e u us is same. (
+      ap redone_history same
+      ∙ (ap (λ (es : List Entry). redone_history_by (undone_history_by es e.history).redo (undone_history_by es e.history)) is
+      ∙ ap (λ (es : List Entry). record e.history { undo = es }) (sym is)));
+  state = λ x e u us is same. ap (λ (h : History). redone_state_by h.redo x.state) same ∙ ap (λ (es : List Entry). redone_state_by (undone_history_by es e.history).redo x.state) is;
+}
+
+redo_ways : Ways redone undone (λ h. h.redo) (λ u. u.before)
+unfolding undone_history redone_history undone_state
+redo_ways = record {
+  past = λ e u us is. ap (λ (es : List Entry). (redone_history_by es e.history).redo) is;
+  again = λ x e u us is same. (
+      ap undone_history same
+      ∙ (ap (λ (es : List Entry). undone_history_by (redone_history_by es e.history).undo (redone_history_by es e.history)) is
+      ∙ ap (λ (es : List Entry). record e.history { redo = es }) (sym is)));
+  state = λ x e u us is same. ap (λ (h : History). undone_state_by h.undo x.state) same ∙ ap (λ (es : List Entry). undone_state_by (redone_history_by es e.history).undo x.state) is;
+}
+
+-- the document after the last entry, and before the next one, is the one that is there
 last_document : (f : Forest Content) (xss : List (List Change)) (es : List Entry) (u : Entry) (us : List Entry) → es ≡ u ∷ us → LeadAllBack f xss es → u.after.document ≡ document_of f
 last_document f xss [] u us is h = absurd (let e : [] ≡ u ∷ us = is in cc)
 last_document f [] (e ∷ es) u us is h = absurd h
@@ -71,21 +102,21 @@ last_document f (x ∷ xs) (e ∷ es) u us is h =
     let same : e ≡ u = (let t = is in cc) in
     ap (λ (y : Entry). y.after.document) (sym same) ∙ h.0.after
 
--- the points that the last entry left are those of its view
-left_points : (es : List Entry) (points : LivePoints) (u : Entry) (us : List Entry) → es ≡ u ∷ us → AreAsLeft es points → (points.selection ≡ u.after.selection) × (points.marks ≡ u.after.marks)
-left_points es points u us is left = subst (λ xs. AreAsLeft xs points) is left
+next_document : (f : Forest Content) (xss : List (List Change)) (es : List Entry) (u : Entry) (us : List Entry) → es ≡ u ∷ us → LeadAllForth f xss es → u.before.document ≡ document_of f
+next_document f xss [] u us is h = absurd (let e : [] ≡ u ∷ us = is in cc)
+next_document f [] (e ∷ es) u us is h = absurd h
+next_document f (x ∷ xs) (e ∷ es) u us is h =
+    let same : e ≡ u = (let t = is in cc) in
+    ap (λ (y : Entry). y.before.document) (sym same) ∙ h.0.before
 
 pub undos_come_back : (v : EditorValue) → HoldsOnlyNeeded (document v) → UndosComeBack v.editing
-unfolding turned_times at_view
-undos_come_back v needs zero some = record { document = refl; history = refl; points = λ _. (refl, refl) }
-undos_come_back v (f, xs, ys, needed) (suc n) some =
-    let e = v.editing in
-    let t = first_entry e.history.undo n some in
-    let k = state_back n e t.0 t.1 t.2 some in
-    record {
-      document = ap (λ (s : State). s.trees) k.1 ∙ (last_document f xs e.history.undo t.0 t.1 t.2 needed.undo ∙ needed.document);
-      history = history_back (suc n) e some;
-      points = λ left. (
-          let own = left_points e.history.undo e.state.points t.0 t.1 t.2 left in
-          (ap (λ (s : State). s.points.selection) k.1 ∙ sym own.0, ap (λ (s : State). s.points.marks) k.1 ∙ sym own.1));
-    }
+undos_come_back v (f, xs, ys, needed) =
+    let h = v.editing.history in
+    come_back undone redone (λ h. h.undo) (λ u. u.after) undo_ways v.editing (after_first h.undo)
+    (λ u us is. (last_document f xs h.undo u us is needed.undo ∙ needed.document, ap after_first is))
+
+pub redos_come_back : (v : EditorValue) → HoldsOnlyNeeded (document v) → RedosComeBack v.editing
+redos_come_back v (f, xs, ys, needed) =
+    let h = v.editing.history in
+    come_back redone undone (λ h. h.redo) (λ u. u.before) redo_ways v.editing (before_first h.redo)
+    (λ u us is. (next_document f ys h.redo u us is needed.redo ∙ needed.document, ap before_first is))

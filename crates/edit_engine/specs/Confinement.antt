@@ -1,11 +1,13 @@
 -- What every execution of a command keeps, whatever it answers.
-use Rattle.std.specs.Prelude.{◌≡◌, ◌⊎◌, ℕ, Bool, true, false, List, ◌∷◌, Some}
+use Rattle.std.specs.Prelude.{◌≡◌, ◌⊎◌, ℕ, Bool, true, false, List, ◌∷◌, Some, IsSome}
 use Rattle.std.specs.List.{AllZip}
 use Rattle.std.specs.Option.{option_map_or}
 use Rattle.html_names.specs.Commands.{command_named}
 use Rattle.html_names.specs.declared.commands.Command.{Command}
 use Rattle.dom_model.specs.Forest.{IsWithin}
+use Rattle.live_range.specs.declared.places.Pair.{Pair}
 use Rattle.edit_model.specs.State.{State}
+use Rattle.edit_model.specs.Valid.{IsPlacedPair}
 use Rattle.edit_model.specs.History.{Entry, begun, entry_of, joined_in}
 use Rattle.edit_model.specs.Laws.{KeepsMark}
 use Rattle.edit_model.specs.Outside.{outside_by, is_island}
@@ -36,6 +38,11 @@ abbrev pub KeepsMarks : Editing → Editing → Type 0
 KeepsMarks old new =
     AllZip (KeepsMark (affected_host old.state) old.state.trees) old.state.points.marks
     new.state.points.marks
+
+-- where something was selected something is, and both its points stand in the document
+abbrev pub KeepsSelection : Editing → Editing → Type 0
+KeepsSelection old new = IsSome old.state.points.selection
+    → (q : Pair) × (new.state.points.selection ≡ Some q) × IsPlacedPair new.state.trees q
 
 -- the last entry is now one more, with the edits of the state in which a command ended
 pub record HasEntry (old new : Editing) (ended : State) : Type 0 where

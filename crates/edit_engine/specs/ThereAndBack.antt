@@ -1,28 +1,40 @@
--- So many undos, and as many redos after them.
-use Rattle.std.specs.Prelude.{◌≡◌, ℕ, ◌≤◌, List, [], ◌∷◌, length}
+-- So many undos and as many redos after them, and the other way round.
+use Rattle.std.specs.Prelude.{◌≡◌, ℕ, ◌≤◌, List, [], ◌∷◌, length, Option, Some, None, IfSome}
 use Rattle.live_range.specs.LivePoints.{LivePoints}
-use Rattle.edit_model.specs.History.{Entry}
+use Rattle.edit_model.specs.History.{Entry, View}
 use Rattle.edit_engine.specs.Editing.{Editing, undone, redone, turned_times}
 
-abbrev pub there_and_back : ℕ → Editing → Editing
-there_and_back n e = turned_times n redone (turned_times n undone e)
+abbrev pub there_and_back : ℕ → (there back : Editing → Editing) → Editing → Editing
+there_and_back n there back e = turned_times n back (turned_times n there e)
 
--- no point was moved since the last command: the selection and the marks are those that its entry
--- left
-abbrev pub AreAsLeft : List Entry → LivePoints → Type 0
-AreAsLeft [] points = Unit {0}
-AreAsLeft (e ∷ es) points =
-    (points.selection ≡ e.after.selection) × (points.marks ≡ e.after.marks)
+-- the selection and the marks are those of the view
+abbrev pub AreAt : LivePoints → View → Type 0
+AreAt points v = (points.selection ≡ v.selection) × (points.marks ≡ v.marks)
 
--- the document and the history are as before, and where no point was moved since the last command
--- the selection and the marks are
-pub record IsBack (old new : Editing) : Type 0 where
+-- the view that the next entry has on this side of it
+abbrev pub after_first : List Entry → Option View
+after_first [] = None
+after_first (e ∷ es) = Some e.after
+
+abbrev pub before_first : List Entry → Option View
+before_first [] = None
+before_first (e ∷ es) = Some e.before
+
+-- the document and the history are as before, and so are the selection and the marks where they were
+-- those of the view: where none was moved since
+pub record IsBack (view : Option View) (old new : Editing) : Type 0 where
   pub document : new.state.trees ≡ old.state.trees
   pub history : new.history ≡ old.history
-  pub points : AreAsLeft old.history.undo old.state.points
+  pub points : IfSome view (AreAt old.state.points)
       → (new.state.points.selection ≡ old.state.points.selection)
       × (new.state.points.marks ≡ old.state.points.marks)
 
--- so it is after as many undos as there are entries for, and as many redos
+-- so it is after as many undos as there are entries for, or fewer, and as many redos
 abbrev pub UndosComeBack : Editing → Type 0
-UndosComeBack e = (n : ℕ) → n ≤ length e.history.undo → IsBack e (there_and_back n e)
+UndosComeBack e = (n : ℕ) → n ≤ length e.history.undo
+    → IsBack (after_first e.history.undo) e (there_and_back n undone redone e)
+
+-- and after as many redos, and as many undos
+abbrev pub RedosComeBack : Editing → Type 0
+RedosComeBack e = (n : ℕ) → n ≤ length e.history.redo
+    → IsBack (before_first e.history.redo) e (there_and_back n redone undone e)

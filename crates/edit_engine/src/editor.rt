@@ -10,7 +10,7 @@ ghost use Rattle.command_gate.specs.Denied.{is_denied};
 ghost use Rattle.node_paths.specs.Paths.{label_at};
 ghost use Rattle.edit_engine.specs.Changes.{CanFollow, changes_of};
 ghost use Rattle.edit_engine.specs.Commands.{action_of};
-ghost use Rattle.edit_engine.specs.Confinement.{KeepsOutside, KeepsHtml, KeepsMarks, KeepsIslands, KeepsCharacters, GivesBack};
+ghost use Rattle.edit_engine.specs.Confinement.{KeepsOutside, KeepsHtml, KeepsSelection, KeepsMarks, KeepsIslands, KeepsCharacters, GivesBack};
 ghost use Rattle.edit_engine.specs.Editing.{EditorValue, IsJoinable, document, new_editing, undone, redone};
 ghost use Rattle.edit_engine.specs.Execution.{gated_outcome, outcome, command_outcome, run_outcome, Tells};
 ghost use Rattle.edit_engine.specs.Following.{first_following};
@@ -19,7 +19,7 @@ ghost use Rattle.edit_engine.specs.Logs.{log_text};
 ghost use Rattle.edit_engine.specs.Places.{pair_at, placed_pair, selecting, unselecting, marking, unmarking, IsCrowded};
 ghost use Rattle.edit_engine.specs.Queries.{reply_of};
 ghost use Rattle.edit_engine.specs.Replaying.{LogReplays};
-ghost use Rattle.edit_engine.specs.ThereAndBack.{UndosComeBack};
+ghost use Rattle.edit_engine.specs.ThereAndBack.{UndosComeBack, RedosComeBack};
 ghost use Rattle.edit_engine.specs.Views.{view_text};
 
 use crate::actions::{joins, run_command, types_on};
@@ -103,6 +103,7 @@ impl Editor {
         ensures html { KeepsHtml self.old.editing self.new.editing }
         ensures labels { KeepsLabels self.old.editing self.new.editing }
         ensures drawn { DrawsLabels self.old.editing self.new.editing }
+        ensures selection { KeepsSelection self.old.editing self.new.editing }
         ensures marks { KeepsMarks self.old.editing self.new.editing }
         ensures islands { KeepsIslands self.old.editing self.new.editing }
         ensures characters { KeepsCharacters name.now self.old.editing self.new.editing }
@@ -141,6 +142,7 @@ impl Editor {
         ensures html { KeepsHtml self.old.editing self.new.editing }
         ensures labels { KeepsLabels self.old.editing self.new.editing }
         ensures drawn { DrawsLabels self.old.editing self.new.editing }
+        ensures selection { KeepsSelection self.old.editing self.new.editing }
         ensures marks { KeepsMarks self.old.editing self.new.editing }
         ensures islands { KeepsIslands self.old.editing self.new.editing }
         ensures characters { KeepsCharacters name.now self.old.editing self.new.editing }
@@ -434,10 +436,12 @@ impl Editor {
     }
 
     /// How undo and redo go together, for proofs: after some undos, each of which takes an entry,
-    /// and as many redos the document and the history are as before, and so are the selection and
-    /// the marks where none was moved since the last command. It does nothing.
-    pub fn undos_come_back(&self)
-        ensures { UndosComeBack self.now.editing }
+    /// and as many redos, or after redos and undos, the document and the history are as before, and
+    /// so are the selection and the marks where none was moved since the last command, undo or
+    /// redo. It does nothing.
+    pub fn turns_come_back(&self)
+        ensures undos { UndosComeBack self.now.editing }
+        ensures redos { RedosComeBack self.now.editing }
     {
         self.kept_nodes();
     }

@@ -19,9 +19,10 @@ pub mod Fronts
 pub mod Cancelling
 pub mod HostParts
 pub mod BelowHost
-pub mod StatelessRuns
+pub mod SteadyRuns
 pub mod Resting
 pub mod StayingKinds
+pub mod Selections
 pub mod Unwrapping
 pub mod Lines
 pub mod Adopting

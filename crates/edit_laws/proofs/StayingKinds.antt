@@ -4,7 +4,7 @@ use Rattle.std.specs.Option.{option_map}
 use Rattle.std.proofs.lemmas.Bool.{cases_Bool, cases_lt}
 use Rattle.dom_model.specs.declared.Content.{Content}
 use Rattle.dom_model.specs.declared.Content.TheVariants.{Document, Element, Words, Remark}
-use Rattle.dom_model.specs.Forest.{Forest, Seen, seek, count_of, tree_of, parent_of, content_of, link, unlink, with_leaf, CanPut, IsDistinct}
+use Rattle.dom_model.specs.Forest.{Forest, Seen, seek, count_of, tree_of, parent_of, content_of, link, unlink, CanPut, IsDistinct}
 use Rattle.dom_model.specs.Revised.{revised}
 use Rattle.dom_model.proofs.Kept.{content_of-link, content_of-unlink, content_of-with_leaf_other}
 use Rattle.dom_model.proofs.Links.{found_count}

@@ -9,12 +9,12 @@ use Rattle.edit_model.proofs.Steps.{final-bind, final-look}
 use Rattle.edit_laws.specs.Order.{KeepsOrder, IsKeeping}
 use Rattle.edit_laws.specs.MoveLaws.{IsBare}
 use Rattle.edit_laws.specs.OrderPreserving.{OrderPreserving}
-use Rattle.edit_laws.specs.Stateless.{Stateless}
+use Rattle.edit_laws.specs.Steady.{Steady}
 use Rattle.edit_laws.proofs.Subsequences.{keeps_trans}
 use Rattle.edit_laws.proofs.QuietActions.{keeping_final}
 use Rattle.edit_laws.proofs.MoveLaws.{go_before}
 use Rattle.edit_laws.proofs.OrderPreserving.{order_preserving_bind, order_preserving_answer, order_preserving_remove}
-use Rattle.edit_laws.proofs.StatelessRuns.{stateless_parts, stateless_each}
+use Rattle.edit_laws.proofs.SteadyRuns.{steady_parts, steady_each}
 
 -- a run that is known at a state, and an order-preserving one after it
 then_order_preserving : {A B : Type 0} (m : Run A) (n : Run B) (s : State) → IsKeeping s → KeepsOrder s (final m s) → OrderPreserving n → KeepsOrder s (final (m >>= (λ _. n)) s)
@@ -30,14 +30,14 @@ unwrap_keeps e s is bare =
     (then_order_preserving (move_all_before (children_of s.trees e) e) (remove e >> done) s is
     (go_before s is (children_of s.trees e) [] e (sym (append-nil (children_of s.trees e))) bare) (goes e))
 
-stateless_move_before : (o n : ℕ) → Stateless (move_before o n)
+steady_move_before : (o n : ℕ) → Steady (move_before o n)
 unfolding move_before
-stateless_move_before o n = search stateless_parts
+steady_move_before o n = search steady_parts
 
-stateless_all_before : (list : List ℕ) (o : ℕ) → Stateless (move_all_before list o)
+steady_all_before : (list : List ℕ) (o : ℕ) → Steady (move_all_before list o)
 unfolding move_all_before
-stateless_all_before list o = search (stateless_each, stateless_move_before)
+steady_all_before list o = search (steady_each, steady_move_before)
 
-pub stateless_unwrap : (e : ℕ) → Stateless (unwrap e)
+pub steady_unwrap : (e : ℕ) → Steady (unwrap e)
 unfolding unwrap
-stateless_unwrap e = search (stateless_parts, stateless_all_before)
+steady_unwrap e = search (steady_parts, steady_all_before)

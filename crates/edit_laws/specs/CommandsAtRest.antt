@@ -1,6 +1,6 @@
 -- What a command leaves, seen from outside commands: the document before it, and the document once
 -- its loose trees are dropped.
-use Rattle.std.specs.Prelude.{◌≡◌, ℕ, Bool, true, Option, Some}
+use Rattle.std.specs.Prelude.{◌≡◌, ℕ, Bool, true, Option, Some, IsSome}
 use Rattle.std.specs.List.{AllZip}
 use Rattle.dom_model.specs.Editing.{is_host}
 use Rattle.dom_model.specs.Forest.{tree_of}
@@ -14,6 +14,7 @@ use Rattle.edit_laws.specs.BelowHost.{below}
 use Rattle.edit_laws.specs.Islands.{IslandKept}
 use Rattle.edit_laws.specs.Kinds.{SameKinds, DrawsKinds}
 use Rattle.edit_laws.specs.Order.{KeepsLeaves, KeepsOrder}
+use Rattle.edit_laws.specs.Steady.{SteadyOn}
 
 -- what lies outside the host stays
 abbrev pub OutsideStays : Type 0
@@ -49,3 +50,9 @@ abbrev pub KindsStay : Type 0
 KindsStay =
     (s t : State) (host : Option ℕ) (keeping : Bool) → IsValid s → Reaches (begun host keeping s) t
     → SameKinds s.trees (rested t).trees × DrawsKinds s.next (rested t).next s.trees (rested t).trees
+
+-- a selection stays one, where no action gives it up
+abbrev pub SelectionStays : Type 0
+SelectionStays =
+    (s t : State) (host : Option ℕ) (keeping : Bool) (r : Reaches (begun host keeping s) t)
+    → SteadyOn r → IsSome s.points.selection → IsSome (rested t).points.selection

@@ -4,8 +4,8 @@ pub mod Laws
 pub mod MoveLaws
 pub mod CompositionLaws
 pub mod BelowHost
-pub mod Stateless
-pub mod StatelessLaws
+pub mod Steady
+pub mod SteadyLaws
 pub mod Islands
 pub mod Kinds
 pub mod CommandsAtRest

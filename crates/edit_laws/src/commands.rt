@@ -1,7 +1,7 @@
 //! The laws of commands, seen from outside commands, each the contract of a function that does
 //! nothing.
 
-ghost use Rattle.edit_laws.specs.CommandsAtRest.{OutsideStays, MarksStay, IslandsStay, OrderStays, KindsStay};
+ghost use Rattle.edit_laws.specs.CommandsAtRest.{OutsideStays, MarksStay, IslandsStay, OrderStays, KindsStay, SelectionStays};
 
 /// What lies outside the host stays.
 pub fn outside_stays_at_rest()
@@ -28,4 +28,9 @@ pub fn order_stays_at_rest()
 /// a label that the command drew.
 pub fn kinds_stay_at_rest()
     ensures { KindsStay }
+{}
+
+/// A selection stays one, where no action of the command gives it up.
+pub fn selection_stays_at_rest()
+    ensures { SelectionStays }
 {}

@@ -1,18 +1,18 @@
 //! The laws of order: what algorithms that keep contents make of the characters, images and rules
-//! of a document. Then which runs leave the states of contenteditable (`Stateless`). And what a
-//! command leaves, seen from outside commands: what lies outside its host, the marks there, and the
-//! islands.
+//! of a document. Then which runs leave the states of contenteditable and the selection
+//! (`Steady`). And what a command leaves, seen from outside commands: what lies outside its host,
+//! the marks there, the islands, the kinds of nodes, and the selection.
 #![tactic(auto)]
 
 mod commands;
 mod compositions;
 mod laws;
 mod moves;
-mod stateless;
+mod steady;
 
 pub use commands::{
     islands_stay_at_rest, kinds_stay_at_rest, marks_stay_at_rest, order_stays_at_rest,
-    outside_stays_at_rest,
+    outside_stays_at_rest, selection_stays_at_rest,
 };
 pub use compositions::{split_texts_keep, tag_names_keep, unwraps_keep};
 pub use laws::{
@@ -28,8 +28,7 @@ pub use moves::{
     last_children_go_after, moves_out_are_left_out, next_goes_over, next_siblings_go_in,
     next_takes_in, nodes_change_places, previous_siblings_go_in,
 };
-pub use stateless::{
-    split_texts_stateless, stateless_acts, stateless_answers, stateless_chooses, stateless_copies,
-    stateless_follows, stateless_for_each, stateless_given, stateless_looks, stateless_while,
-    tag_names_stateless, unwraps_stateless,
+pub use steady::{
+    split_texts_steady, steady_acts, steady_answers, steady_chooses, steady_copies, steady_follows,
+    steady_for_each, steady_given, steady_looks, steady_while, tag_names_steady, unwraps_steady,
 };

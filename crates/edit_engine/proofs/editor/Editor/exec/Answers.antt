@@ -1,7 +1,7 @@
 use Rattle.std.proofs.Common.{sym, ap, ◌∙◌, inl, refl}
 use Rattle.edit_engine.specs.Editing.{EditorValue}
 use Rattle.edit_engine.specs.Execution.{Tells, outcome}
-use Rattle.edit_engine.proofs.Confining.{standing, changes, outside_kept, html_kept, labels_kept, marks_kept, islands_kept, characters_kept, given_back}
+use Rattle.edit_engine.proofs.Confining.{standing, changes, outside_kept, html_kept, labels_kept, selection_kept, marks_kept, islands_kept, characters_kept, given_back}
 use Rattle.edit_engine.proofs.Outcomes.{named_outcome, unnamed_outcome}
 use Rattle.edit_engine.proofs.editor.Editor.exec.Goals as goal
 
@@ -20,6 +20,7 @@ returns-in-Some c =
       html = html_kept old new name v stands k;
       labels = (labels_kept old new name v stands k).0;
       drawn = (labels_kept old new name v stands k).1;
+      selection = selection_kept old new name v stands k;
       marks = marks_kept old new name v stands k;
       islands = islands_kept old new name v stands k;
       characters = characters_kept old new name v stands k;
@@ -39,6 +40,7 @@ returns-in-None c =
       html = html_kept old old name v stands (inl refl);
       labels = (labels_kept old old name v stands (inl refl)).0;
       drawn = (labels_kept old old name v stands (inl refl)).1;
+      selection = selection_kept old old name v stands (inl refl);
       marks = marks_kept old old name v stands (inl refl);
       islands = islands_kept old old name v stands (inl refl);
       characters = characters_kept old old name v stands (inl refl);

@@ -1,7 +1,7 @@
 use Rattle.std.proofs.Common.{◌≡◌, true, false, true≢false, sym, ap, ◌∙◌, inl, refl}
 use Rattle.command_gate.specs.Denied.{is_denied}
 use Rattle.edit_engine.specs.Editing.{EditorValue}
-use Rattle.edit_engine.proofs.Confining.{standing, outside_kept, html_kept, labels_kept, marks_kept, islands_kept, characters_kept, given_back}
+use Rattle.edit_engine.proofs.Confining.{standing, outside_kept, html_kept, labels_kept, selection_kept, marks_kept, islands_kept, characters_kept, given_back}
 use Rattle.edit_engine.proofs.Outcomes.{denied_outcome, allowed_outcome}
 use Rattle.edit_engine.proofs.editor.Editor.exec_gated.Goals as goal
 
@@ -20,6 +20,7 @@ returns-then-denies g c =
       html = html_kept old old name v stands (inl refl);
       labels = (labels_kept old old name v stands (inl refl)).0;
       drawn = (labels_kept old old name v stands (inl refl)).1;
+      selection = selection_kept old old name v stands (inl refl);
       marks = marks_kept old old name v stands (inl refl);
       islands = islands_kept old old name v stands (inl refl);
       characters = characters_kept old old name v stands (inl refl);
@@ -40,6 +41,7 @@ returns g c =
       html = c.exec.ensures.html;
       labels = c.exec.ensures.labels;
       drawn = c.exec.ensures.drawn;
+      selection = c.exec.ensures.selection;
       marks = c.exec.ensures.marks;
       islands = c.exec.ensures.islands;
       characters = c.exec.ensures.characters;
