@@ -64,11 +64,14 @@ impl Doc {
     }
 
     /// Each kept point at the place grows by 1, where its node is in the document and has something
-    /// there.
+    /// there. The node's children are counted only where a kept point stands at it.
     pub fn grow(&mut self, at: Point)
         ensures { self.new ≡ with_state self.old (acted (Grow at) self.old.state) }
     {
         self.tree.nodes.arena.valid();
+        if !self.tree.points.stands_at(at.label) {
+            return;
+        }
         if self.may_grow(at) {
             let watch = self.tree.watch();
             self.tree.points.grown(at);

@@ -1,10 +1,13 @@
-use Rattle.std.proofs.Common.{◌∙◌, refl, ap, sym, arith}
+use Rattle.std.proofs.Common.{◌≡◌, ◌∙◌, false, refl, ap, sym, arith}
 use Rattle.live_range.specs.PointsEdit as range
+use Rattle.live_range.specs.PointsEdit.{has_label}
+use Rattle.live_range.specs.LivePoints.{labels_of}
 use Rattle.edit_model.specs.Action.{acted, grown}
 use Rattle.edit_model.specs.Confined.{may_grow}
 use Rattle.edit_model.proofs.Fitting.{places-grow, fits-grow}
 use Rattle.edit_model.proofs.Points.{Places}
-use Rattle.edit_doc.specs.Whole.{Whole}
+use Rattle.edit_doc.specs.Whole.{Whole, with_state}
+use Rattle.edit_doc.proofs.Growing.{still_grown}
 use Rattle.edit_doc.proofs.Inner.{seen}
 use Rattle.edit_doc.proofs.PointSteps.{mapped_then, mapped_ok, mapped_is}
 use Rattle.edit_doc.proofs.Settling.{points_now}
@@ -40,3 +43,9 @@ returns-then-may_grow c =
 pub returns-else-may_grow : goal.returns-else-may_grow
 unfolding acted grown
 returns-else-may_grow c = let t = sym c.may_grow.ensures ∙ c.if-may_grow.false in rw t refl
+
+pub returns-then-not-stands_at : goal.returns-then-not-stands_at
+returns-then-not-stands_at c =
+    let off : has_label (labels_of c.args.self.now.state.points) c.args.at.label ≡ false =
+    ap (λ (w : Whole). has_label (labels_of w.state.points) c.args.at.label) (sym c.self.view_is) ∙ (sym c.stands_at.ensures ∙ c.if-not-stands_at.true) in
+    sym (ap (with_state c.args.self.now) (still_grown c.args.self.now.state c.args.at off))
