@@ -27,6 +27,18 @@ by_length committed.Entry n h = let some : 0 < n = h.0 refl in grind (arith, nat
 by_length committed.Nothing zero h = refl
 by_length committed.Nothing (suc n) h = absurd (let e : committed.Nothing ≡ committed.Entry = h.1 (omega arith) in cc)
 
+no_edits : (xs : List Change) → (0 < length xs → ⊥) → xs ≡ []
+no_edits [] none = refl
+no_edits (x ∷ xs) none = absurd (none (omega arith))
+
+nothing_more : committed.Nothing ≡ committed.Entry → ⊥
+nothing_more e = cc
+
+-- where no change was made, the document that is led to is the one that was there
+no_changes : (xs : List Change) (f d e : Forest Content) → xs ≡ [] → Lead (told_all xs f) d e → d ≡ e
+unfolding told_all forth
+no_changes xs f d e none leads = subst (λ (ys : List Change). Lead (told_all ys f) d e) none leads
+
 module _ (old one two : Whole) (j k : Bool) (m : Run Bool) (begins : one ≡ opened (affected_host old.state) k j old) (keeps : Keeps one two) where
   began_state : one.state ≡ began old.state k
   unfolding opened
@@ -77,3 +89,18 @@ module _ (old one two : Whole) (j k : Bool) (m : Run Bool) (begins : one ≡ ope
 
   pub failed : (three : Whole) (fault : EditFault) → Fails fault (final m one.state) → three.state ≡ state_rolled_back two → three.history ≡ two.history → three.began ≡ None → IsTakenBack old three × Fails fault (ran old.state k m)
   failed three fault fails state history closed = (taken_back three state history closed, subst (λ s. Fails fault (final m s)) began_state fails)
+
+  -- what a host is told of the command
+  pub tells_change : (three : Whole) (c : Committed) → LeadsSince two.began two.state → (0 < length two.state.edits → IsToldSince two.began two.state two.history.undo three.history.undo) → ((c ≡ committed.Entry) ↔ (0 < length two.state.edits)) → three.state ≡ rested two.state → TellsChange (Ok (Some c)) old three j
+  unfolding rested
+  tells_change three committed.Entry leads told answer state =
+      let b : Option Began = Some (record { state = old.state; resumed = j }) in
+      let l : LeadsSince b two.state = subst (λ (o : Option Began). LeadsSince o two.state) began_is leads in
+      let here : IsToldSince two.began two.state old.history.undo three.history.undo = subst (λ (h : History). IsToldSince two.began two.state h.undo three.history.undo) history_is (told (answer.0 refl)) in
+      let t : IsToldSince b two.state old.history.undo three.history.undo = subst (λ (o : Option Began). IsToldSince o two.state old.history.undo three.history.undo) began_is here in
+      ap (λ (edits : List DocumentEdit). forth followed edits (document_of old.state.trees)) t ∙ l ∙ ap (λ (s : State). s.trees) (sym state)
+  tells_change three committed.Nothing leads told answer state =
+      let b : Option Began = Some (record { state = old.state; resumed = j }) in
+      let l : LeadsSince b two.state = subst (λ (o : Option Began). LeadsSince o two.state) began_is leads in
+      let none : two.state.edits ≡ [] = no_edits two.state.edits (λ some. nothing_more (answer.1 some)) in
+      ap (λ (s : State). s.trees) state ∙ sym (no_changes two.state.edits _ (document_of old.state.trees) (document_of two.state.trees) none l)

@@ -1,10 +1,8 @@
 -- What the last call changed, told to a host that keeps a tree of its own.
 use Rattle.std.specs.Prelude.{◌≡◌, ◌⊎◌, List}
-use Rattle.undo_log.specs.Turning.{forth}
 use Rattle.document_edits.specs.declared.edit.DocumentEdit.{DocumentEdit}
-use Rattle.document_edits.specs.Followed.{followed}
 use Rattle.edit_model.specs.History.{History}
-use Rattle.edit_doc.specs.Changes.{changes_past, changes_undone}
+use Rattle.edit_doc.specs.Changes.{Lead, changes_past, changes_undone}
 use Rattle.edit_engine.specs.Following.{next_revision}
 use Rattle.edit_engine.specs.Editing.{EditorValue}
 use Rattle.edit_engine.specs.declared.following.LastChange.{LastChange}
@@ -24,4 +22,4 @@ abbrev pub CanFollow : EditorValue → EditorValue → Type 0
 CanFollow old new =
     ((new.following ≡ old.following) × (new.editing.state.trees ≡ old.editing.state.trees))
     ⊎ ((new.following.revision ≡ next_revision old.following.revision)
-    × (forth followed (changes_of new) old.editing.state.trees ≡ new.editing.state.trees))
+    × Lead (changes_of new) old.editing.state.trees new.editing.state.trees)

@@ -3,10 +3,11 @@ use Rattle.std.specs.Prelude.{◌≡◌, nat_lt, Bool, true, false, length, Resu
 use Rattle.undo_log.specs.declared.log.Committed.{Committed}
 use Rattle.undo_log.specs.declared.log.Committed.TheVariants as committed
 use Rattle.edit_model.specs.State.{State, IsPastCap}
-use Rattle.edit_model.specs.History.{rested, recorded}
+use Rattle.edit_model.specs.History.{rested, recorded, document_of}
 use Rattle.edit_model.specs.Run.{Run}
 use Rattle.edit_model.specs.declared.settings.EditFault.{EditFault}
 use Rattle.edit_model.specs.Gives.{Fails}
+use Rattle.edit_doc.specs.Changes.{Lead, changes_past, resumed_at}
 use Rattle.edit_doc.specs.Whole.{Whole}
 use Rattle.edit_engine.specs.Execution.{ran, answered}
 
@@ -47,3 +48,14 @@ Ran (Ok (Some c)) old new joining keeping m =
 Ran (Ok None) old new joining keeping m = IsRefused old new keeping m
 Ran (Err fault) old new joining keeping m =
     IsTakenBack old new × Fails fault (ran old.state keeping m)
+
+-- what a host is told of the document then: the last entry tells what the command changed, past the
+-- edits that the entry had; or it made no edit, and nothing has changed
+abbrev pub TellsChange : Result (Option Committed) EditFault → Whole → Whole → (joining : Bool)
+    → Type 0
+TellsChange (Ok (Some committed.Entry)) old new joining =
+    Lead (changes_past (resumed_at joining old.history.undo) new.history.undo)
+    (document_of old.state.trees) new.state.trees
+TellsChange (Ok (Some committed.Nothing)) old new joining =
+    new.state.trees ≡ document_of old.state.trees
+TellsChange _ old new joining = Unit {0}

@@ -2,13 +2,14 @@
 
 ghost use Rattle.std.specs.Prelude.{◌≡◌, ◌&&◌, ◌||◌, true, false, IfOk, OnErr};
 ghost use Rattle.edit_model.specs.Gives.{Gives};
+ghost use Rattle.edit_doc.specs.Changes.{resumed_at};
 ghost use Rattle.edit_doc.specs.Held.{Keeps};
 ghost use Rattle.edit_doc.specs.Whole.{IsOpen, IsClosed, opened};
 ghost use Rattle.edit_actions.specs.ActiveRange.{affected_host};
 ghost use Rattle.edit_engine.specs.Commands.{is_value, set_css_styling, set_separator, own_action, action_of, row_of, types_text};
 ghost use Rattle.edit_engine.specs.Editing.{IsJoinable};
 ghost use Rattle.edit_engine.specs.Framing.{restore_at_caret, give_back, recorded_action};
-ghost use Rattle.edit_engine.specs.Running.{Ran, has_entry};
+ghost use Rattle.edit_engine.specs.Running.{Ran, TellsChange, has_entry};
 
 use crate::commands::{is_value, row_of, types_text};
 use block_commands::{format_block, justify};
@@ -201,6 +202,14 @@ fn open(doc: &mut Doc, joining: bool, keeping: bool) -> Result<(), AllocError>
     doc.begin(host, keeping)
 }
 
+/// How many edits the entry has that those of a command join.
+pub(crate) fn kept_edits(doc: &Doc, joining: bool) -> usize
+    requires { IsClosed doc.now }
+    ensures { result ≡ resumed_at joining doc.now.history.undo }
+{
+    if joining { doc.edits() } else { 0 }
+}
+
 /// Execute a command, steps 4 to 6: one command, from its begin to its end. It is taken back where
 /// its action answers false, which is answered by None, and where it can't be taken.
 pub(crate) fn run_command(
@@ -213,13 +222,15 @@ pub(crate) fn run_command(
     requires closed { IsClosed doc.old }
     requires joinable { joining ≡ true → IsJoinable doc.old.history
         × ((row_of command).keeping ≡ false) }
-    ensures { Ran result doc.old doc.new joining (row_of command).keeping
+    ensures ran { Ran result doc.old doc.new joining (row_of command).keeping
         (action_of command value.now) }
+    ensures told { TellsChange result doc.old doc.new joining }
 {
     open(doc, joining, row_of(command).keeping)?;
     match take_action(alloc, doc, command, value) {
         Ok(true) => {
             doc.valid();
+            doc.changes_lead_so_far();
             Ok(Some(doc.commit()))
         }
         Ok(false) => {

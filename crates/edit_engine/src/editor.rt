@@ -22,7 +22,7 @@ ghost use Rattle.edit_engine.specs.Replaying.{LogReplays};
 ghost use Rattle.edit_engine.specs.ThereAndBack.{UndosComeBack, RedosComeBack};
 ghost use Rattle.edit_engine.specs.Views.{view_text};
 
-use crate::actions::{joins, run_command, types_on};
+use crate::actions::{joins, kept_edits, run_command, types_on};
 use crate::answers::{Answer, ExecFault, LogFault, PlaceFault, ViewFault, ViewKind};
 use crate::following::{Following, LastChange};
 use crate::log::entry_lines;
@@ -186,7 +186,7 @@ impl Editor {
     {
         self.doc.valid();
         let joining = joins(self.typing, command);
-        let kept = if joining { self.doc.edits() } else { 0 };
+        let kept = kept_edits(&self.doc, joining);
         match run_command(alloc, &mut self.doc, joining, command, value) {
             Ok(Some(committed)) => {
                 self.typing = types_on(self.typing, command, committed);

@@ -1,0 +1,99 @@
+-- What a host is told of a call leads from the document before it to the document after it.
+use Rattle.std.proofs.Common.{◌≡◌, ℕ, ◌<◌, ◌≤◌, Bool, true, false, List, [], ◌∷◌, length, Some, Ok, refl, sym, ap, subst, ◌∙◌, inl, inr, arith}
+use Rattle.std.specs.Prelude.{◌↔◌, IsTrue}
+use Rattle.dom_model.specs.declared.Content.{Content}
+use Rattle.dom_model.specs.Forest.{Forest}
+use Rattle.undo_log.specs.declared.log.Committed.{Committed}
+use Rattle.undo_log.specs.declared.log.Committed.TheVariants as committed
+use Rattle.edit_model.specs.State.{State}
+use Rattle.edit_model.specs.History.{Entry, History, document_of, rested, undone_state, undone_history, redone_state, redone_history, undone_state_by, undone_history_by, redone_state_by, redone_history_by, at_view}
+use Rattle.edit_doc.specs.Changes.{Lead, changes_past, changes_undone, resumed_at, ChangesLead, UndoneLead}
+use Rattle.edit_doc.specs.Kept.{HoldsOnlyNeeded, LeadAllBack, LeadAllForth}
+use Rattle.edit_doc.specs.Whole.{Whole, IsDoc, IsClosed, first_edits}
+use Rattle.edit_engine.specs.declared.following.Following.{Following}
+use Rattle.edit_engine.specs.Following.{IsWithin, after_commit, after_undo, after_redo}
+use Rattle.edit_engine.specs.Editing.{EditorValue, value_of}
+use Rattle.edit_engine.specs.Changes.{CanFollow}
+use Rattle.edit_engine.specs.Running.{TellsChange}
+
+-- a document that rests stands alone
+pub resting_trees : (d : Whole) → IsDoc d → IsClosed d → document_of d.state.trees ≡ d.state.trees
+unfolding rested
+resting_trees d law closed = ap (λ (s : State). s.trees) (law.resting closed)
+
+-- a command that is made
+pub run_followed : (old new : Whole) (typing after : Bool) (w : Following) (joining : Bool) (kept : ℕ) (c : Committed) → IsDoc old → IsClosed old → TellsChange (Ok (Some c)) old new joining → kept ≡ resumed_at joining old.history.undo → CanFollow (value_of old typing w) (value_of new after (after_commit c kept w))
+run_followed old new typing after w joining kept committed.Entry law closed told is =
+    let here : Lead (changes_past (resumed_at joining old.history.undo) new.history.undo) old.state.trees new.state.trees = subst (λ (d : Forest Content). Lead (changes_past (resumed_at joining old.history.undo) new.history.undo) d new.state.trees) (resting_trees old law closed) told in
+    inr (refl, subst (λ (k : ℕ). Lead (changes_past k new.history.undo) old.state.trees new.state.trees) (sym is) here)
+run_followed old new typing after w joining kept committed.Nothing law closed told is =
+    inl (refl, told ∙ resting_trees old law closed)
+
+-- ---- undo and redo
+
+-- the document is the one after the entry that undo would take, and before the one that redo would take
+undo_after : (d : Whole) (e : Entry) (es : List Entry) → d.history.undo ≡ e ∷ es → HoldsOnlyNeeded d → e.after.document ≡ d.state.trees
+undo_after d e es is needed =
+    let f = needed.0 in
+    let n = needed.1.1.1 in
+    let back = subst (λ (us : List Entry). LeadAllBack f needed.1.0 us) is n.undo in
+    first needed.1.0 back ∙ n.document
+  where
+    first : (xs : List (List Change)) → LeadAllBack needed.0 xs (e ∷ es) → e.after.document ≡ document_of needed.0
+    first [] h = absurd h
+    first (x ∷ xs) h = h.0.after
+
+redo_before : (d : Whole) (e : Entry) (es : List Entry) → d.history.redo ≡ e ∷ es → HoldsOnlyNeeded d → e.before.document ≡ d.state.trees
+redo_before d e es is needed =
+    let f = needed.0 in
+    let n = needed.1.1.1 in
+    let forth = subst (λ (us : List Entry). LeadAllForth f needed.1.1.0 us) is n.redo in
+    first needed.1.1.0 forth ∙ n.document
+  where
+    first : (xs : List (List Change)) → LeadAllForth needed.0 xs (e ∷ es) → e.before.document ≡ document_of needed.0
+    first [] h = absurd h
+    first (x ∷ xs) h = h.0.before
+
+module _ (old new : Whole) (typing after : Bool) (w : Following) (needed : HoldsOnlyNeeded old) where
+  pub undo_followed : (taken : Bool) → (IsTrue taken ↔ (0 < length old.history.undo)) → new ≡ record old { state = undone_state old.history old.state; history = undone_history old.history } → UndoneLead new.history.redo → CanFollow (value_of old typing w) (value_of new after (after_undo taken w))
+  unfolding undone_state undone_history at_view
+  undo_followed taken answer is lead = by_entries old.history.undo refl taken answer
+    where
+      by_entries : (us : List Entry) → old.history.undo ≡ us → (t : Bool) → (IsTrue t ↔ (0 < length us)) → CanFollow (value_of old typing w) (value_of new after (after_undo t w))
+      by_entries [] none true a = absurd (let lt = a.0 tt in omega (arith, lt))
+      by_entries [] none false a = inl (refl, ap (λ (d : Whole). d.state.trees) is ∙ ap (λ (us : List Entry). (undone_state_by us old.state).trees) none)
+      by_entries (e ∷ es) some false a = absurd (a.1 (omega arith))
+      by_entries (e ∷ es) some true a =
+          let trees : new.state.trees ≡ e.before.document = ap (λ (d : Whole). d.state.trees) is ∙ ap (λ (us : List Entry). (undone_state_by us old.state).trees) some in
+          let redo : new.history.redo ≡ e ∷ old.history.redo = ap (λ (d : Whole). d.history.redo) is ∙ ap (λ (us : List Entry). (undone_history_by us old.history).redo) some in
+          let l : UndoneLead (e ∷ old.history.redo) = subst UndoneLead redo lead in
+          let from = undo_after old e es some needed in
+          inr (refl, (
+            subst (λ (rs : List Entry). Lead (changes_undone rs) old.state.trees new.state.trees) (sym redo)
+            (subst (λ (d : Forest Content). Lead (changes_undone (e ∷ old.history.redo)) d new.state.trees) from
+            (subst (λ (d : Forest Content). Lead (changes_undone (e ∷ old.history.redo)) e.after.document d) (sym trees) l))))
+
+  pub redo_followed : (taken : Bool) → (IsTrue taken ↔ (0 < length old.history.redo)) → new ≡ record old { state = redone_state old.history old.state; history = redone_history old.history } → ChangesLead new.history.undo → CanFollow (value_of old typing w) (value_of new after (after_redo taken w))
+  unfolding redone_state redone_history at_view
+  redo_followed taken answer is lead = by_entries old.history.redo refl taken answer
+    where
+      by_entries : (rs : List Entry) → old.history.redo ≡ rs → (t : Bool) → (IsTrue t ↔ (0 < length rs)) → CanFollow (value_of old typing w) (value_of new after (after_redo t w))
+      by_entries [] none true a = absurd (let lt = a.0 tt in omega (arith, lt))
+      by_entries [] none false a = inl (refl, ap (λ (d : Whole). d.state.trees) is ∙ ap (λ (rs : List Entry). (redone_state_by rs old.state).trees) none)
+      by_entries (e ∷ es) some false a = absurd (a.1 (omega arith))
+      by_entries (e ∷ es) some true a =
+          let trees : new.state.trees ≡ e.after.document = ap (λ (d : Whole). d.state.trees) is ∙ ap (λ (rs : List Entry). (redone_state_by rs old.state).trees) some in
+          let undo : new.history.undo ≡ e ∷ old.history.undo = ap (λ (d : Whole). d.history.undo) is ∙ ap (λ (rs : List Entry). (redone_history_by rs old.history).undo) some in
+          let l : ChangesLead (e ∷ old.history.undo) = subst ChangesLead undo lead in
+          let from = redo_before old e es some needed in
+          inr (refl, (
+            subst (λ (us : List Entry). Lead (changes_past 0 us) old.state.trees new.state.trees) (sym undo)
+            (subst (λ (d : Forest Content). Lead (changes_past 0 (e ∷ old.history.undo)) d new.state.trees) from
+            (subst (λ (d : Forest Content). Lead (changes_past 0 (e ∷ old.history.undo)) e.before.document d) (sym trees) l))))
+
+-- ---- how many edits an entry had before
+
+-- after a commit no fewer than were there at its begin
+pub within_after : (old new : Whole) (w : Following) (joining : Bool) (kept : ℕ) (c : Committed) (h : History) → h ≡ new.history → IsWithin w.last old.history → kept ≤ first_edits h.undo → (c ≡ committed.Nothing → h ≡ old.history) → IsWithin (after_commit c kept w).last new.history
+within_after old new w joining kept committed.Entry h is within more same = subst (λ (g : History). kept ≤ first_edits g.undo) is more
+within_after old new w joining kept committed.Nothing h is within more same = subst (IsWithin w.last) (sym (same refl) ∙ is) within
