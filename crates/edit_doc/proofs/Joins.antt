@@ -312,14 +312,14 @@ true_is true e = refl
 true_is false e = absurd (cc)
 
 module _ (d : Inside) (enters : Entering d) (logged : IsLog d.history.log) (c : Command) (ended : IsEnded d.tree.nodes.arena.next c) where
-  record Recorded (log : Log Step) : Type 0 where
-    closed : log.open_entry ≡ Closed
-    redo : log.redo ≡ []
-    depth : log.depth ≡ d.history.log.depth
-    undo : UndoSound d.tree.nodes.arena.held d.tree.points.names false c d.tree.nodes.arena.next d.tree.nodes.arena.trees log.undo enters.past
-    history : (v : Whole) → seen d ≡ v → history_of d.tree.points.names d.tree.nodes.arena.trees (trail_of log enters.past []) ≡ history_committed v
+  pub record Recorded (log : Log Step) : Type 0 where
+    pub closed : log.open_entry ≡ Closed
+    pub redo : log.redo ≡ []
+    pub depth : log.depth ≡ d.history.log.depth
+    pub undo : UndoSound d.tree.nodes.arena.held d.tree.points.names false c d.tree.nodes.arena.next d.tree.nodes.arena.trees log.undo enters.past
+    pub history : (v : Whole) → seen d ≡ v → history_of d.tree.points.names d.tree.nodes.arena.trees (trail_of log enters.past []) ≡ history_committed v
 
-  recorded_is : Recorded (committed d.history.log)
+  pub recorded_is : Recorded (committed d.history.log)
   recorded_is = elim (true_or_false (is_resumed d.history.log.open_entry)) [
     | inl r ↦ (let nothing = (logged.resumes_last (true_is (is_resumed d.history.log.open_entry) r)).1 in
         subst Recorded (sym (committed_joined d.history.log d.history.log.open_entry r)) (record {

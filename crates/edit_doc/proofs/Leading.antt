@@ -40,11 +40,11 @@ use Rattle.edit_doc.proofs.Onwards.{past_low, lead_longer, lead_more}
 use Rattle.edit_doc.proofs.Rests.{AtRest, rest_of, trees_are, none_noted}
 use Rattle.edit_doc.proofs.Turnings.{prunes_after}
 
-same_document : (k : ℕ → Bool) (f : Forest Content) → k 0 ≡ false → IsForest f → document_of (pruned k f) ≡ document_of f
+pub same_document : (k : ℕ → Bool) (f : Forest Content) → k 0 ≡ false → IsForest f → document_of (pruned k f) ≡ document_of f
 same_document k f keeps is = tree_of-pruned k f 0 is.distinct (IsForest-pruned k f keeps is).document
 
 -- the document of a forest, alone, is one
-document_alone : (f : Forest Content) → IsForest f → document_of (document_of f) ≡ document_of f
+pub document_alone : (f : Forest Content) → IsForest f → document_of (document_of f) ≡ document_of f
 document_alone f is =
     let d = document_first f is.distinct is.rising is.document is.root in
     subst (λ (w : Forest Content). document_of (document_of w) ≡ document_of w) (sym d.3) refl

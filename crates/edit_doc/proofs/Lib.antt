@@ -67,3 +67,4 @@ pub mod Onwards
 pub mod MadeApart
 pub mod Leading
 pub mod Telling
+pub mod ToldSince

@@ -124,16 +124,16 @@ told_past-pruned q (suc k) (x ∷ xs) f prunes h hs =
 
 -- The changes of an entry fit the whole forest before it, and the forest without what its commands
 -- didn't see. `begin` says which forest is left where the nodes that none names are pruned too
-record Begins (first : ℕ) (xs : List Change) (g : Forest Content) : Type 0 where
-  seen : Prunes (is_hidden g first) g
-  fits : FitsForth applied Fits xs g
-  left : Each (IsLeft (is_hidden g first) g) (named_in xs)
-  named : Prunes (is_unnamed (named_in xs) first) (pruned (is_hidden g first) g)
-  fits_seen : FitsForth applied Fits xs (pruned (is_hidden g first) g)
-  left_named : Each (IsLeft (is_unnamed (named_in xs) first) (pruned (is_hidden g first) g)) (named_in xs)
-  begin : pruned (is_unnamed (named_in xs) first) (pruned (is_hidden g first) g) ≡ with_made (document_of g) (used xs (roots_from first g))
+pub record Begins (first : ℕ) (xs : List Change) (g : Forest Content) : Type 0 where
+  pub seen : Prunes (is_hidden g first) g
+  pub fits : FitsForth applied Fits xs g
+  pub left : Each (IsLeft (is_hidden g first) g) (named_in xs)
+  pub named : Prunes (is_unnamed (named_in xs) first) (pruned (is_hidden g first) g)
+  pub fits_seen : FitsForth applied Fits xs (pruned (is_hidden g first) g)
+  pub left_named : Each (IsLeft (is_unnamed (named_in xs) first) (pruned (is_hidden g first) g)) (named_in xs)
+  pub begin : pruned (is_unnamed (named_in xs) first) (pruned (is_hidden g first) g) ≡ with_made (document_of g) (used xs (roots_from first g))
 
-begins_of : (first : ℕ) (xs : List Change) (g : Forest Content) → IsForest g → 0 < first → AreFresh g first → FitsForth applied Fits xs g → Each (IsLeft (is_hidden g first) g) (named_in xs) → Begins first xs g
+pub begins_of : (first : ℕ) (xs : List Change) (g : Forest Content) → IsForest g → 0 < first → AreFresh g first → FitsForth applied Fits xs g → Each (IsLeft (is_hidden g first) g) (named_in xs) → Begins first xs g
 begins_of first xs g is some fresh fits left =
     let prunes = prunes_before g first is in
     let on = forth_down (is_hidden g first) xs g prunes fits left in
@@ -147,7 +147,7 @@ begins_of first xs g is some fresh fits left =
       begin = begins g first is some fresh xs;
     }
 
-told_at_begin : (first : ℕ) (xs : List Change) (g : Forest Content) → Begins first xs g → (k : ℕ) →
+pub told_at_begin : (first : ℕ) (xs : List Change) (g : Forest Content) → Begins first xs g → (k : ℕ) →
     told_all (drop k xs) (forth applied (take k xs) (with_made (document_of g) (used xs (roots_from first g)))) ≡ told_all (drop k xs) (forth applied (take k xs) g)
 told_at_begin first xs g b k =
     ap (λ f. told_all (drop k xs) (forth applied (take k xs) f)) (sym b.begin)
@@ -181,7 +181,7 @@ module _ (held : List (Option ℕ)) (names : List (List ℕ)) (c : Command) wher
   begins_forth e f b detached high start ts is fits snapshot =
       begins_of b.span.first_label (changes_of e) f is snapshot.some_label snapshot.fresh fits snapshot.names_seen
 
-  undo_told : (r : Bool) (high : ℕ) (f : Forest Content) (es : List (List Step)) (bs : List EntrySnapshot) → UndoSound held names r c high f es bs → IsForest f → (k : ℕ) → steps_told k es f ≡ changes_past k (undo_entries names f es bs)
+  pub undo_told : (r : Bool) (high : ℕ) (f : Forest Content) (es : List (List Step)) (bs : List EntrySnapshot) → UndoSound held names r c high f es bs → IsForest f → (k : ℕ) → steps_told k es f ≡ changes_past k (undo_entries names f es bs)
   unfolding inverses_back told_all
   undo_told r high f [] [] h is zero = refl
   undo_told r high f [] [] h is (suc k) = refl

@@ -1,8 +1,8 @@
 //! What the entries next to the cursor changed, as edits of the document alone.
 
 ghost use Rattle.std.specs.Prelude.{◌≡◌, ◌≤◌, IfOk};
-ghost use Rattle.edit_doc.specs.Changes.{changes_past, changes_undone, ChangesLead, UndoneLead};
-ghost use Rattle.edit_doc.specs.Whole.{IsClosed, first_edits};
+ghost use Rattle.edit_doc.specs.Changes.{changes_past, changes_undone, ChangesLead, UndoneLead, LeadsSince};
+ghost use Rattle.edit_doc.specs.Whole.{IsOpen, IsClosed, first_edits};
 
 use crate::Doc;
 use document_edits::DocumentEdit;
@@ -43,6 +43,15 @@ impl Doc {
         requires closed { IsClosed self.now }
         ensures made { ChangesLead self.now.history.undo }
         ensures undone { UndoneLead self.now.history.redo }
+    {
+        self.tree.nodes.arena.valid();
+    }
+
+    /// That what the running command changed so far leads from the document at its begin to the one
+    /// that is there now, for proofs. It does nothing.
+    pub fn changes_lead_so_far(&self)
+        requires open { IsOpen self.now }
+        ensures { LeadsSince self.now.began self.now.state }
     {
         self.tree.nodes.arena.valid();
     }

@@ -4,6 +4,7 @@ ghost use Rattle.std.specs.Prelude.{◌≡◌, ℕ, ◌+◌, ◌<◌, ◌↔◌,
 ghost use Rattle.edit_model.specs.Gives.{label_of};
 ghost use Rattle.edit_model.specs.History.{rested, undone_state, undone_history, redone_state, redone_history};
 ghost use Rattle.edit_doc.specs.Whole.{IsOpen, IsClosed, opened, history_committed, state_rolled_back, first_edits};
+ghost use Rattle.edit_doc.specs.Changes.{IsToldSince};
 ghost use Rattle.edit_doc.specs.Held.{IfHeld, KeepsThere};
 ghost use Rattle.edit_doc.specs.History.{entries_along, whole_along};
 
@@ -66,6 +67,9 @@ impl Doc {
         ensures answer { (result ≡ Committed.Entry) ↔ (0 < length self.old.state.edits) }
         ensures state { self.new.state ≡ rested self.old.state }
         ensures history { self.new.history ≡ history_committed self.old }
+        ensures told { 0 < length self.old.state.edits
+            → IsToldSince self.old.began self.old.state self.old.history.undo
+            self.new.history.undo }
         ensures closed { self.new.began ≡ None }
         ensures keeps { KeepsThere self.old self.new }
     {

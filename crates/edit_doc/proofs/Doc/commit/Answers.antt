@@ -6,9 +6,10 @@ use Rattle.dom_model.specs.Pruned.{IsWhole}
 use Rattle.node_arena.specs.Held.{DropsMade}
 use Rattle.undo_log.specs.Log.Open.{Closed}
 use Rattle.live_range.specs.Names.{shown}
-use Rattle.edit_model.specs.History.{rested}
+use Rattle.edit_model.specs.History.{History, rested}
 use Rattle.edit_doc.specs.Whole.{history_committed}
 use Rattle.edit_doc.specs.declared.command.Command.{Command}
+use Rattle.edit_doc.specs.Changes.{IsToldSince}
 use Rattle.edit_doc.specs.Counted.{IsCounted}
 use Rattle.edit_doc.specs.Fields.{IsEnded, Forgets}
 use Rattle.edit_doc.specs.GivingUp.{GivesUp, is_unnamed}
@@ -21,6 +22,7 @@ use Rattle.edit_doc.proofs.Outgone.{detached_inner, detached_still_loose, unkept
 use Rattle.edit_doc.proofs.HiddenTrees.{counted-pruned, le_false}
 use Rattle.edit_doc.proofs.Rests.{arena_forest}
 use Rattle.edit_doc.proofs.Spared.{spared}
+use Rattle.edit_doc.proofs.ToldSince.{told_since}
 use Rattle.edit_doc.proofs.Rolls.{Leaves}
 use Rattle.edit_doc.proofs.Unnamed.{unnamed, some_low, unnamed_loose}
 use Rattle.edit_doc.proofs.Doc.commit.Goals as goal
@@ -163,3 +165,12 @@ returns-in-Entry-clause-answer c =
     let n = edits_count c.self.inside _ c.self.view_is in
     let some = c.in-Entry.ensures.closes.some in
     (λ e. omega (arith, n, some), λ h. refl)
+
+pub returns-in-Nothing-clause-told : goal.returns-in-Nothing-clause-told
+returns-in-Nothing-clause-told c = λ some. absurd (let n = edits_count c.self.inside _ c.self.view_is in let none = ap length c.in-Nothing.ensures.closes.none in omega (arith, n, none, some))
+
+pub returns-in-Entry-clause-told : goal.returns-in-Entry-clause-told
+returns-in-Entry-clause-told c =
+    let is = returns-in-Entry-clause-history c in
+    λ some. subst (λ (h : History). IsToldSince c.args.self.now.began c.args.self.now.state c.args.self.now.history.undo h.undo) (sym is)
+    (told_since c.self.inside (enters_all c) c.valid.ensures.log _ (entry_ended c) _ c.self.view_is)
