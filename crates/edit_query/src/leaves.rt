@@ -15,14 +15,15 @@ use edit_doc::{Doc, NodeList, NodeRef, Pair, Point};
 use node_tests::{contained_nodes, is_editable, is_visible};
 use std::alloc::{AllocError, Global};
 
-/// Whether a node is editable with this host, has no children and is visible.
+/// Whether a node is editable with this host, has no children and is visible. Of a node with
+/// children no ancestor is looked at.
 #[tactic(auto, unfolding(crate::specs::Leaves::is_leaf))]
 pub(crate) fn is_leaf(doc: &Doc, host: NodeRef, node: NodeRef) -> bool
     requires host_held { Holds doc.now host }
     requires node_held { Holds doc.now node }
     ensures { result ≡ is_leaf doc.now.state.trees host.label node.label }
 {
-    is_editable(doc, host, node) && doc.first_child(node).is_none() && is_visible(doc, node)
+    doc.first_child(node).is_none() && is_editable(doc, host, node) && is_visible(doc, node)
 }
 
 /// The nodes that a range contains, in tree order.

@@ -20,7 +20,7 @@ fn indents_line(doc: &Doc, node: NodeRef) -> bool
     requires { Holds doc.now node }
     ensures { result ≡ entries.indents_line doc.now.state node.label }
 {
-    doc.is_editable_for(node) && is_indentation(doc, node)
+    is_indentation(doc, node) && doc.is_editable_for(node)
 }
 
 // Whether an ancestor of a node indents it.
