@@ -68,10 +68,13 @@ module _ (old new : Whole) (typing after : Bool) (w : Following) (needed : Holds
           let redo : new.history.redo ≡ e ∷ old.history.redo = ap (λ (d : Whole). d.history.redo) is ∙ ap (λ (us : List Entry). (undone_history_by us old.history).redo) some in
           let l : UndoneLead (e ∷ old.history.redo) = subst UndoneLead redo lead in
           let from = undo_after old e es some needed in
-          inr (refl, (
-            subst (λ (rs : List Entry). Lead (changes_undone rs) old.state.trees new.state.trees) (sym redo)
-            (subst (λ (d : Forest Content). Lead (changes_undone (e ∷ old.history.redo)) d new.state.trees) from
-            (subst (λ (d : Forest Content). Lead (changes_undone (e ∷ old.history.redo)) e.after.document d) (sym trees) l))))
+          inr (
+            refl,
+            (
+                subst (λ (rs : List Entry). Lead (changes_undone rs) old.state.trees new.state.trees) (sym redo)
+                (subst (λ (d : Forest Content). Lead (changes_undone (e ∷ old.history.redo)) d new.state.trees) from
+                (subst (λ (d : Forest Content). Lead (changes_undone (e ∷ old.history.redo)) e.after.document d) (sym trees) l))),
+          )
 
   pub redo_followed : (taken : Bool) → (IsTrue taken ↔ (0 < length old.history.redo)) → new ≡ record old { state = redone_state old.history old.state; history = redone_history old.history } → ChangesLead new.history.undo → CanFollow (value_of old typing w) (value_of new after (after_redo taken w))
   unfolding redone_state redone_history at_view
@@ -86,10 +89,13 @@ module _ (old new : Whole) (typing after : Bool) (w : Following) (needed : Holds
           let undo : new.history.undo ≡ e ∷ old.history.undo = ap (λ (d : Whole). d.history.undo) is ∙ ap (λ (rs : List Entry). (redone_history_by rs old.history).undo) some in
           let l : ChangesLead (e ∷ old.history.undo) = subst ChangesLead undo lead in
           let from = redo_before old e es some needed in
-          inr (refl, (
-            subst (λ (us : List Entry). Lead (changes_past 0 us) old.state.trees new.state.trees) (sym undo)
-            (subst (λ (d : Forest Content). Lead (changes_past 0 (e ∷ old.history.undo)) d new.state.trees) from
-            (subst (λ (d : Forest Content). Lead (changes_past 0 (e ∷ old.history.undo)) e.before.document d) (sym trees) l))))
+          inr (
+            refl,
+            (
+                subst (λ (us : List Entry). Lead (changes_past 0 us) old.state.trees new.state.trees) (sym undo)
+                (subst (λ (d : Forest Content). Lead (changes_past 0 (e ∷ old.history.undo)) d new.state.trees) from
+                (subst (λ (d : Forest Content). Lead (changes_past 0 (e ∷ old.history.undo)) e.before.document d) (sym trees) l))),
+          )
 
 -- ---- how many edits an entry had before
 

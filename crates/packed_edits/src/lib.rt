@@ -83,11 +83,7 @@ fn push_each_attribute(
 }
 
 #[tactic(auto, unfolding(crate::specs::Packed::attributes_bytes))]
-fn push_attributes(
-    alloc: Global,
-    bytes: &mut Vec<u8>,
-    list: &Attributes,
-) -> Result<(), AllocError>
+fn push_attributes(alloc: Global, bytes: &mut Vec<u8>, list: &Attributes) -> Result<(), AllocError>
     ensures ok { OnOk result (bytes.new.items ≡ bytes.old.items ++ spec.attributes_bytes list.now) }
 {
     push_number(bytes, list.len() as u64)?;
