@@ -320,6 +320,38 @@ typedef struct hedit_number_facts {
 /* Gives the numbers. HEDIT_DONE, HEDIT_CLOSED. */
 uint32_t hedit_numbers(hedit_editor *editor, hedit_number_facts *facts);
 
+/* Gives how many calls of hedit_exec, hedit_exec_gated, hedit_undo and hedit_redo have changed the
+ * page since it was opened. Where the number is the one that you saw before a call, the call changed
+ * nothing; where it is more than one greater, you missed a change. HEDIT_DONE, HEDIT_CLOSED. */
+uint32_t hedit_revision(hedit_editor *editor, uint64_t *revision);
+
+/* Gives what the last of these calls changed that changed something: edits by the labels of nodes,
+ * from the first to the last. A tree of yours that was the page before that call is the page after it,
+ * once it has followed them. Asking changes nothing.
+ *
+ * The edits stand packed one after another. A number has eight bytes, the lowest first; a text is its
+ * length in bytes, and then its bytes; HEDIT_NO_NODE stands for no node. An edit is
+ *     HEDIT_REMOVED, node                    the node went, with its tree
+ *     HEDIT_INSERTED, parent, before, tree   a tree came, before that child of the parent or at its end
+ *     HEDIT_MOVED, node, parent, before      the node went to that place, with its tree
+ *     HEDIT_REPLACED, node, at, taken, text  of the characters of the text or comment, `taken` from
+ *                                            the offset `at` on gave way to those of the text
+ *     HEDIT_ATTRIBUTES_SET, node, list       the element was given this list of attributes
+ * A list is its count, and for each attribute two texts: its name and its value. A tree is the count
+ * of its nodes, and for each of them, in tree order, its level below the root of the tree, its label,
+ * its kind, and then for a HEDIT_ELEMENT its name and its list, and for a HEDIT_TEXT and a
+ * HEDIT_COMMENT its characters.
+ * HEDIT_DONE, HEDIT_TOO_SMALL, HEDIT_MEMORY, HEDIT_CLOSED. */
+enum hedit_change {
+    HEDIT_REMOVED = 1,
+    HEDIT_INSERTED = 2,
+    HEDIT_MOVED = 3,
+    HEDIT_REPLACED = 4,
+    HEDIT_ATTRIBUTES_SET = 5
+};
+
+uint32_t hedit_changes(hedit_editor *editor, uint8_t *buffer, size_t capacity, size_t *length);
+
 /* Runs a session, as `hedit run` does over its standard input, and gives the transcript. The
  * status is the number that the program exits with: HEDIT_DONE, HEDIT_MEMORY, HEDIT_PAGE_REFUSED,
  * where the transcript is the line that says so, HEDIT_TOO_LONG; or HEDIT_TOO_SMALL. It needs no

@@ -258,6 +258,23 @@ class Editor {
         return facts;
     }
 
+    /* How many calls of exec, undo and redo have changed the page. */
+    std::uint64_t revision() {
+        std::uint64_t number = 0;
+        answer(hedit_revision(&handle_, &number));
+        return number;
+    }
+
+    /* What the last of them changed that changed something, packed as hedit.h says. */
+    std::string changes() {
+        return read_text(
+                   [&](std::uint8_t *buffer, std::size_t capacity, std::size_t *length) {
+                       return hedit_changes(&handle_, buffer, capacity, length);
+                   },
+                   256)
+            .value();
+    }
+
     /* The points of the selection; none where nothing is selected. */
     std::optional<Selection> selection() {
         hedit_selection_facts facts = {};

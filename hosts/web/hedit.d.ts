@@ -71,6 +71,44 @@ export interface Point {
   readonly offset: number;
 }
 
+/** A node of a tree that comes into the page, with its level below the root of the tree. */
+export interface TreeNode {
+  readonly level: number;
+  readonly label: number;
+  readonly kind: NodeKind;
+  readonly name: string;
+  readonly attributes: Map<string, string>;
+  readonly value: string;
+}
+
+/** An edit of the page; changes.js says what each type means. */
+export type Change =
+  | { readonly type: "remove"; readonly label: number }
+  | {
+      readonly type: "insert";
+      readonly tree: readonly TreeNode[];
+      readonly parent: number;
+      readonly before: number | null;
+    }
+  | {
+      readonly type: "move";
+      readonly label: number;
+      readonly parent: number;
+      readonly before: number | null;
+    }
+  | {
+      readonly type: "replace";
+      readonly label: number;
+      readonly at: number;
+      readonly taken: number;
+      readonly put: string;
+    }
+  | {
+      readonly type: "attributes";
+      readonly label: number;
+      readonly attributes: Map<string, string>;
+    };
+
 export interface Selection {
   readonly anchor: Point;
   readonly focus: Point;
@@ -217,6 +255,15 @@ export declare class Editor {
 
   /** The numbers of the page and of the history. */
   counts(): Counts;
+
+  /** How many calls of exec, undo and redo have changed the page. */
+  revision(): number;
+
+  /**
+   * What the last call of exec, undo or redo changed that changed something, from the first edit to
+   * the last.
+   */
+  changes(): Change[];
 
   /** The points of the selection; null where nothing is selected. */
   selection(): Selection | null;

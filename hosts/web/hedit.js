@@ -28,6 +28,8 @@
  * and no call here takes or gives one.
  */
 
+import { readChanges } from "./changes.js";
+
 /** The version of this file, and of the module that it came with. */
 export const VERSION = "0.9.0";
 
@@ -946,6 +948,30 @@ export class Editor {
       undo: count(24),
       redo: count(32),
     };
+  }
+
+  /**
+   * How many calls of `exec`, `undo` and `redo` have changed the page. Where it is what it was before
+   * a call, the call changed nothing.
+   */
+  revision() {
+    const record = /** @type {DataView} */ (this.#record("hedit_revision", 8));
+    return Number(record.getBigUint64(0, true));
+  }
+
+  /**
+   * What the last call of `exec`, `undo` or `redo` changed that changed something, from the first edit
+   * to the last. A tree that was the page before that call, and follows them, is the page.
+   * @returns {import("./changes.js").Change[]}
+   */
+  changes() {
+    return this.#library.borrow((loan) => {
+      const { status, bytes } = loan.printed(1024, (...buffer) =>
+        this.#call("hedit_changes", ...buffer),
+      );
+      answer(status);
+      return readChanges(bytes);
+    });
   }
 
   /**

@@ -24,6 +24,7 @@ The engine is a shared library, which is loaded when it is first needed: the one
 environment variable HEDIT_LIBRARY names, else the one in this package, else the one that
 bin/release has left in the repository, else the one that the system finds.
 """
+from ._changes import AttributesSet, Change, Inserted, Moved, Removed, Replaced, TreeNode
 from ._editor import Editor, Place, Question, View, session
 from ._errors import (
     BadArgument,
@@ -43,12 +44,16 @@ from ._library import __version__, version
 from ._nodes import Counts, Node, NodeKind, Point, Selection
 
 __all__ = [
+    "AttributesSet",
     "BadArgument",
     "BadPlace",
+    "Change",
     "Counts",
     "Editor",
     "EditorClosed",
     "HeditError",
+    "Inserted",
+    "Moved",
     "Node",
     "NodeKind",
     "OutOfMemory",
@@ -58,10 +63,13 @@ __all__ = [
     "Place",
     "Point",
     "Question",
+    "Removed",
+    "Replaced",
     "Selection",
     "Status",
     "TooDeep",
     "TooManyMarks",
+    "TreeNode",
     "View",
     "WrongThread",
     "__version__",

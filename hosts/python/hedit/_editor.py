@@ -9,6 +9,7 @@ from enum import IntEnum
 from queue import SimpleQueue
 from typing import Any, NoReturn, Self, SupportsIndex
 
+from ._changes import Change, read_changes
 from ._errors import (
     BadArgument,
     BadPlace,
@@ -327,6 +328,20 @@ class Editor:
         return Counts(
             facts.nodes, facts.next_label, facts.chars, facts.edits, facts.undo, facts.redo
         )
+
+    def revision(self) -> int:
+        """How many calls of exec, undo and redo have changed the page. Where it is what it was before a
+        call, the call changed nothing."""
+        number = ctypes.c_uint64()
+        answer(self._call("hedit_revision", ctypes.byref(number)))
+        return number.value
+
+    def changes(self) -> list[Change]:
+        """What the last call of exec, undo or redo changed that changed something, from the first edit
+        to the last. A tree that was the page before that call, and follows them, is the page."""
+        status, data = read_text(lambda *buffer: self._call("hedit_changes", *buffer), 256)
+        answer(status)
+        return read_changes(data)
 
     def selection(self) -> Selection | None:
         """The points of the selection; None where nothing is selected."""

@@ -108,6 +108,8 @@ CALLS: dict[str, list[Any]] = {
     "hedit_find": [*EDITOR, NUMBER, *TEXT, *POINTS],
     "hedit_selection": [*EDITOR, ctypes.POINTER(SelectionFacts)],
     "hedit_numbers": [*EDITOR, ctypes.POINTER(NumberFacts)],
+    "hedit_revision": [*EDITOR, ctypes.POINTER(ctypes.c_uint64)],
+    "hedit_changes": [*EDITOR, *BUFFER],
     "hedit_session_with_words": TEXT + TEXT + BUFFER,
 }
 
