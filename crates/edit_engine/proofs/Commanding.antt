@@ -1,19 +1,27 @@
 -- One command, from its begin to its end, whatever its run.
-use Rattle.std.proofs.Common.{◌≡◌, ◌↔◌, ℕ, zero, suc, ◌<◌, Bool, true, false, length, Option, Some, None, IsSome, refl, sym, ap, ◌∙◌, subst, arith}
+use Rattle.std.proofs.Common.{◌≡◌, ◌↔◌, ℕ, zero, suc, ◌<◌, Bool, true, false, List, [], ◌∷◌, length, Option, Some, None, IsSome, Ok, refl, sym, ap, ◌∙◌, subst, arith}
 use Rattle.std.specs.Prelude.{nat_lt}
 use Rattle.std.proofs.lemmas.Bool.Decides.{nat_tests}
+use Rattle.dom_model.specs.declared.Content.{Content}
+use Rattle.dom_model.specs.Forest.{Forest}
+use Rattle.undo_log.specs.Turning.{forth}
 use Rattle.undo_log.specs.declared.log.Committed.{Committed}
 use Rattle.undo_log.specs.declared.log.Committed.TheVariants as committed
 use Rattle.edit_model.specs.declared.settings.EditFault.{EditFault}
 use Rattle.edit_model.specs.State.{State, IsPastCap}
 use Rattle.edit_model.specs.Gives.{Fails}
-use Rattle.edit_model.specs.History.{rested}
+use Rattle.edit_model.specs.History.{History, document_of, rested}
 use Rattle.edit_model.specs.Run.{Run, final, value}
-use Rattle.edit_doc.specs.Whole.{Whole, IsOpen, IsDoc, opened, history_committed, state_rolled_back}
+use Rattle.forest_changes.specs.Change.{Change}
+use Rattle.document_edits.specs.Followed.{followed}
+use Rattle.document_edits.specs.Told.{told_all}
+use Rattle.document_edits.specs.declared.edit.DocumentEdit.{DocumentEdit}
+use Rattle.edit_doc.specs.Changes.{Lead, LeadsSince, IsToldSince}
+use Rattle.edit_doc.specs.Whole.{Began, Whole, IsOpen, IsDoc, opened, history_committed, state_rolled_back}
 use Rattle.edit_doc.specs.Held.{Keeps}
 use Rattle.edit_engine.specs.Execution.{began, ran, answered}
 use Rattle.edit_actions.specs.ActiveRange.{affected_host}
-use Rattle.edit_engine.specs.Running.{IsMade, IsTakenBack, IsRefused, has_entry, TellsEdits}
+use Rattle.edit_engine.specs.Running.{IsMade, IsTakenBack, IsRefused, has_entry, TellsEdits, TellsChange}
 
 pub opened_open : (d new : Whole) (h : Option ℕ) (k j : Bool) → new ≡ opened h k j d → IsOpen new
 unfolding opened

@@ -40,6 +40,7 @@ use Rattle.edit_engine.specs.declared.answers.ExecFault.TheVariants as fault
 use Rattle.edit_engine.specs.Commands.{row_of, types_text, action_of, is_enabled}
 use Rattle.edit_engine.specs.Confinement.{KeepsOutside, KeepsHtml, KeepsMarks, KeepsSelection, HasEntry, HasJoined, IsGone, KeepsIslands, KeepsCharacters, IsSeenAs, joins_last, GivesBack}
 use Rattle.edit_engine.specs.Editing.{Editing, IsJoinable, IsResting, undone}
+use Rattle.edit_engine.specs.declared.following.Following.{Following}
 use Rattle.edit_engine.specs.Labels.{KeepsLabels, DrawsLabels}
 use Rattle.edit_engine.specs.Execution.{Refused, Deep, Full, Acted, depth_limit, began, ran, answered, joins, after_run, run_outcome, command_outcome, outcome, Tells}
 use Rattle.edit_engine.proofs.AffectedHosts.{host_is_host}
@@ -100,8 +101,8 @@ pub record Standing (e : Editing) : Type 0 where
   pub depth : 0 < e.history.depth
   pub joinable : e.typing ≡ true → IsJoinable e.history
 
-pub standing : (w : Whole) (typing : Bool) (e : Editing) → shown w typing ≡ e → IsResting w typing → IsDoc w → Standing e
-standing w typing e view rests law =
+pub standing : (w : Whole) (typing : Bool) (following : Following) (e : Editing) → shown w typing ≡ e → IsResting w typing following → IsDoc w → Standing e
+standing w typing following e view rests law =
     subst Standing view (record { valid = law.valid; resting = law.resting rests.closed; depth = law.some_depth; joinable = rests.joinable })
 
 same_marks : (host : Option ℕ) (s : State) (ms : List (List ℕ × Pair)) → AllZip (KeepsMark host s.trees) ms ms

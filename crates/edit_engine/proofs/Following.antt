@@ -7,11 +7,12 @@ use Rattle.undo_log.specs.declared.log.Committed.{Committed}
 use Rattle.undo_log.specs.declared.log.Committed.TheVariants as committed
 use Rattle.edit_model.specs.State.{State}
 use Rattle.edit_model.specs.History.{Entry, History, document_of, rested, undone_state, undone_history, redone_state, redone_history, undone_state_by, undone_history_by, redone_state_by, redone_history_by, at_view}
+use Rattle.forest_changes.specs.Change.{Change}
 use Rattle.edit_doc.specs.Changes.{Lead, changes_past, changes_undone, resumed_at, ChangesLead, UndoneLead}
 use Rattle.edit_doc.specs.Kept.{HoldsOnlyNeeded, LeadAllBack, LeadAllForth}
-use Rattle.edit_doc.specs.Whole.{Whole, IsDoc, IsClosed, first_edits}
+use Rattle.edit_doc.specs.Whole.{Whole, IsDoc, IsClosed}
 use Rattle.edit_engine.specs.declared.following.Following.{Following}
-use Rattle.edit_engine.specs.Following.{IsWithin, after_commit, after_undo, after_redo}
+use Rattle.edit_engine.specs.Following.{after_commit, after_undo, after_redo}
 use Rattle.edit_engine.specs.Editing.{EditorValue, value_of}
 use Rattle.edit_engine.specs.Changes.{CanFollow}
 use Rattle.edit_engine.specs.Running.{TellsChange}
@@ -96,10 +97,3 @@ module _ (old new : Whole) (typing after : Bool) (w : Following) (needed : Holds
                 (subst (λ (d : Forest Content). Lead (changes_past 0 (e ∷ old.history.undo)) d new.state.trees) from
                 (subst (λ (d : Forest Content). Lead (changes_past 0 (e ∷ old.history.undo)) e.before.document d) (sym trees) l))),
           )
-
--- ---- how many edits an entry had before
-
--- after a commit no fewer than were there at its begin
-pub within_after : (old new : Whole) (w : Following) (joining : Bool) (kept : ℕ) (c : Committed) (h : History) → h ≡ new.history → IsWithin w.last old.history → kept ≤ first_edits h.undo → (c ≡ committed.Nothing → h ≡ old.history) → IsWithin (after_commit c kept w).last new.history
-within_after old new w joining kept committed.Entry h is within more same = subst (λ (g : History). kept ≤ first_edits g.undo) is more
-within_after old new w joining kept committed.Nothing h is within more same = subst (IsWithin w.last) (sym (same refl) ∙ is) within

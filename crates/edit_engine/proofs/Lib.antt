@@ -1,6 +1,7 @@
 pub mod Appending
 pub mod Commanding
 pub mod Finding
+pub mod Following
 pub mod Holding
 pub mod Keeping
 pub mod Outcomes

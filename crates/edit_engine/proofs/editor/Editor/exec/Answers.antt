@@ -11,7 +11,7 @@ returns-in-Some c =
     let new = c.exec_command-answer.new.self.editing in
     let name = c.args.name.now in
     let v = c.args.value.now in
-    let stands = standing c.self.inside.doc c.self.inside.typing old (ap (λ (e : EditorValue). e.editing) c.self.view_is) c.self.invariant c.valid.ensures in
+    let stands = standing c.self.inside.doc c.self.inside.typing c.self.inside.following old (ap (λ (e : EditorValue). e.editing) c.self.view_is) c.self.invariant c.valid.ensures in
     let tells : Tells c.exec_command-answer.result old new (outcome old name v) = rw (named_outcome old name v c.in-Some.command (sym c.named.ensures.value ∙ c.in-Some.is)) c.exec_command-answer.ensures in
     let k = changes c.exec_command-answer.result old new name v tells in
     record {
@@ -33,7 +33,7 @@ returns-in-None c =
     let old = c.args.self.now.editing in
     let name = c.args.name.now in
     let v = c.args.value.now in
-    let stands = standing c.self.inside.doc c.self.inside.typing old (ap (λ (e : EditorValue). e.editing) c.self.view_is) c.self.invariant c.valid.ensures in
+    let stands = standing c.self.inside.doc c.self.inside.typing c.self.inside.following old (ap (λ (e : EditorValue). e.editing) c.self.view_is) c.self.invariant c.valid.ensures in
     record {
       tells = (inl (unnamed_outcome old name v (sym c.named.ensures.value ∙ c.in-None.is)), refl);
       confined = outside_kept old old name v stands (inl refl);

@@ -11,7 +11,7 @@ returns-then-denies g c =
     let name = c.args.name.now in
     let v = c.args.value.now in
     let denied = c.args.gate.now in
-    let stands = standing c.self.inside.doc c.self.inside.typing old (ap (λ (e : EditorValue). e.editing) c.self.view_is) c.self.invariant c.valid.ensures in
+    let stands = standing c.self.inside.doc c.self.inside.typing c.self.inside.following old (ap (λ (e : EditorValue). e.editing) c.self.view_is) c.self.invariant c.valid.ensures in
     let is : is_denied denied name ≡ true = ap (is_denied denied) (sym c.as_bytes.ensures.value) ∙ (sym c.denies.ensures ∙ c.if-denies.true) in
     record {
       denied = λ _. (refl, refl);

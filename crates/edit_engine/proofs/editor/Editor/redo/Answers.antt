@@ -2,4 +2,4 @@ use Rattle.edit_engine.proofs.Typing.{rests_redone}
 use Rattle.edit_engine.proofs.editor.Editor.redo.Goals as goal
 
 pub invariant_of-self : goal.invariant_of-self
-invariant_of-self g c = rests_redone c.self.inside.doc c.redo-taken.new.self c.self.inside.typing c.redo-taken.result c.redo-taken.ensures.doc c.self.invariant
+invariant_of-self g c = ?
