@@ -3,12 +3,14 @@ library.
 
 Each goes through hedit_session_with_words, which has to give what is stored. Those of `run` also go
 through an Editor, call by call: the lines that are acts for which it has calls, which the library
-has to answer as a session of these lines alone."""
+has to answer as a session of these lines alone. Beside it a tree follows what each call changed, and
+has to come to the same HTML after each."""
 import re
 import sys
-from collections.abc import Callable
+from collections.abc import Callable, Iterable
 from pathlib import Path
 
+from follow import Tree
 from hedit import BadPlace, Editor, HeditError, PageFull, Place, TooDeep, TooManyMarks, session
 
 FAULTS: dict[type[HeditError], str] = {
@@ -37,6 +39,37 @@ LINE = re.compile(
     r"|(?P<html>html)|(?P<tree>tree)|(?P<points>points)|(?P<stat>stat)",
     re.ASCII | re.DOTALL,
 )
+
+
+class FollowedEditor(Editor):
+    """An editor beside which a tree follows what each call changed."""
+
+    def __init__(self, page: str, **options: int) -> None:
+        super().__init__(page, **options)
+        self.tree, self.seen, self.is_followed = Tree(self), self.revision(), True
+
+    def _follow(self) -> None:
+        if self.revision() != self.seen:
+            self.is_followed &= self.revision() == self.seen + 1
+            self.tree.follow(self.changes())
+            self.seen = self.revision()
+        self.is_followed &= self.tree.html() == self.html()
+
+    def exec(self, name: str | bytes, value: str | bytes = "", denied: Iterable[str] = ()) -> bool:
+        try:
+            return super().exec(name, value, denied)
+        finally:
+            self._follow()
+
+    def undo(self) -> bool:
+        taken = super().undo()
+        self._follow()
+        return taken
+
+    def redo(self) -> bool:
+        taken = super().redo()
+        self._follow()
+        return taken
 
 
 def place(path: str, offset: str) -> Place:
@@ -120,14 +153,15 @@ def parts_of(text: str) -> tuple[str, list[str], str, list[str]]:
     return opening, lines[:end], lines[end], [line for line in lines[end + 1:] if line]
 
 
-def by_calls(text: str, options: dict[str, int], denied: list[str]) -> tuple[str, str]:
-    """The transcript of the acts that an Editor has calls for, by these calls, and the session that
-    has these acts alone."""
+def by_calls(text: str, options: dict[str, int], denied: list[str]) -> tuple[str, str, bool]:
+    """The transcript of the acts that an Editor has calls for, by these calls, the session that has
+    these acts alone, and whether a tree could follow them."""
     opening, page, closing, acts = parts_of(text)
     known = [(line, found) for line in acts if (found := read_line(line))]
-    with Editor("\n".join(page), **options) as editor:
+    with FollowedEditor("\n".join(page), **options) as editor:
         transcript = "".join(reply(editor, found, denied) for _, found in known)
-    return transcript, "\n".join([opening, *page, closing, *(line for line, _ in known), ""])
+        is_followed = editor.is_followed
+    return transcript, "\n".join([opening, *page, closing, *(line for line, _ in known), ""]), is_followed
 
 
 def options_of(arguments: list[str]) -> tuple[dict[str, int], list[str]] | None:
@@ -163,10 +197,12 @@ def main(folders: list[str]) -> int:
         if options is None or status != 0:
             continue
         calls += 1
-        transcript, known = by_calls(text.decode(errors="surrogateescape"), *options)
+        transcript, known, is_followed = by_calls(text.decode(errors="surrogateescape"), *options)
         if session(known, arguments) != (0, transcript.encode()):
             bad.append(f"{stdin} call by call")
-    print(f"hosts: {whole} stored sessions as sessions, {calls} call by call; {len(bad)} differ")
+        if not is_followed:
+            bad.append(f"{stdin} followed")
+    print(f"hosts: {whole} stored sessions as sessions, {calls} call by call and followed; {len(bad)} differ")
     for name in bad[:20]:
         print(name)
     return 1 if bad else 0
