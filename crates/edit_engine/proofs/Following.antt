@@ -30,6 +30,10 @@ run_followed old new typing after w joining kept committed.Entry law closed told
 run_followed old new typing after w joining kept committed.Nothing law closed told is =
     inl (refl, told ∙ resting_trees old law closed)
 
+-- a call that leaves the state
+pub kept_followed : (old new : Whole) (typing after : Bool) (w : Following) → new.state ≡ old.state → CanFollow (value_of old typing w) (value_of new after w)
+kept_followed old new typing after w same = inl (refl, ap (λ (s : State). s.trees) same)
+
 -- ---- undo and redo
 
 -- the document is the one after the entry that undo would take, and before the one that redo would take

@@ -142,6 +142,13 @@ module _ (old new : Whole) (typing : Bool) (c : Command) (m : Run Bool) where
       let r : Ran (Ok (Some committed)) old new (typing && types_text c) k m = subst (λ (x : Option Committed). Ran (Ok x) old new (typing && types_text c) k m) is (subst (λ (j : Bool). Ran (Ok o) old new j k m) joins ran) in
       record { made = r.0; on = is_on ∙ ap (λ b. types_text c && (typing || b)) r.1 }
 
+  -- whether the run made an edit
+  pub told_edits : (joining : Bool) (o : Option Committed) (committed : Committed) → joining ≡ (typing && types_text c) → o ≡ Some committed → Ran (Ok o) old new joining (row_of c).keeping m → TellsEdits committed (ran old.state (row_of c).keeping m)
+  told_edits joining o committed joins is ran =
+      let k = (row_of c).keeping in
+      let r : Ran (Ok (Some committed)) old new (typing && types_text c) k m = subst (λ (x : Option Committed). Ran (Ok x) old new (typing && types_text c) k m) is (subst (λ (j : Bool). Ran (Ok o) old new j k m) joins ran) in
+      r.1
+
   pub joining_is : (w : Following) (joining : Bool) → joining ≡ (typing && types_text c) → IsResting old typing w → joining ≡ true → IsJoinable old.history × ((row_of c).keeping ≡ false)
   joining_is w joining joins rests on =
       let parts = and_parts typing (types_text c) (sym joins ∙ on) in

@@ -12,7 +12,7 @@ returns-in-Some c =
     let name = c.args.name.now in
     let v = c.args.value.now in
     let stands = standing c.self.inside.doc c.self.inside.typing c.self.inside.following old (ap (λ (e : EditorValue). e.editing) c.self.view_is) c.self.invariant c.valid.ensures in
-    let tells : Tells c.exec_command-answer.result old new (outcome old name v) = rw (named_outcome old name v c.in-Some.command (sym c.named.ensures.value ∙ c.in-Some.is)) c.exec_command-answer.ensures in
+    let tells : Tells c.exec_command-answer.result old new (outcome old name v) = rw (named_outcome old name v c.in-Some.command (sym c.named.ensures.value ∙ c.in-Some.is)) c.exec_command-answer.ensures.tells in
     let k = changes c.exec_command-answer.result old new name v tells in
     record {
       tells = tells;
@@ -26,6 +26,7 @@ returns-in-Some c =
       characters = characters_kept old new name v stands k;
       given_back = given_back old new name v stands k;
       needed = c.kept_nodes.ensures;
+      followed = c.exec_command-answer.ensures.followed;
     }
 
 pub returns-in-None : goal.returns-in-None
@@ -46,4 +47,5 @@ returns-in-None c =
       characters = characters_kept old old name v stands (inl refl);
       given_back = given_back old old name v stands (inl refl);
       needed = c.kept_nodes-in-None.ensures;
+      followed = inl (refl, refl);
     }

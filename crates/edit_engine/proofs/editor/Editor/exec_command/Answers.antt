@@ -10,17 +10,20 @@ pub returns-then-not-is_enabled : goal.returns-then-not-is_enabled
 returns-then-not-is_enabled c =
     let e = c.args.self.now.editing in
     let off : is_enabled e.state c.args.command ≡ false = ap (λ (x : EditorValue). is_enabled x.editing.state c.args.command) (sym c.self.view_is) ∙ (sym c.is_enabled.ensures ∙ c.if-not-is_enabled.true) in
-    (inl (refused_outcome e c.args.value.now c.args.command off), refl)
+    record { tells = (inl (refused_outcome e c.args.value.now c.args.command off), refl); followed = inl (refl, refl) }
 
 pub returns-then-is_deeper_than : goal.returns-then-is_deeper_than
 returns-then-is_deeper_than c =
     let e = c.args.self.now.editing in
     let on : is_enabled e.state c.args.command ≡ true = ap (λ (x : EditorValue). is_enabled x.editing.state c.args.command) (sym c.self.view_is) ∙ (sym c.is_enabled.ensures ∙ c.if-not-is_enabled.false) in
-    (deep_outcome e c.args.value.now c.args.command on (ap (λ (x : EditorValue). nat_lt 250 (page_depth x.editing.state.trees)) (sym c.self.view_is) ∙ (sym c.is_deeper_than.ensures ∙ c.if-is_deeper_than.true)), refl)
+    record {
+      tells = (deep_outcome e c.args.value.now c.args.command on (ap (λ (x : EditorValue). nat_lt 250 (page_depth x.editing.state.trees)) (sym c.self.view_is) ∙ (sym c.is_deeper_than.ensures ∙ c.if-is_deeper_than.true)), refl);
+      followed = inl (refl, refl);
+    }
 
 pub returns : goal.returns
 returns c =
     let e = c.args.self.now.editing in
     let on : is_enabled e.state c.args.command ≡ true = ap (λ (x : EditorValue). is_enabled x.editing.state c.args.command) (sym c.self.view_is) ∙ (sym c.is_enabled.ensures ∙ c.if-not-is_enabled.false) in
     let o = runs_outcome e c.args.value.now c.args.command on (ap (λ (x : EditorValue). nat_lt 250 (page_depth x.editing.state.trees)) (sym c.self.view_is) ∙ (sym c.is_deeper_than.ensures ∙ c.if-is_deeper_than.false)) in
-    rw o c.run.ensures
+    record { tells = rw o c.run.ensures.tells; followed = c.run.ensures.followed }

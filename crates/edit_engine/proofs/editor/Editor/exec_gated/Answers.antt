@@ -26,6 +26,7 @@ returns-then-denies g c =
       characters = characters_kept old old name v stands (inl refl);
       given_back = given_back old old name v stands (inl refl);
       needed = c.kept_nodes.ensures;
+      followed = inl (refl, refl);
     }
 
 pub returns : goal.returns
@@ -47,4 +48,5 @@ returns g c =
       characters = c.exec.ensures.characters;
       given_back = c.exec.ensures.given_back;
       needed = c.exec.ensures.needed;
+      followed = c.exec.ensures.followed;
     }
