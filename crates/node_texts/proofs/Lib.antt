@@ -2,3 +2,4 @@ mod Visiting
 mod Folding
 mod Offsets
 mod Upward
+mod Cutting

@@ -2,3 +2,4 @@ pub mod Walk
 pub mod NodeHtml
 pub mod PlainText
 pub mod Occurrences
+pub mod Between

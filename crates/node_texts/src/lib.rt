@@ -2,6 +2,7 @@
 //! occur in it.
 #![tactic(auto)]
 
+mod between;
 mod html;
 mod occurrences;
 mod plain;

@@ -58,7 +58,7 @@ pub(crate) fn node_text(
     }
 }
 
-fn facts_of(alloc: Global, points: &[Point]) -> Result<Vec<PointFacts>, AllocError>
+fn all_facts(alloc: Global, points: &[Point]) -> Result<Vec<PointFacts>, AllocError>
     ensures { IfOk result (λ facts. facts.items ≡ map point_facts points.now) }
 {
     points
@@ -78,7 +78,7 @@ fn put_points(
 ) -> Status
     ensures { PutsUnlessMemory result (map point_facts points.now) buffer.old buffer.new count.new }
 {
-    match facts_of(alloc, points) {
+    match all_facts(alloc, points) {
         Ok(facts) => put(&facts, buffer, count),
         Err(_) => Status::Memory,
     }
