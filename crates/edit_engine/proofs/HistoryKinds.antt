@@ -1,5 +1,5 @@
 -- A label has one kind in all documents that undo and redo lead to: the nodes that are held have them all.
-use Rattle.std.proofs.Common.{◌≡◌, ℕ, List, [], ◌∷◌, Option, Some, refl, sym, ap, subst, ◌∙◌, arith}
+use Rattle.std.proofs.Common.{◌≡◌, ℕ, Bool, List, [], ◌∷◌, Option, Some, refl, sym, ap, subst, ◌∙◌, arith}
 use Rattle.std.specs.Prelude.{unwrap_or}
 use Rattle.std.specs.Option.{option_map}
 use Rattle.dom_model.specs.declared.Content.{Content}
@@ -14,11 +14,15 @@ use Rattle.forest_changes.specs.Change.{Change, IsForest, Fits, applied}
 use Rattle.forest_changes.specs.Named.{Each}
 use Rattle.forest_changes.proofs.ChangeLists.{each_join, each_first, each_rest, each_of}
 use Rattle.forest_changes.proofs.Twice.{IsForest-unlink, IsForest-applied, given_parent}
-use Rattle.edit_model.specs.History.{Entry, document_of, undone_state, undone_state_by, redone_state, redone_state_by, at_view}
+use Rattle.edit_model.specs.State.{State}
+use Rattle.edit_model.specs.History.{Entry, document_of, undone_state, undone_state_by, undone_history, redone_state, redone_state_by, redone_history, at_view}
+use Rattle.edit_doc.specs.Whole.{Whole}
 use Rattle.edit_doc.specs.Kept.{LeadAllBack, LeadAllForth, HoldsOnlyNeeded}
 use Rattle.edit_laws.specs.Kinds.{Kind, kind_in, kind_of, SameKinds}
 use Rattle.edit_laws.proofs.StayingKinds.{kind_of-revised, kind-tree}
-use Rattle.edit_engine.specs.Editing.{Editing, EditorValue, document, undone, redone}
+use Rattle.edit_engine.specs.Editing.{Editing, EditorValue, value_of, document, undone, redone}
+use Rattle.edit_engine.specs.declared.following.Following.{Following}
+use Rattle.edit_engine.proofs.Outcomes.{shown}
 use Rattle.edit_engine.specs.Labels.{KeepsLabels, documents_in, AgreesWith, HaveOneKind}
 
 -- ---- changes keep the kinds
@@ -151,3 +155,21 @@ labels_redone e (kinds, (here, there)) =
     by_entries : (es : List Entry) → Each (AgreesWith kinds) (documents_in es) → AgreesWith kinds (redone_state_by es e.state).trees × ((redone_state_by es e.state).next ≡ e.state.next)
     by_entries [] h = (here, refl)
     by_entries (x ∷ xs) h = (h.1.0, refl)
+
+-- ---- told of an editor's document
+
+keeps_at : (e x y : Editing) → x.state ≡ y.state → KeepsLabels e x → KeepsLabels e y
+keeps_at e x y same k = subst (λ (s : State). KeepsLabels e (record { state = s; history = y.history; typing = y.typing })) same (record { kinds = k.kinds; next = k.next })
+
+module _ (w new : Whole) (typing after : Bool) (following : Following) (v : EditorValue) (view : value_of w typing following ≡ v) where
+  pub labels_after_undo : new ≡ record w { state = undone_state w.history w.state; history = undone_history w.history } → HaveOneKind v.editing → KeepsLabels v.editing (shown new after)
+  labels_after_undo is =
+      let e = (value_of w typing following).editing in
+      subst (λ (x : EditorValue). HaveOneKind x.editing → KeepsLabels x.editing (shown new after)) view
+      (λ one. keeps_at e (undone e) (shown new after) (sym (ap (λ (x : Whole). x.state) is)) (labels_undone e one))
+
+  pub labels_after_redo : new ≡ record w { state = redone_state w.history w.state; history = redone_history w.history } → HaveOneKind v.editing → KeepsLabels v.editing (shown new after)
+  labels_after_redo is =
+      let e = (value_of w typing following).editing in
+      subst (λ (x : EditorValue). HaveOneKind x.editing → KeepsLabels x.editing (shown new after)) view
+      (λ one. keeps_at e (redone e) (shown new after) (sym (ap (λ (x : Whole). x.state) is)) (labels_redone e one))

@@ -342,8 +342,9 @@ impl Editor {
         ensures followed { CanFollow self.old self.new }
     {
         self.labels_last();
-        self.doc.valid();
+        self.doc.kept_nodes();
         let taken = self.doc.undo(steps);
+        self.doc.changes_lead();
         self.typing &= !taken;
         self.following = self.following.undo(taken);
         self.kept_nodes();
@@ -360,8 +361,9 @@ impl Editor {
         ensures followed { CanFollow self.old self.new }
     {
         self.labels_last();
-        self.doc.valid();
+        self.doc.kept_nodes();
         let taken = self.doc.redo(steps);
+        self.doc.changes_lead();
         self.typing &= !taken;
         self.following = self.following.redo(taken);
         self.kept_nodes();
