@@ -1,6 +1,7 @@
 mod acts;
 mod applying;
 mod arenas;
+mod edits;
 mod faults;
 mod lines;
 mod logs;
