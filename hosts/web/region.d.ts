@@ -1,6 +1,6 @@
 /** The types of region.js, which says more of each call. */
 
-import type { Editor, Engine, Limits } from "./hedit.js";
+import type { Editor, Engine, Limits, Point } from "./hedit.js";
 
 /** What a region does beside what the engine's commands do. Each is on, and `false` switches it off. */
 export interface Habits {
@@ -69,6 +69,12 @@ export declare class Region extends EventTarget {
 
   /** Executes a command as one step of undo. False where it isn't possible. */
   exec(command: string, value?: string): boolean;
+
+  /** Selects from a point of the engine to another, or puts the caret at one. */
+  select(anchor: Point, focus?: Point): void;
+
+  /** Makes one step of undo of all that a function does by the region. */
+  step<T>(call: () => T): T;
 
   /** Takes a step back. False where there is none. */
   undo(): boolean;

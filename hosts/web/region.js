@@ -255,6 +255,34 @@ export class Region extends EventTarget {
     }
   }
 
+  /**
+   * Selects from a point of the engine to another, or puts the caret at one.
+   * @param {Point} anchor
+   * @param {Point} focus
+   */
+  select(anchor, focus = anchor) {
+    this.#act(() => {
+      this.#commands.select({ anchor, focus });
+      return true;
+    });
+  }
+
+  /**
+   * Makes one step of undo of all that a function does by the region, and says what it answers.
+   * @template T
+   * @param {() => T} call
+   * @returns {T}
+   */
+  step(call) {
+    this.#settle();
+    const steps = this.#steps.length;
+    try {
+      return call();
+    } finally {
+      this.#join(steps);
+    }
+  }
+
   /** Takes a step back. False where there is none. */
   undo() {
     return this.#turn(this.#steps, this.#undone, () => this.#editor.undo());
