@@ -34,6 +34,7 @@
  */
 import { BadArgument, HeditError, PageRefused } from "./hedit.js";
 import { Commands, HABITS, lockedPart } from "./region_commands.js";
+import { historyKey, isOfBrowser, meaningOf } from "./region_input.js";
 import { View, difference, isCaret, isSame, isText } from "./region_view.js";
 
 export { HABITS };
@@ -61,50 +62,10 @@ export { HABITS };
  * }} Choices
  */
 
-/** The commands of the kinds of input that say all by their names. */
-const COMMANDS = new Map([
-  ["insertOrderedList", "insertOrderedList"],
-  ["insertUnorderedList", "insertUnorderedList"],
-  ["insertHorizontalRule", "insertHorizontalRule"],
-  ["insertLineBreak", "insertLineBreak"],
-  ["insertParagraph", "insertParagraph"],
-  ["formatBold", "bold"],
-  ["formatItalic", "italic"],
-  ["formatUnderline", "underline"],
-  ["formatStrikeThrough", "strikethrough"],
-  ["formatSuperscript", "superscript"],
-  ["formatSubscript", "subscript"],
-  ["formatJustifyLeft", "justifyLeft"],
-  ["formatJustifyCenter", "justifyCenter"],
-  ["formatJustifyRight", "justifyRight"],
-  ["formatJustifyFull", "justifyFull"],
-  ["formatIndent", "indent"],
-  ["formatOutdent", "outdent"],
-  ["formatRemove", "removeFormat"],
-  ["historyUndo", "undo"],
-  ["historyRedo", "redo"],
-]);
-
-/** The commands of the kinds of input that have a value. */
-const VALUED = new Map([
-  ["insertLink", "createLink"],
-  ["formatBackColor", "backColor"],
-  ["formatFontColor", "foreColor"],
-  ["formatFontName", "fontName"],
-]);
-
-/** The kinds of input that put a text in place of the selection. */
-const INSERTIONS = new Set([
-  "insertText",
-  "insertFromPaste",
-  "insertFromPasteAsQuotation",
-  "insertFromYank",
-]);
-
-/** The kinds of input that put a text in place of a range of their own. */
-const REPLACEMENTS = new Set(["insertReplacementText", "insertTranspose", "insertFromDrop"]);
-
-/** Whether an element is an editing host. @param {Element} element */
+/**
+ * Whether an element is an editing host.
+ * @param {Element} element
+ */
 function isHost(element) {
   return ["", "true"].includes(element.getAttribute("contenteditable") ?? "false");
 }
@@ -217,6 +178,7 @@ export class Region extends EventTarget {
     this.#commands = new Commands(editor, this.#view, habits, [...denied], undoDepth);
     this.#observer = new MutationObserver((records) => this.#answer(() => this.#mend(records)));
     this.#listen();
+    this.#read();
   }
 
   /** The element that was given. */
@@ -412,19 +374,14 @@ export class Region extends EventTarget {
     }
   }
 
-  /**
-   * Undo and redo: a browser has nothing to undo where the engine does all, and so says nothing of these keys.
-   * @param {KeyboardEvent} event
-   */
+  /** @param {KeyboardEvent} event */
   #key(event) {
-    const key = event.key.toLowerCase();
-    const isHeld = (event.ctrlKey || event.metaKey) && !event.altKey && !event.isComposing;
-    if (!isHeld || (key !== "z" && key !== "y")) {
-      return;
+    const command = historyKey(event);
+    if (command) {
+      event.preventDefault();
+      this.exec(command);
+      this.#view.reveal();
     }
-    event.preventDefault();
-    this.exec(key === "y" || event.shiftKey ? "redo" : "undo");
-    this.#view.reveal();
   }
 
   /**
@@ -432,37 +389,35 @@ export class Region extends EventTarget {
    * @param {InputEvent} event
    */
   #input(event) {
-    if (!event.cancelable || event.isComposing || event.inputType.includes("Composition")) {
+    if (isOfBrowser(event)) {
       return;
     }
     event.preventDefault();
-    this.#obey(event);
+    const meaning = meaningOf(event);
+    switch (meaning?.act) {
+      case "command":
+        this.exec(meaning.command, meaning.value);
+        break;
+      case "insert":
+        this.#insert(event, meaning);
+        break;
+      case "delete":
+        this.#act(() => this.#delete(event, meaning));
+        break;
+      default:
+    }
     this.#isDragging = event.inputType === "deleteByDrag";
     this.#view.reveal();
   }
 
-  /** @param {InputEvent} event */
-  #obey(event) {
-    const kind = event.inputType;
-    const command = COMMANDS.get(kind) ?? VALUED.get(kind);
-    const text = event.data ?? event.dataTransfer?.getData("text/plain") ?? "";
-    if (command) {
-      this.exec(command, VALUED.has(kind) ? text : "");
-    } else if (kind.startsWith("delete")) {
-      this.#act(() => this.#delete(event));
-    } else if (INSERTIONS.has(kind) || REPLACEMENTS.has(kind)) {
-      this.#insert(event, text);
-    }
-  }
-
   /**
    * @param {InputEvent} event
-   * @param {string} text
+   * @param {{ text: string, isAimed: boolean }} meaning
    */
-  #insert(event, text) {
+  #insert(event, { text, isAimed }) {
     const steps = this.#steps.length - Number(this.#isDragging);
     this.#act(() => {
-      this.#aim(event, REPLACEMENTS.has(event.inputType));
+      this.#aim(event, isAimed);
       return text !== "" && this.#commands.type(text);
     });
     if (event.inputType === "insertFromDrop") {
@@ -470,25 +425,28 @@ export class Region extends EventTarget {
     }
   }
 
-  /** @param {InputEvent} event */
-  #delete(event) {
-    switch (event.inputType) {
-      case "deleteContentBackward":
+  /**
+   * @param {InputEvent} event
+   * @param {{ by: "backward" | "forward" | "range", isAimed: boolean }} meaning
+   */
+  #delete(event, { by, isAimed }) {
+    switch (by) {
+      case "backward":
         return this.#commands.deleteBackward();
-      case "deleteContentForward":
+      case "forward":
         return this.#deleteForward(event);
       default:
-        return this.#deleteRange(event);
+        return this.#deleteRange(event, isAimed);
     }
   }
 
   /**
    * Deletes what an input names, or what is selected.
    * @param {InputEvent} event
+   * @param {boolean} isAimed
    */
-  #deleteRange(event) {
-    const isAimed = this.#aim(event, event.inputType === "deleteByDrag");
-    const isSelected = isAimed || !isCaret(this.#editor.selection());
+  #deleteRange(event, isAimed) {
+    const isSelected = this.#aim(event, isAimed) || !isCaret(this.#editor.selection());
     return isSelected && this.#commands.deleteSelection();
   }
 
@@ -502,11 +460,10 @@ export class Region extends EventTarget {
       return this.#commands.deleteSelection();
     }
     if (event) {
-      return this.#deleteRange(event);
+      return this.#deleteRange(event, false);
     }
-    const selection = this.#element.ownerDocument.getSelection();
     if (isCaret(this.#editor.selection()) && this.#pageSelection()) {
-      selection?.modify("extend", "forward", "character");
+      this.#element.ownerDocument.getSelection()?.modify("extend", "forward", "character");
       this.#read();
     }
     return !isCaret(this.#editor.selection()) && this.#commands.deleteSelection();
@@ -514,13 +471,13 @@ export class Region extends EventTarget {
 
   /**
    * Selects the range that an input names. That of the selection may be another that looks the same, so it is
-   * taken only where the input means something else, or `always`.
+   * taken only where the input is aimed at it, or where it isn't empty and the selection is.
    * @param {InputEvent} event
-   * @param {boolean} always
+   * @param {boolean} isAimed
    */
-  #aim(event, always) {
+  #aim(event, isAimed) {
     const [range] = event.getTargetRanges();
-    const isMeant = always || (isCaret(this.#editor.selection()) && !range?.collapsed);
+    const isMeant = isAimed || (isCaret(this.#editor.selection()) && !range?.collapsed);
     const anchor = range && this.#view.point(range.startContainer, range.startOffset);
     const focus = range && this.#view.point(range.endContainer, range.endOffset);
     if (!isMeant || !anchor || !focus) {
@@ -732,7 +689,7 @@ export class Region extends EventTarget {
       return;
     }
     const before = this.#editor.selection();
-    this.#commands.select(page);
+    this.#commands.select(isCaret(page) ? this.#view.inBlock(page) : page);
     if (!this.#editor.enabled("delete")) {
       this.#commands.select(this.#withoutLocked(page));
     }

@@ -62,15 +62,6 @@ function isShown(name, value) {
   }
 }
 
-/** A style attribute as the browser writes it: null where it has nothing of it. */
-const styleText = (() => {
-  const { style } = document.createElement("i");
-  return (/** @type {string} */ value) => {
-    style.cssText = value;
-    return style.cssText || null;
-  };
-})();
-
 /**
  * @param {Node} node
  * @returns {node is CharacterData}
@@ -90,6 +81,15 @@ export function isText(node) {
 /** @param {Node} node */
 export function isBlock(node) {
   return node instanceof Element && BLOCKS.has(node.localName);
+}
+
+/**
+ * Whether a caret may stand in a block by itself.
+ * @param {Node} node
+ */
+function holdsCaret(node) {
+  const isWhole = /^(HR|TABLE|TBODY|THEAD|TFOOT|TR)$/.test(node.nodeName);
+  return isBlock(node) && !isWhole && /** @type {HTMLElement} */ (node).isContentEditable;
 }
 
 /**
@@ -186,6 +186,9 @@ export class View {
   /** How often something of the page was changed. */
   #changes = 0;
 
+  /** Where the browser is asked how it writes a style. */
+  #style;
+
   /**
    * @param {Editor} editor
    * @param {HTMLElement} element
@@ -195,6 +198,7 @@ export class View {
     this.#editor = editor;
     this.#element = element;
     this.#root = root;
+    this.#style = element.ownerDocument.createElement("i").style;
     this.#keep(root, element);
   }
 
@@ -285,6 +289,26 @@ export class View {
       return { node: /** @type {Node} */ (this.#element), offset: 0 };
     }
     return { node, offset: isCharacters(node) ? toUnits(node.data, offset) : offset };
+  }
+
+  /**
+   * A caret between blocks, put into the block behind it, or at the end into the one before it: that is where
+   * a browser shows it.
+   * @param {Selection} caret
+   * @returns {Selection}
+   */
+  inBlock(caret) {
+    let { node, offset } = this.place(caret.focus);
+    for (;;) {
+      const isLast = offset > 0 && offset === node.childNodes.length;
+      const child = node.childNodes[isLast ? offset - 1 : offset];
+      if (!child || !holdsCaret(child)) {
+        break;
+      }
+      [node, offset] = [child, isLast ? child.childNodes.length : 0];
+    }
+    const point = this.point(node, offset) ?? caret.focus;
+    return { anchor: point, focus: point };
   }
 
   /**
@@ -384,12 +408,21 @@ export class View {
     /** @type {Map<string, string>} */
     const shown = new Map();
     for (const [name, value] of this.#editor.attributes(label)) {
-      const text = name === "style" ? styleText(value) : value;
+      const text = name === "style" ? this.#styleText(value) : value;
       if (text !== null && isShown(name, value)) {
         shown.set(name, text);
       }
     }
     return shown;
+  }
+
+  /**
+   * A style attribute as the browser writes it; null where it has nothing of it.
+   * @param {string} value
+   */
+  #styleText(value) {
+    this.#style.cssText = value;
+    return this.#style.cssText || null;
   }
 
   /**

@@ -12,6 +12,7 @@ const FILES = {
   "/hedit.js": ["../hedit.js", "text/javascript"],
   "/region.js": ["../region.js", "text/javascript"],
   "/region_commands.js": ["../region_commands.js", "text/javascript"],
+  "/region_input.js": ["../region_input.js", "text/javascript"],
   "/region_view.js": ["../region_view.js", "text/javascript"],
   "/hedit.wasm": ["../dist/hedit.wasm", "application/wasm"],
 };
@@ -44,7 +45,8 @@ describe("a region", { skip: missing() }, () => {
     server = await serve();
     browser = await Browser.launch();
     page = await browser.open(`http://127.0.0.1:${server.address().port}/`);
-    await page.send("Browser.grantPermissions", { permissions: ["clipboardReadWrite"] });
+    const permissions = ["clipboardReadWrite", "clipboardSanitizedWrite"];
+    await browser.send("Browser.grantPermissions", { permissions, browserContextId: page.context });
     await page.until(() => window.isReady);
   });
 
