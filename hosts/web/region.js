@@ -154,8 +154,11 @@ export class Region extends EventTarget {
    */
   #composing = null;
 
-  /** Whether the last input took away what is dragged. */
-  #isDragging = false;
+  /**
+   * How many steps there were before the last input, where that took away what is dragged.
+   * @type {number | null}
+   */
+  #dragged = null;
 
   /**
    * @param {Engine} engine
@@ -368,7 +371,15 @@ export class Region extends EventTarget {
       }
       this.dispatchEvent(new ErrorEvent("error", { error, message: error.message }));
     }
-    const found = this.#isDebugged && this.check();
+    if (this.#isDebugged) {
+      this.#debug();
+    }
+  }
+
+  /** Throws what differs. A selection that the browser didn't tell of yet is read before. */
+  #debug() {
+    this.#read();
+    const found = this.check();
     if (found) {
       throw new Error(found);
     }
@@ -393,6 +404,7 @@ export class Region extends EventTarget {
       return;
     }
     event.preventDefault();
+    const steps = this.#steps.length;
     const meaning = meaningOf(event);
     switch (meaning?.act) {
       case "command":
@@ -406,7 +418,10 @@ export class Region extends EventTarget {
         break;
       default:
     }
-    this.#isDragging = event.inputType === "deleteByDrag";
+    if (event.inputType === "insertFromDrop") {
+      this.#join(this.#dragged ?? steps);
+    }
+    this.#dragged = event.inputType === "deleteByDrag" ? steps : null;
     this.#view.reveal();
   }
 
@@ -415,14 +430,10 @@ export class Region extends EventTarget {
    * @param {{ text: string, isAimed: boolean }} meaning
    */
   #insert(event, { text, isAimed }) {
-    const steps = this.#steps.length - Number(this.#isDragging);
     this.#act(() => {
       this.#aim(event, isAimed);
       return text !== "" && this.#commands.type(text);
     });
-    if (event.inputType === "insertFromDrop") {
-      this.#join(steps);
-    }
   }
 
   /**

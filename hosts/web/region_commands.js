@@ -130,17 +130,45 @@ function isCollapsing(text) {
 }
 
 /**
- * The part that can't be edited and that a node stands in, as a whole; null where it can be edited,
- * or nothing around it within the view.
+ * The last node of all below a node, or it itself.
+ * @param {Node} node
+ */
+function lastLeaf(node) {
+  let at = node;
+  while (at.lastChild) {
+    at = at.lastChild;
+  }
+  return at;
+}
+
+/**
+ * The last node without children before a node, in the order of the page; null where there is none below the root.
+ * @param {Node} node
+ * @param {Node} root
+ */
+function leafBefore(node, root) {
+  let at = node;
+  while (at !== root && !at.previousSibling) {
+    at = /** @type {Node} */ (at.parentNode);
+  }
+  return at === root ? null : lastLeaf(/** @type {Node} */ (at.previousSibling));
+}
+
+/**
+ * The part that can't be edited and that a node stands in, as a whole; null where the node can be edited,
+ * or nothing around the part can.
  * @param {Node} node
  * @param {Node} root
  */
 export function lockedPart(node, root) {
   let at = elementOf(node);
-  while (at !== root && !(elementOf(/** @type {Node} */ (at.parentNode)).isContentEditable)) {
+  if (at.isContentEditable) {
+    return null;
+  }
+  while (at !== root && !elementOf(/** @type {Node} */ (at.parentNode)).isContentEditable) {
     at = elementOf(/** @type {Node} */ (at.parentNode));
   }
-  return at === root || at.isContentEditable ? null : at;
+  return at === root ? null : at;
 }
 
 /** The commands of an editor whose nodes a view shows. */
@@ -486,17 +514,10 @@ export class Commands {
   #keepSpaces() {
     const selection = /** @type {Selection} */ (this.#editor.selection());
     const block = this.#view.blockOf(this.#view.place(selection.focus).node);
-    /** @type {Node | null} */
+    const last = leafBefore(block, this.#view.element);
     let first = block;
-    while (first?.firstChild) {
+    while (first.firstChild) {
       first = first.firstChild;
-    }
-    const walker = document.createTreeWalker(this.#view.element);
-    walker.currentNode = block;
-    /** @type {Node | null} */
-    let last = block.previousSibling ?? (block.parentNode === this.#view.element ? null : walker.previousNode());
-    while (last?.lastChild) {
-      last = last.lastChild;
     }
     const isKept = [
       isText(first) && first.data.startsWith(" ") && this.#keepSpace(first, 0),
@@ -597,14 +618,10 @@ export class Commands {
     }
     const block = this.#view.blockOf(node);
     const walker = document.createTreeWalker(block);
-    walker.currentNode = node;
-    /** @type {Node | null} */
-    let at = isCharacters(node) ? null : (node.childNodes[offset - 1] ?? null);
-    while (at?.lastChild) {
-      at = at.lastChild;
-    }
-    walker.currentNode = at ?? node;
-    for (at ??= walker.previousNode(); at && at !== block; at = walker.previousNode()) {
+    const child = isCharacters(node) ? null : node.childNodes[offset - 1];
+    const leaf = child ? lastLeaf(child) : null;
+    walker.currentNode = leaf ?? node;
+    for (let at = leaf ?? walker.previousNode(); at && at !== block; at = walker.previousNode()) {
       if (isText(at) && at.length > 0) {
         const isInLine = this.#view.blockOf(at) === block && elementOf(at).isContentEditable;
         return isInLine ? { node: at, offset: at.length } : null;
@@ -672,11 +689,7 @@ export class Commands {
     if (!selection || !ends || !item || !list || !this.#view.element.contains(item)) {
       return this.exec("indent");
     }
-    /** @type {Node} */
-    let last = item;
-    while (last.lastChild) {
-      last = last.lastChild;
-    }
+    const last = lastLeaf(item);
     const anchor = this.#view.point(ends[0].node, ends[0].offset);
     const focus = this.#view.point(last, isText(last) ? last.length : 0);
     if (anchor && focus) {

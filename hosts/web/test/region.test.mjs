@@ -4,7 +4,7 @@ import { once } from "node:events";
 import { readFile } from "node:fs/promises";
 import { createServer } from "node:http";
 import { after, afterEach, before, describe, it } from "node:test";
-import { HABITS } from "../region_commands.js";
+import { HABITS, Region } from "../region.js";
 import { Browser, missing } from "./chromium.mjs";
 
 const FILES = {
@@ -35,6 +35,19 @@ function* numbers(seed) {
     yield seed / 2 ** 32;
   }
 }
+
+describe("region.d.ts", async () => {
+  const types = await readFile(new URL("../region.d.ts", import.meta.url), "utf8");
+
+  it("has the calls of a region, and its habits", () => {
+    const [calls] = types.split("class Region ")[1].split("\n  addEventListener");
+    const names = [...calls.matchAll(/^  (?:get )?(\w+)(?:<T>)?\(/gm)].map(([, name]) => name);
+    assert.deepEqual(new Set(names), new Set(Object.getOwnPropertyNames(Region.prototype)));
+    const [habits] = types.split("interface Habits {")[1].split("\n}");
+    const each = [...habits.matchAll(/readonly (\w+): boolean/g)].map(([, name]) => name);
+    assert.deepEqual(each.sort(), Object.keys(HABITS).sort());
+  });
+});
 
 describe("a region", { skip: missing() }, () => {
   let server;
@@ -662,6 +675,22 @@ describe("a region", { skip: missing() }, () => {
       await shows("<p>a1</p><p>2</p><p><br></p><p>3b</p>");
       await press("Control+z");
       await shows("<p>ab</p>");
+    });
+  });
+
+  describe("what is dragged", () => {
+    it("goes to where it is dropped, in one step", async () => {
+      await open("<p>one two</p><p>ab</p>");
+      await click([0, 0], 5, 2);
+      const [from, to] = [await at([0, 0], 5), await at([1, 0], 1)];
+      await mouse("mousePressed", from, 1);
+      await mouse("mouseMoved", { x: from.x + 9, y: from.y + 9 }, 1);
+      await mouse("mouseMoved", to, 1);
+      await mouse("mouseReleased", to, 0);
+      await page.until(() => document.querySelector("#host").textContent.includes("atwob"));
+      await agrees();
+      await press("Control+z");
+      await shows("<p>one two</p><p>ab</p>");
     });
   });
 
