@@ -1,6 +1,6 @@
 /**
- * An editor behind a region of a web page: the browser shows the text and says what the user does, and
- * the engine does it.
+ * An editor behind a region of a web page: the browser shows the text and says what the user does,
+ * and the engine does it.
  *
  *     import { load } from "./hedit.js";
  *     import { Region } from "./region.js";
@@ -11,26 +11,27 @@
  *       bold.ariaPressed = String(region.state("bold"));
  *     });
  *
- * The element is the editing host where it has `contenteditable`: its children are those of the engine's
- * host, its attributes stay the page's, and `html` is the markup in it. An element without
+ * The element is the editing host where it has `contenteditable`: its children are those of the
+ * engine's host, its attributes stay the page's, and `html` is the markup in it. An element without
  * `contenteditable` holds a whole page of the engine, with the editing hosts and what stands around
  * them.
  *
  * What the page gets of the engine's nodes is a view. It leaves out attributes whose names begin with
- * `on`, and addresses that run JavaScript, such as links with `javascript:`. So the engine's page doesn't
- * act while it is edited; but it isn't cleaned: `html` still has these attributes, and elements that load
- * something load it.
+ * `on`, and addresses that run JavaScript, such as links with `javascript:`. So the engine's page
+ * doesn't act while it is edited; but it isn't cleaned: `html` still has these attributes, and
+ * elements that load something load it.
  *
  * A region is an EventTarget, with these events:
  * - `change`: the page has other nodes, attributes or texts now;
  * - `selectionchange`: the selection is another one;
- * - `statechange`: after both and after each command, for toolbars, as states and values may have changed;
- * - `error`, an ErrorEvent: the engine refused what the user did, and `error` says why. What the methods
- *   do throws it.
+ * - `statechange`: after both and after each command, for toolbars, as states and values may have
+ *   changed;
+ * - `error`, an ErrorEvent: the engine refused what the user did, and `error` says why. What the
+ *   methods do throws it.
  *
  * These of what differs from browsers stay as the engine has them: `outdent` takes a quoted paragraph
- * with formats apart, `formatBlock` drops classes and other attributes of the block, and the elements for
- * a style are the engine's.
+ * with formats apart, `formatBlock` drops classes and other attributes of the block, and the elements
+ * for a style are the engine's.
  */
 import { BadArgument, HeditError, PageRefused } from "./hedit.js";
 import { Commands, HABITS, lockedPart } from "./region_commands.js";
@@ -48,8 +49,8 @@ export { HABITS };
 
 /**
  * What a region is made with, beside the habits:
- * - `html`: what the engine opens, by default the element's own markup; it has to be a page as docs/FORMATS.md
- *   says, and others throw PageRefused;
+ * - `html`: what the engine opens, by default the element's own markup; it has to be a page as
+ *   docs/FORMATS.md says, and others throw PageRefused;
  * - `labelCap`, `undoDepth`: those of `Engine.open`;
  * - `separator`: the element that Enter makes where no block is around the caret, by default `p`;
  * - `denied`: names of up to 16 commands that do nothing;
@@ -71,7 +72,8 @@ function isHost(element) {
 }
 
 /**
- * The editor of what an element is to hold, and the label of the node whose children are the element's.
+ * The editor of what an element is to hold, and the label of the node whose children are the
+ * element's.
  * @param {Engine} engine
  * @param {HTMLElement} element
  * @param {string} html
@@ -129,15 +131,15 @@ export class Region extends EventTarget {
   #ends = new AbortController();
 
   /**
-   * The selection as the page had it when it was last read or shown, and as the engine has it: an end in
-   * a locked part is elsewhere there.
+   * The selection as the page had it when it was last read or shown, and as the engine has it: an end
+   * in a locked part is elsewhere there.
    * @type {{ page: Selection, engine: Selection } | null}
    */
   #selected = null;
 
   /**
-   * How many entries of the engine's history each step has, the last one at the end. Steps that aren't
-   * there any more have one each.
+   * How many entries of the engine's history each step has, the last one at the end. Steps that
+   * aren't there any more have one each.
    * @type {number[]}
    */
   #steps = [];
@@ -189,12 +191,16 @@ export class Region extends EventTarget {
     return this.#element;
   }
 
-  /** The editor, to read from. What is changed in it otherwise than through the region isn't shown. */
+  /**
+   * The editor, to read from. What is changed in it otherwise than through the region isn't shown.
+   */
   get editor() {
     return this.#editor;
   }
 
-  /** Closes the editor. The element's children stay as they are, and nothing listens to them any more. */
+  /**
+   * Closes the editor. The element's children stay as they are, and nothing listens to them any more.
+   */
   close() {
     this.#ends.abort();
     this.#observer.disconnect();
@@ -299,7 +305,9 @@ export class Region extends EventTarget {
     return this.#editor.value(command);
   }
 
-  /** The markup: what is in the element, where that is the editing host, and else the engine's page. */
+  /**
+   * The markup: what is in the element, where that is the editing host, and else the engine's page.
+   */
   html() {
     const page = this.#editor.html().slice(0, -1);
     const isWhole = this.#view.root === 0;
@@ -338,18 +346,21 @@ export class Region extends EventTarget {
   // What the user does.
 
   #listen() {
-    /** @type {<T extends Event>(target: EventTarget, kind: string, call: (event: T) => void) => void} */
-    const listen = (target, kind, call) => {
-      const answer = (/** @type {any} */ event) => this.#answer(() => call(event));
-      target.addEventListener(kind, answer, { signal: this.#ends.signal });
+    const { signal } = this.#ends;
+    const page = this.#element.ownerDocument;
+    page.addEventListener("selectionchange", () => this.#answer(() => this.#read()), { signal });
+    /** @type {Partial<Record<keyof HTMLElementEventMap, (event: any) => void>>} */
+    const answers = {
+      beforeinput: (event) => this.#input(event),
+      keydown: (event) => this.#key(event),
+      copy: (event) => this.#copy(event),
+      cut: (event) => this.#cut(event),
+      compositionstart: () => this.#compose(),
+      compositionend: () => this.#composed(),
     };
-    listen(this.#element.ownerDocument, "selectionchange", () => this.#read());
-    listen(this.#element, "beforeinput", (/** @type {InputEvent} */ event) => this.#input(event));
-    listen(this.#element, "keydown", (/** @type {KeyboardEvent} */ event) => this.#key(event));
-    listen(this.#element, "copy", (/** @type {ClipboardEvent} */ event) => this.#copy(event));
-    listen(this.#element, "cut", (/** @type {ClipboardEvent} */ event) => this.#cut(event));
-    listen(this.#element, "compositionstart", () => this.#compose());
-    listen(this.#element, "compositionend", () => this.#composed());
+    for (const [kind, call] of Object.entries(answers)) {
+      this.#element.addEventListener(kind, (event) => this.#answer(() => call(event)), { signal });
+    }
     this.#observer.observe(this.#element, {
       attributes: true,
       characterData: true,
@@ -462,8 +473,8 @@ export class Region extends EventTarget {
   }
 
   /**
-   * Deletes what is selected, or at a caret what stands behind it: the browser knows what that is at the
-   * end of a text.
+   * Deletes what is selected, or at a caret what stands behind it: the browser knows what that is at
+   * the end of a text.
    * @param {InputEvent} [event]
    */
   #deleteForward(event) {
@@ -481,8 +492,8 @@ export class Region extends EventTarget {
   }
 
   /**
-   * Selects the range that an input names. That of the selection may be another that looks the same, so it is
-   * taken only where the input is aimed at it, or where it isn't empty and the selection is.
+   * Selects the range that an input names. That of the selection may be another that looks the same,
+   * so it is taken only where the input is aimed at it, or where it isn't empty and the selection is.
    * @param {InputEvent} event
    * @param {boolean} isAimed
    */
@@ -544,8 +555,8 @@ export class Region extends EventTarget {
   }
 
   /**
-   * Reads back what the browser changed by itself, where it is in one text, and shows the engine's nodes
-   * again in all that it changed.
+   * Reads back what the browser changed by itself, where it is in one text, and shows the engine's
+   * nodes again in all that it changed.
    * @param {readonly MutationRecord[]} records
    * @param {boolean} isComposed
    */
@@ -554,7 +565,9 @@ export class Region extends EventTarget {
       this.#composing.records.push(...records);
       return;
     }
-    const ours = records.filter(({ type, target }) => type !== "attributes" || target !== this.#element);
+    const isPages = (/** @type {MutationRecord} */ { type, target }) =>
+      type === "attributes" && target === this.#element;
+    const ours = records.filter((record) => !isPages(record));
     if (ours.length === 0) {
       return;
     }
@@ -568,8 +581,8 @@ export class Region extends EventTarget {
   }
 
   /**
-   * What writes the change into the engine where the browser changed one text, and nothing else; null where it
-   * did something else.
+   * What writes the change into the engine where the browser changed one text, and nothing else; null
+   * where it did something else.
    * @param {readonly MutationRecord[]} records
    * @returns {(() => boolean) | null}
    */
@@ -588,8 +601,8 @@ export class Region extends EventTarget {
   }
 
   /**
-   * What writes a text into the engine that an input method began where there was none; null where it did
-   * something else.
+   * What writes a text into the engine that an input method began where there was none; null where it
+   * did something else.
    * @param {readonly MutationRecord[]} records
    * @returns {(() => boolean) | null}
    */
@@ -693,7 +706,10 @@ export class Region extends EventTarget {
     return anchor && focus ? { anchor, focus } : null;
   }
 
-  /** Selects what the page shows as selected. The same again isn't selected: that would end the typing. */
+  /**
+   * Selects what the page shows as selected. The same again isn't selected: that would end the
+   * typing.
+   */
   #read() {
     const page = this.#composing ? null : this.#pageSelection();
     if (!page || isSame(page, this.#selected?.page ?? null)) {
@@ -712,8 +728,8 @@ export class Region extends EventTarget {
   }
 
   /**
-   * A selection with an end in a locked part, and one outside of it: the former end is put beside the part, so that
-   * the part stays out.
+   * A selection with an end in a locked part, and one outside of it: the former end is put beside the
+   * part, so that the part stays out.
    * @param {Selection} selection
    * @returns {Selection}
    */
@@ -733,8 +749,8 @@ export class Region extends EventTarget {
   }
 
   /**
-   * Shows the engine's selection where the page's selection is in the region, or at any rate. The focus stays where it is,
-   * as in a toolbar.
+   * Shows the engine's selection where the page's selection is in the region, or at any rate. The
+   * focus stays where it is, as in a toolbar.
    * @param {boolean} always
    */
   #show(always = false) {
@@ -743,7 +759,7 @@ export class Region extends EventTarget {
     const page = this.#element.ownerDocument;
     const selection = page.getSelection();
     const active = page.activeElement;
-    const isHere = this.#element.contains(active) || this.#element.contains(selection?.anchorNode ?? null);
+    const isHere = [active, selection?.anchorNode ?? null].some((node) => this.#element.contains(node));
     if (!engine || !selection || !(always || isHere)) {
       return;
     }

@@ -1,6 +1,6 @@
 /**
- * What the user of a region does, as commands of the engine, for region.js. Here are the habits: what a
- * region does beside what a command does, so that users of browsers find what they know.
+ * What the user of a region does, as commands of the engine, for region.js. Here are the habits: what
+ * a region does beside what a command does, so that users of browsers find what they know.
  */
 import { HeditError, toCharacters } from "./hedit.js";
 import { isBlock, isCaret, isCharacters, isSame, isText } from "./region_view.js";
@@ -14,21 +14,25 @@ import { isBlock, isCaret, isCharacters, isSame, isText } from "./region_view.js
  * Each can be switched off by `false`. docs/FOR_MAKERS.md, "Where browsers do something else", has a
  * session for most of them.
  * @typedef {object} Habits
- * @property {boolean} keepStyle Enter goes on in the style of the text before it, within blocks of one
- *   kind
- * @property {boolean} keepSpaces a space that Enter leaves at the end or at the start of a line becomes
- *   U+00A0, so that it shows, and is still there when the lines are joined
+ * @property {boolean} keepStyle Enter goes on in the style of the text before it, within blocks of
+ *   one kind
+ * @property {boolean} keepSpaces a space that Enter leaves at the end or at the start of a line
+ *   becomes U+00A0, so that it shows, and is still there when the lines are joined
  * @property {boolean} keepAlignment `formatBlock` keeps the alignment
  * @property {boolean} quoteByIndent `formatBlock` with `blockquote` indents
- * @property {boolean} hiliteAtCaret `backColor` at a caret colours what is typed, as `hiliteColor` does
+ * @property {boolean} hiliteAtCaret `backColor` at a caret colours what is typed, as `hiliteColor`
+ *   does
  * @property {boolean} indentSublists `indent` takes the lists in an item along
- * @property {boolean} deleteIntoLinks Backspace behind a link takes its last character, and not the link
- * @property {boolean} joinItems Backspace at the start of an item joins it with the one before at once
+ * @property {boolean} deleteIntoLinks Backspace behind a link takes its last character, and not the
+ *   link
+ * @property {boolean} joinItems Backspace at the start of an item joins it with the one before at
+ *   once
  * @property {boolean} leaveLinks what is typed at the end of a link stands behind it
  * @property {boolean} plainAcrossBlocks what is typed over blocks of two kinds has no style of theirs
- * @property {boolean} wholeClusters Backspace and Delete take what a user sees as one character: a flag, an
- *   emoji of several, a letter with its accents
- * @property {boolean} leaveLocked a caret that a command leaves in a locked part goes back to where it was
+ * @property {boolean} wholeClusters Backspace and Delete take what a user sees as one character: a
+ *   flag, an emoji of several, a letter with its accents
+ * @property {boolean} leaveLocked a caret that a command leaves in a locked part goes back to where
+ *   it was
  */
 
 /** @type {Readonly<Habits>} */
@@ -69,6 +73,9 @@ const ALIGNMENTS = new Map([
   ["right", "justifyRight"],
   ["justify", "justifyFull"],
 ]);
+
+/** @type {readonly (keyof Counts)[]} */
+const COUNTS = ["nodes", "nextLabel", "chars", "edits", "undo", "redo"];
 
 /** Commands that change one text, mostly. */
 const OF_A_TEXT = new Set(["inserttext", "delete"]);
@@ -142,7 +149,8 @@ function lastLeaf(node) {
 }
 
 /**
- * The last node without children before a node, in the order of the page; null where there is none below the root.
+ * The last node without children before a node, in the order of the page; null where there is none
+ * below the root.
  * @param {Node} node
  * @param {Node} root
  */
@@ -155,8 +163,8 @@ function leafBefore(node, root) {
 }
 
 /**
- * The part that can't be edited and that a node stands in, as a whole; null where the node can be edited,
- * or nothing around the part can.
+ * The part that can't be edited and that a node stands in, as a whole; null where the node can be
+ * edited, or nothing around the part can.
  * @param {Node} node
  * @param {Node} root
  */
@@ -204,7 +212,10 @@ export class Commands {
     this.#undoDepth = undoDepth;
   }
 
-  /** What came of the commands since this was last asked: entries of the history, and something to see. */
+  /**
+   * What came of the commands since this was last asked: entries of the history, and something to
+   * see.
+   */
   take() {
     const done = this.#done;
     this.#done = { entries: 0, isChanged: false };
@@ -233,7 +244,7 @@ export class Commands {
   #follow(name, before, text) {
     const after = this.#editor.counts();
     const isFull = before.undo === this.#undoDepth;
-    const isAlike = Object.entries(before).every(([key, count]) => after[/** @type {keyof Counts} */ (key)] === count);
+    const isAlike = COUNTS.every((key) => before[key] === after[key]);
     const isNear =
       text !== null &&
       OF_A_TEXT.has(name) &&
@@ -249,8 +260,8 @@ export class Commands {
   }
 
   /**
-   * Counts an entry of the history. Where that is full, the oldest goes with each that comes, and an entry is known
-   * by what it changed.
+   * Counts an entry of the history. Where that is full, the oldest goes with each that comes, and an
+   * entry is known by what it changed.
    * @param {string} name
    * @param {Counts} before
    * @param {Counts} after
@@ -366,7 +377,8 @@ export class Commands {
     if (!selection) {
       return null;
     }
-    const [anchor, focus] = [selection.anchor, selection.focus].map((point) => this.#view.place(point));
+    const anchor = this.#view.place(selection.anchor);
+    const focus = this.#view.place(selection.focus);
     const range = new Range();
     range.setStart(anchor.node, anchor.offset);
     return range.comparePoint(focus.node, focus.offset) < 0 ? [focus, anchor] : [anchor, focus];
@@ -388,7 +400,10 @@ export class Commands {
     return this.#keepOut(() => this.exec("insertText", plain(text)));
   }
 
-  /** Deletes what is selected over blocks of two kinds, and the style that what is typed would get of it. */
+  /**
+   * Deletes what is selected over blocks of two kinds, and the style that what is typed would get of
+   * it.
+   */
   #forgetStyles() {
     const ends = this.#isCaret() ? null : this.#ends();
     const blocks = ends?.map(({ node }) => this.#view.blockOf(node).nodeName);
@@ -443,7 +458,8 @@ export class Commands {
   }
 
   /**
-   * Puts a text in place of a part of a text, as the browser did by itself, and the caret where that has it.
+   * Puts a text in place of a part of a text, as the browser did by itself, and the caret where that
+   * has it.
    * @param {Text} text
    * @param {{ start: number, end: number, put: string }} change
    * @param {number | null} caret in the new text
@@ -485,11 +501,11 @@ export class Commands {
    */
   #style() {
     const link = elementOf(this.#focus()?.node ?? this.#view.element).closest("a[href]");
-    const own = (/** @type {string[]} */ names) => names.filter((name) => !(link && OF_LINKS.has(name)));
+    const isOwn = (/** @type {string} */ name) => !(link && OF_LINKS.has(name));
     return {
       block: this.#editor.value("formatBlock"),
-      states: own(TOGGLES).map((name) => [name, this.#editor.state(name)]),
-      values: own(VALUES).map((name) => [name, this.#editor.value(name)]),
+      states: TOGGLES.filter(isOwn).map((name) => [name, this.#editor.state(name)]),
+      values: VALUES.filter(isOwn).map((name) => [name, this.#editor.value(name)]),
     };
   }
 
@@ -633,7 +649,9 @@ export class Commands {
     return null;
   }
 
-  /** The item that the caret is at the start of, where it follows another one without a list in it. */
+  /**
+   * The item that the caret is at the start of, where it follows another one without a list in it.
+   */
   #itemToJoin() {
     let { node, offset } = /** @type {NodePlace} */ (this.#focus());
     while (isStart({ node, offset }) && node !== this.#view.element) {

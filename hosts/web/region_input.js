@@ -1,8 +1,12 @@
-/** What the inputs of a browser ask for, for region.js: kinds of `beforeinput` as commands of the engine. */
+/**
+ * What the inputs of a browser ask for, for region.js: kinds of `beforeinput` as commands of the
+ * engine.
+ */
 
 /**
- * What an input asks for: a command, a text in place of what is selected or of the range that the input names,
- * or to delete that. `isAimed` says that the range of its own is meant, whatever is selected.
+ * What an input asks for: a command, a text in place of what is selected or of the range that the
+ * input names, or to delete that. `isAimed` says that the range of its own is meant, whatever is
+ * selected.
  * @typedef {{ act: "command", command: string, value: string }
  *   | { act: "insert", text: string, isAimed: boolean }
  *   | { act: "delete", by: "backward" | "forward" | "range", isAimed: boolean }} Meaning
@@ -92,7 +96,8 @@ function extentOf(kind) {
 }
 
 /**
- * What a key asks for: undo or redo, of which a browser says nothing where it has nothing to undo itself.
+ * What a key asks for: undo or redo, of which a browser says nothing where it has nothing to undo
+ * itself.
  * @param {KeyboardEvent} event
  */
 export function historyKey(event) {

@@ -1,6 +1,7 @@
 /**
- * The nodes of a page that show those of an editor, for region.js: a node for each label. Here is also
- * all that converts the offsets of the page, in UTF-16 units, and those of the engine, in characters.
+ * The nodes of a page that show those of an editor, for region.js: a node for each label. Here is
+ * also all that converts the offsets of the page, in UTF-16 units, and those of the engine, in
+ * characters.
  */
 import { NodeKind, toCharacters, toUnits } from "./hedit.js";
 
@@ -28,8 +29,8 @@ const ADDRESSES = new Set([
 const BLOCKS = new Set(
   (
     "address article aside blockquote body caption center dd details dialog dir div dl dt fieldset " +
-    "figcaption figure footer form h1 h2 h3 h4 h5 h6 header hgroup hr legend li listing main menu nav " +
-    "ol optgroup option p pre search section summary table tbody td tfoot th thead tr ul"
+    "figcaption figure footer form h1 h2 h3 h4 h5 h6 header hgroup hr legend li listing main menu " +
+    "nav ol optgroup option p pre search section summary table tbody td tfoot th thead tr ul"
   ).split(" "),
 );
 
@@ -125,8 +126,8 @@ function isInside(text, at) {
 }
 
 /**
- * What of a text gives way to what, in units: `end` is in the old text. What is alike up to the end is
- * taken first, but no more than the last `tail` units of the new text.
+ * What of a text gives way to what, in units: `end` is in the old text. What is alike up to the end
+ * is taken first, but no more than the last `tail` units of the new text.
  * @param {string} old
  * @param {string} text
  * @param {number} tail
@@ -148,8 +149,8 @@ export function difference(old, text, tail = Math.min(old.length, text.length)) 
 }
 
 /**
- * Scrolls an element so that what stands between two heights shows, if it can be scrolled, and says how
- * far.
+ * Scrolls an element so that what stands between two heights shows, if it can be scrolled, and says
+ * how far.
  * @param {Element} element
  * @param {number} top
  * @param {number} bottom
@@ -230,8 +231,8 @@ export class View {
   }
 
   /**
-   * The label of the innermost node of the view that is a node of the page or that it stands in; undefined
-   * where it stands elsewhere.
+   * The label of the innermost node of the view that is a node of the page or that it stands in;
+   * undefined where it stands elsewhere.
    * @param {Node} node
    */
   nearest(node) {
@@ -254,8 +255,8 @@ export class View {
   }
 
   /**
-   * The engine's point of a place in the page; null where it isn't in the element. A place in a node that shows
-   * none of the engine's is just before it.
+   * The engine's point of a place in the page; null where it isn't in the element. A place in a node
+   * that shows none of the engine's is just before it.
    * @param {Node | null} node
    * @param {number} offset
    * @returns {Point | null}
@@ -292,8 +293,8 @@ export class View {
   }
 
   /**
-   * A caret between blocks, put into the block behind it, or at the end into the one before it: that is where
-   * a browser shows it.
+   * A caret between blocks, put into the block behind it, or at the end into the one before it: that
+   * is where a browser shows it.
    * @param {Selection} caret
    * @returns {Selection}
    */
