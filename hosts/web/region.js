@@ -72,6 +72,14 @@ function isHost(element) {
 }
 
 /**
+ * Whether an event is of a field in the region, which the browser edits.
+ * @param {Event} event
+ */
+function isOfControl({ target }) {
+  return target instanceof HTMLInputElement || target instanceof HTMLSelectElement;
+}
+
+/**
  * The editor of what an element is to hold, and the label of the node whose children are the
  * element's.
  * @param {Engine} engine
@@ -359,7 +367,8 @@ export class Region extends EventTarget {
       compositionend: () => this.#composed(),
     };
     for (const [kind, call] of Object.entries(answers)) {
-      this.#element.addEventListener(kind, (event) => this.#answer(() => call(event)), { signal });
+      const answer = (/** @type {Event} */ event) => isOfControl(event) || this.#answer(() => call(event));
+      this.#element.addEventListener(kind, answer, { signal });
     }
     this.#observer.observe(this.#element, {
       attributes: true,
@@ -759,8 +768,10 @@ export class Region extends EventTarget {
     const page = this.#element.ownerDocument;
     const selection = page.getSelection();
     const active = page.activeElement;
-    const isHere = [active, selection?.anchorNode ?? null].some((node) => this.#element.contains(node));
-    if (!engine || !selection || !(always || isHere)) {
+    const around = [active, selection?.anchorNode ?? null];
+    const isHere = around.some((node) => this.#element.contains(node));
+    const isShown = !always && isSame(engine, this.#pageSelection());
+    if (!engine || !selection || isShown || !(always || isHere)) {
       return;
     }
     const [anchor, focus] = [engine.anchor, engine.focus].map((point) => this.#view.place(point));

@@ -106,7 +106,8 @@ describe("a region", { skip: missing() }, () => {
         const range = new Range();
         range.setStart(node, units);
         const [rect] = range.getClientRects();
-        const { left, top, height } = rect ?? (node.childNodes[units] ?? node).getBoundingClientRect();
+        const child = node.childNodes[units] ?? node;
+        const { left, top, height } = rect ?? child.getBoundingClientRect();
         return { x: left + 1, y: top + height / 2 };
       },
       path,
@@ -205,6 +206,13 @@ describe("a region", { skip: missing() }, () => {
       await page.click("#host");
       await type("x");
       await agrees();
+    });
+
+    it("may be fast", async () => {
+      await open("<p>ab</p><p>cd</p>");
+      await click([0, 0], 1);
+      await page.type("one\ntwo three\nfour");
+      await shows("<p>aone</p><p>two three</p><p>fourb</p><p>cd</p>");
     });
 
     it("keeps blanks", async () => {
@@ -535,6 +543,18 @@ describe("a region", { skip: missing() }, () => {
       await press("Enter");
       await press("Backspace");
       assert.match(await agrees(), /<div contenteditable="false"><p>Ada<\/p><\/div>$/);
+    });
+
+    it("leave their fields to the browser", async () => {
+      const field = '<input type="text">';
+      await open(`<p>ac<span contenteditable="false">${field}</span></p>`);
+      await click([0, 0], 1);
+      await type("b");
+      await page.click("#host input");
+      await page.type("xy");
+      await press("Backspace");
+      assert.equal(await page.evaluate(() => document.querySelector("#host input").value), "x");
+      await shows(`<p>abc<span contenteditable="false">${field}</span></p>`);
     });
 
     it("stand around hosts in a whole page", async () => {
