@@ -75,7 +75,7 @@ function isHost(element) {
  * Whether an event is of a field in the region, which the browser edits.
  * @param {Event} event
  */
-function isOfControl({ target }) {
+function isOfField({ target }) {
   return target instanceof HTMLInputElement || target instanceof HTMLSelectElement;
 }
 
@@ -264,12 +264,12 @@ export class Region extends EventTarget {
 
   /** Takes a step back. False where there is none. */
   undo() {
-    return this.#turn(this.#steps, this.#undone, () => this.#editor.undo());
+    return this.#act(() => this.#turn(this.#steps, this.#undone, () => this.#editor.undo()));
   }
 
   /** Takes a step forth again. False where there is none. */
   redo() {
-    return this.#turn(this.#undone, this.#steps, () => this.#editor.redo());
+    return this.#act(() => this.#turn(this.#undone, this.#steps, () => this.#editor.redo()));
   }
 
   /**
@@ -367,7 +367,11 @@ export class Region extends EventTarget {
       compositionend: () => this.#composed(),
     };
     for (const [kind, call] of Object.entries(answers)) {
-      const answer = (/** @type {Event} */ event) => isOfControl(event) || this.#answer(() => call(event));
+      const answer = (/** @type {Event} */ event) => {
+        if (!isOfField(event)) {
+          this.#answer(() => call(event));
+        }
+      };
       this.#element.addEventListener(kind, answer, { signal });
     }
     this.#observer.observe(this.#element, {
@@ -684,13 +688,11 @@ export class Region extends EventTarget {
    * @param {() => boolean} call
    */
   #turn(steps, others, call) {
-    return this.#act(() => {
-      const turned = this.#commands.turn(steps.pop() ?? 1, call);
-      if (turned > 0) {
-        others.push(turned);
-      }
-      return turned > 0;
-    });
+    const turned = this.#commands.turn(steps.pop() ?? 1, call);
+    if (turned > 0) {
+      others.push(turned);
+    }
+    return turned > 0;
   }
 
   /**

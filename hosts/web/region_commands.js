@@ -3,7 +3,7 @@
  * a region does beside what a command does, so that users of browsers find what they know.
  */
 import { HeditError, toCharacters } from "./hedit.js";
-import { isBlock, isCaret, isCharacters, isSame, isText } from "./region_view.js";
+import { isBlock, isCaret, isCharacters, isText } from "./region_view.js";
 
 /** @typedef {import("./hedit.js").Counts} Counts */
 /** @typedef {import("./hedit.js").Editor} Editor */
@@ -470,7 +470,7 @@ export class Commands {
     if (!anchor || !focus) {
       return false;
     }
-    if (!isSame({ anchor, focus }, this.#editor.selection())) {
+    if (start !== end || !this.#isAt(text, start)) {
       this.select({ anchor, focus });
     }
     const isDone = put === "" ? this.exec("delete") : this.exec("insertText", plain(put));
@@ -479,6 +479,21 @@ export class Commands {
       this.#put(text, caret);
     }
     return isDone;
+  }
+
+  /**
+   * Whether the caret is in a text at an offset, or beside it there.
+   * @param {Text} text
+   * @param {number} at
+   */
+  #isAt(text, at) {
+    const place = this.#isCaret() ? this.#focus() : null;
+    if (!place || place.node === text) {
+      return place?.offset === at;
+    }
+    const { childNodes } = place.node;
+    const isBefore = at === 0 && childNodes[place.offset] === text;
+    return isBefore || (at === text.length && childNodes[place.offset - 1] === text);
   }
 
   // Enter.

@@ -336,11 +336,16 @@ export class View {
   }
 
   /**
-   * The same for the block that a node stands in alone.
+   * The same for the block alone that a node stands in: one that its style makes no line of the block around
+   * it.
    * @param {number} label
    */
   followBlock(label) {
-    return this.follow(this.label(this.blockOf(/** @type {Node} */ (this.#nodes.get(label)))));
+    let block = this.blockOf(/** @type {Node} */ (this.#nodes.get(label)));
+    while (block !== this.#element && /** @type {HTMLElement} */ (block).style.display !== "") {
+      block = this.blockOf(/** @type {Node} */ (block.parentNode));
+    }
+    return this.follow(this.label(block));
   }
 
   /**
