@@ -1,0 +1,570 @@
+/**
+ * A mail composer over the engine: index.html has its controls, region.js is the editor behind the message, and this file
+ * joins them.
+ */
+import { HeditError, load } from "./hedit.js";
+import { Region } from "./region.js";
+import { dropDraft, fileName, keepDraft, keptDraft, messageOf } from "./composer_draft.js";
+import { addressOf, coloured, countWords, counted, hexOf } from "./composer_text.js";
+import { startTheme } from "./composer_theme.js";
+import {
+  Menu,
+  Shortcuts,
+  Toolbar,
+  isDisabled,
+  onPopup,
+  setEnabled,
+  setPressed,
+  showTips,
+} from "./composer_toolbar.js";
+
+/** A new message: a line to write in, and a signature that is locked. */
+const NEW_MESSAGE =
+  '<p><br></p><div class="signature" contenteditable="false"><p><b>Ada Lovelace</b><br>' +
+  "Analytical Engines, 12 St James’s Square, London</p></div>";
+
+/** The colours to choose from. A mail is read on light and on dark: text can be read on both. */
+const PALETTES = {
+  foreColor: [
+    ["Automatic", "#000000"],
+    ["Grey", "#747a85"],
+    ["Red", "#d33d3d"],
+    ["Orange", "#bd6500"],
+    ["Green", "#2a8745"],
+    ["Teal", "#1b818c"],
+    ["Blue", "#3b73d9"],
+    ["Purple", "#9457c9"],
+  ],
+  hiliteColor: [
+    ["None", "transparent"],
+    ["Grey", "#dfe3e8"],
+    ["Red", "#ffd3d0"],
+    ["Orange", "#ffdfb0"],
+    ["Yellow", "#fff1a1"],
+    ["Green", "#cdf0cb"],
+    ["Blue", "#cfe3ff"],
+    ["Purple", "#ead7fb"],
+  ],
+};
+
+/** What is shown of a value that no item of the menu has. */
+const OTHER_VALUE = {
+  formatBlock: (/** @type {string} */ value) => (value ? `Block: ${value}` : "Text"),
+  fontSize: (/** @type {string} */ value) => (value ? `Size ${value}` : "Sizes"),
+};
+
+/** How long after a change the words are counted and the draft is kept, in milliseconds. */
+const PAUSE = 300;
+
+/** How long typing has to rest before a screen reader says how many words there are. */
+const SPOKEN_PAUSE = 2500;
+
+/** How long it is said that something couldn't be done. */
+const SAID_PAUSE = 4000;
+
+/**
+ * The element of index.html with an id.
+ * @param {string} id
+ * @returns {any}
+ */
+const part = (id) => document.getElementById(id);
+
+/**
+ * A call that is made once things rest for a while after it was asked for.
+ * @param {() => void} call
+ * @param {number} pause
+ */
+function rested(call, pause) {
+  let waiting = 0;
+  return () => {
+    clearTimeout(waiting);
+    waiting = setTimeout(call, pause);
+  };
+}
+
+/** Shows as selected what was, while a panel has the focus. */
+function markSelected() {
+  const selection = /** @type {Selection} */ (document.getSelection());
+  if (selection.rangeCount > 0) {
+    CSS.highlights?.set("selected", new Highlight(selection.getRangeAt(0).cloneRange()));
+  }
+}
+
+function unmarkSelected() {
+  CSS.highlights?.delete("selected");
+}
+
+/**
+ * Puts the colours to choose from into a menu.
+ * @param {HTMLElement} menu
+ * @param {readonly string[][]} colours
+ */
+function fillPalette(menu, colours) {
+  for (const [name, value] of colours) {
+    const item = document.createElement("button");
+    item.type = "button";
+    item.dataset.value = value;
+    item.setAttribute("role", "menuitemradio");
+    item.setAttribute("aria-label", name);
+    item.style.setProperty("--swatch", value === "#000000" ? "currentColor" : value);
+    menu.append(item);
+  }
+}
+
+/** The composer of the page. */
+class Composer {
+  #engine;
+
+  /** @type {Region} */
+  #region;
+
+  #toolbar = new Toolbar(part("toolbar"));
+
+  /** The menus, each with its button, by their commands. */
+  #menus = new Map();
+
+  /** Whether the controls are to be refreshed with the next frame. */
+  #isStale = false;
+
+  /**
+   * The link around the caret when the panel for links was opened.
+   * @type {Element | null}
+   */
+  #linked = null;
+
+  #countSoon = rested(() => this.#count(), PAUSE);
+
+  #keepSoon = rested(() => this.#keep(), PAUSE);
+
+  #showSourceSoon = rested(() => this.#showSource(), PAUSE);
+
+  #sayCountSoon = rested(() => {
+    part("spoken").textContent = part("count").textContent;
+  }, SPOKEN_PAUSE);
+
+  #fallSilentSoon = rested(() => {
+    part("said").textContent = "";
+  }, SAID_PAUSE);
+
+  /** @param {Awaited<ReturnType<typeof load>>} engine */
+  constructor(engine) {
+    this.#engine = engine;
+    this.#startToolbar();
+    this.#startMenus();
+    this.#startLink();
+    this.#startImage();
+    this.#startKeys();
+    this.#startFrame();
+    this.#startSource();
+    showTips(part("tip"), ".tool[aria-label], .palette > button");
+    const draft = keptDraft();
+    this.#fill(draft?.to ?? "", draft?.subject ?? "", draft?.html ?? NEW_MESSAGE);
+    (draft ? this.#region : part("to")).focus();
+  }
+
+  // The message.
+
+  /**
+   * @param {string} to
+   * @param {string} subject
+   * @param {string} html
+   */
+  #fill(to, subject, html) {
+    part("to").value = to;
+    part("subject").value = subject;
+    this.#region?.close();
+    this.#region = this.#opened(html);
+    this.#region.addEventListener("statechange", () => this.#refreshSoon());
+    this.#region.addEventListener("change", () => this.#changed());
+    this.#region.addEventListener("error", (/** @type {ErrorEvent} */ event) => {
+      this.#say(`That wasn’t done: ${event.message}`);
+    });
+    this.#showSubject();
+    this.#count();
+    this.#refreshSoon();
+  }
+
+  /**
+   * The region with a message, or with a new one where it is none, as a draft that doesn't read back.
+   * @param {string} html
+   */
+  #opened(html) {
+    try {
+      return new Region(this.#engine, part("message"), { html });
+    } catch (error) {
+      if (!(error instanceof HeditError) || html === NEW_MESSAGE) {
+        throw error;
+      }
+      this.#say("The draft couldn’t be read");
+      return this.#opened(NEW_MESSAGE);
+    }
+  }
+
+  #changed() {
+    this.#refreshSoon();
+    this.#keepSoon();
+    this.#showSourceSoon();
+    if (part("paper").matches(".is-empty")) {
+      this.#count();
+    } else {
+      this.#countSoon();
+    }
+  }
+
+  /**
+   * Lets the region act, and says where it can't. Then the focus is in the message again, but for one
+   * who goes through the toolbar with the keyboard.
+   * @param {(region: Region) => boolean} act
+   */
+  #act(act) {
+    const focused = /** @type {HTMLElement} */ (document.activeElement);
+    try {
+      if (!act(this.#region)) {
+        this.#say("That isn’t possible here");
+      }
+    } catch (error) {
+      if (!(error instanceof HeditError)) {
+        throw error;
+      }
+      this.#say(`That wasn’t done: ${error.message}`);
+    }
+    if (this.#toolbar.has(focused)) {
+      focused.focus();
+    } else {
+      this.#region.focus();
+    }
+  }
+
+  /** @param {string} words */
+  #say(words) {
+    part("said").textContent = words;
+    this.#fallSilentSoon();
+  }
+
+  /** Counts what is written, which the locked parts aren't. */
+  #count() {
+    const message = part("message");
+    const [all, ...locked] = [message, ...message.querySelectorAll('[contenteditable="false"]')].map(
+      (element) => element.innerText,
+    );
+    const written = (/** @type {(text: string) => number} */ measure) =>
+      locked.reduce((rest, text) => rest - measure(text), measure(all));
+    const characters = written((text) => [...text.replaceAll("\n", "")].length);
+    part("count").textContent =
+      `${counted(written(countWords), "word")}, ${counted(characters, "character")}`;
+    const isEmpty = characters === 0 && !message.querySelector("img, hr, li, blockquote");
+    part("paper").classList.toggle("is-empty", isEmpty);
+    this.#sayCountSoon();
+  }
+
+  // The toolbar.
+
+  #startToolbar() {
+    const toolbar = part("toolbar");
+    toolbar.addEventListener("click", (/** @type {MouseEvent} */ event) => {
+      const control = /** @type {Element} */ (event.target).closest("button");
+      if (!control || isDisabled(control)) {
+        event.preventDefault();
+        return;
+      }
+      const { command } = control.dataset;
+      if (control === part("quote-button")) {
+        this.#act((region) => this.#quote(region));
+      } else if (command) {
+        this.#act((region) => region.exec(command));
+      }
+    });
+    toolbar.addEventListener("keydown", (/** @type {KeyboardEvent} */ event) => {
+      if (event.key === "Escape") {
+        this.#region.focus();
+      }
+    });
+  }
+
+  /** @param {Region} region */
+  #quote(region) {
+    return this.#around("blockquote") ? region.exec("outdent") : region.exec("formatBlock", "blockquote");
+  }
+
+  #startMenus() {
+    for (const element of document.querySelectorAll(".menu")) {
+      const menu = /** @type {HTMLElement} */ (element);
+      const command = /** @type {string} */ (menu.dataset.command);
+      if (command in PALETTES) {
+        fillPalette(menu, PALETTES[command]);
+      }
+      const button = document.querySelector(`[popovertarget="${menu.id}"]`);
+      const choices = new Menu(menu, ({ dataset }) => {
+        this.#act((region) => region.exec(command, dataset.value));
+      });
+      this.#menus.set(command, { choices, button });
+    }
+  }
+
+  #refreshSoon() {
+    if (!this.#isStale) {
+      this.#isStale = true;
+      requestAnimationFrame(() => {
+        this.#isStale = false;
+        this.#refresh();
+      });
+    }
+  }
+
+  /** Shows in each control what holds where the caret is. */
+  #refresh() {
+    const region = this.#region;
+    for (const control of part("toolbar").querySelectorAll("[data-command]")) {
+      const { command } = control.dataset;
+      setEnabled(control, region.enabled(command));
+      if (control.hasAttribute("aria-pressed")) {
+        setPressed(control, region.indeterm(command) ? "mixed" : region.state(command));
+      }
+    }
+    for (const [command, { choices, button }] of this.#menus) {
+      this.#refreshMenu(command, choices, button);
+    }
+    this.#refreshElements();
+  }
+
+  /**
+   * @param {string} command
+   * @param {Menu} choices
+   * @param {HTMLElement} button
+   */
+  #refreshMenu(command, choices, button) {
+    const value = this.#region.value(command);
+    setEnabled(button, this.#region.enabled(command));
+    if (command in PALETTES) {
+      const colour = hexOf(value);
+      const chosen = choices.show(({ dataset }) => dataset.value === (colour || "transparent"));
+      const isPlain = chosen ? chosen.matches(":first-child") : !colour;
+      button.style.setProperty("--shown", isPlain ? "currentColor" : colour);
+    } else {
+      const chosen = choices.show(({ dataset }) => dataset.value === value);
+      const words = chosen?.textContent ?? OTHER_VALUE[command](value);
+      const isMixed = this.#region.indeterm(command);
+      button.querySelector(".chosen").textContent = isMixed ? "Mixed" : words;
+    }
+  }
+
+  /** Shows whether the caret is in a link or in a quotation. */
+  #refreshElements() {
+    const isEnabled = this.#region.enabled("createLink");
+    const isLink = this.#region.value("createLink") !== "";
+    setEnabled(part("link-button"), isEnabled);
+    setEnabled(part("image-button"), isEnabled);
+    setEnabled(part("unlink-button"), isEnabled && (isLink || this.#region.indeterm("createLink")));
+    setEnabled(part("quote-button"), isEnabled && !this.#around("li"));
+    setPressed(part("link-button"), isLink);
+    setPressed(part("quote-button"), Boolean(this.#around("blockquote")));
+  }
+
+  /**
+   * The element of a kind around the caret, in the message.
+   * @param {string} selector
+   * @returns {Element | null}
+   */
+  #around(selector) {
+    const { anchorNode } = /** @type {Selection} */ (document.getSelection());
+    const element = anchorNode instanceof Element ? anchorNode : anchorNode?.parentElement;
+    const found = element?.closest(selector);
+    return found && part("message").contains(found) ? found : null;
+  }
+
+  // Links and images.
+
+  #startLink() {
+    const panel = part("link-panel");
+    onPopup(panel, () => this.#askForLink(), unmarkSelected);
+    panel.addEventListener("submit", (/** @type {Event} */ event) => {
+      event.preventDefault();
+      const [text, address] = [part("link-text").value, addressOf(part("link-address").value)];
+      panel.hidePopover();
+      this.#act((region) => this.#link(region, text || address, address));
+    });
+    part("link-remove").addEventListener("click", () => {
+      panel.hidePopover();
+      this.#act((region) => region.exec("unlink"));
+    });
+  }
+
+  /** Asks for the address of a link, and for its text where there is only a caret. */
+  #askForLink() {
+    markSelected();
+    const panel = part("link-panel");
+    const address = this.#region.value("createLink");
+    const asksText = address === "" && this.#isCaret();
+    for (const element of panel.querySelectorAll(".for-text")) {
+      element.hidden = !asksText;
+    }
+    part("link-text").value = "";
+    part("link-address").value = address;
+    part("link-remove").hidden = address === "";
+    this.#linked = this.#around("a[href]");
+    part(asksText ? "link-text" : "link-address").select();
+  }
+
+  #isCaret() {
+    const selection = this.#region.editor.selection();
+    const { anchor, focus } = selection ?? {};
+    return anchor?.label === focus?.label && anchor?.offset === focus?.offset;
+  }
+
+  /**
+   * Makes a link of what is selected, or of the link around the caret, or else of a text that it
+   * inserts.
+   * @param {Region} region
+   * @param {string} text
+   * @param {string} address
+   */
+  #link(region, text, address) {
+    if (this.#isCaret()) {
+      if (!this.#linked && !region.exec("insertText", text)) {
+        return false;
+      }
+      const { focusNode, focusOffset } = document.getSelection();
+      if (this.#linked) {
+        document.getSelection().selectAllChildren(this.#linked);
+      } else {
+        document.getSelection().setBaseAndExtent(focusNode, focusOffset - text.length, focusNode, focusOffset);
+      }
+    }
+    return region.exec("createLink", address);
+  }
+
+  #startImage() {
+    const panel = part("image-panel");
+    const file = part("image-file");
+    const insert = (/** @type {string} */ address) => {
+      panel.hidePopover();
+      this.#act((region) => region.exec("insertImage", address));
+    };
+    onPopup(panel, () => {
+      markSelected();
+      panel.reset();
+      part("image-address").focus();
+    }, unmarkSelected);
+    panel.addEventListener("submit", (/** @type {Event} */ event) => {
+      event.preventDefault();
+      insert(addressOf(part("image-address").value));
+    });
+    part("image-choose").addEventListener("click", () => file.click());
+    file.addEventListener("change", () => {
+      const reader = new FileReader();
+      reader.addEventListener("load", () => insert(String(reader.result)));
+      reader.readAsDataURL(file.files[0]);
+    });
+  }
+
+  // What is around the message.
+
+  #startKeys() {
+    const shortcuts = new Shortcuts(
+      (control, target) =>
+        !isDisabled(control) &&
+        (control.closest(".bar") !== null || target.closest("#message, #toolbar") !== null),
+    );
+    document.addEventListener("keydown", (event) => {
+      if (event.altKey && event.key === "F10") {
+        event.preventDefault();
+        this.#toolbar.focus();
+      }
+    });
+    const sheet = part("shortcuts");
+    part("help").addEventListener("click", () => sheet.showModal());
+    shortcuts.fill(part("shortcut-list"));
+  }
+
+  #startFrame() {
+    const question = part("discard-question");
+    part("discard").addEventListener("click", () => question.showModal());
+    question.addEventListener("close", () => {
+      if (question.returnValue === "discard") {
+        dropDraft();
+        this.#fill("", "", NEW_MESSAGE);
+        part("saved").textContent = "";
+      }
+    });
+    part("save").addEventListener("click", () => this.#save());
+    for (const [field, next] of [["to", "subject"], ["subject", "message"]]) {
+      part(field).addEventListener("input", () => {
+        this.#showSubject();
+        this.#keepSoon();
+      });
+      part(field).addEventListener("keydown", (/** @type {KeyboardEvent} */ event) => {
+        if (event.key === "Enter" && !event.isComposing) {
+          event.preventDefault();
+          part(next).focus();
+        }
+      });
+    }
+    part("message").addEventListener("compositionstart", () => {
+      part("paper").classList.remove("is-empty");
+    });
+  }
+
+  #showSubject() {
+    const words = part("subject").value.trim() || "New message";
+    part("title").textContent = words;
+    document.title = words;
+  }
+
+  #keep() {
+    const draft = { to: part("to").value, subject: part("subject").value, html: this.#region.html() };
+    part("saved").textContent = keepDraft(draft) ? "Kept in this browser" : "Not kept: no room";
+  }
+
+  /** Saves the mail as a message that a mail program opens. There its locked parts can be written in. */
+  #save() {
+    const body = part("message").cloneNode(true);
+    for (const element of body.querySelectorAll("[contenteditable]")) {
+      element.removeAttribute("contenteditable");
+    }
+    const subject = part("subject").value;
+    const message = messageOf(part("to").value, subject, body.innerHTML);
+    const link = document.createElement("a");
+    link.href = URL.createObjectURL(new Blob([message], { type: "message/rfc822" }));
+    link.download = fileName(subject);
+    link.click();
+    URL.revokeObjectURL(link.href);
+    this.#say(`Saved as ${link.download}`);
+  }
+
+  #startSource() {
+    const [panel, toggle] = [part("source"), part("source-toggle")];
+    const open = (/** @type {boolean} */ isOpen) => {
+      panel.hidden = !isOpen;
+      toggle.setAttribute("aria-expanded", String(isOpen));
+      this.#showSource();
+    };
+    toggle.addEventListener("click", () => open(panel.hidden));
+    part("source-close").addEventListener("click", () => {
+      open(false);
+      toggle.focus();
+    });
+    part("copy").addEventListener("click", async () => {
+      await navigator.clipboard.writeText(this.#region.html());
+      this.#say("Copied");
+    });
+  }
+
+  #showSource() {
+    if (!part("source").hidden) {
+      part("source-code").replaceChildren(coloured(this.#region.html()));
+    }
+  }
+}
+
+async function start() {
+  startTheme(part("theme"));
+  try {
+    new Composer(await load());
+  } catch (error) {
+    part("trouble").textContent = `The engine can’t run here: ${error.message}`;
+    part("trouble").hidden = false;
+    throw error;
+  }
+}
+
+start();

@@ -1,0 +1,83 @@
+/** Texts that the composer shows, and those that it reads. */
+
+/** The most characters of source that are coloured. */
+const MOST_COLOURED = 100_000;
+
+const WORDS = new Intl.Segmenter(undefined, { granularity: "word" });
+
+/**
+ * How many words a text has, by the rules of the language.
+ * @param {string} text
+ */
+export function countWords(text) {
+  let count = 0;
+  for (const { isWordLike } of WORDS.segment(text)) {
+    count += isWordLike ? 1 : 0;
+  }
+  return count;
+}
+
+/**
+ * A count with its noun.
+ * @param {number} count
+ * @param {string} noun
+ */
+export function counted(count, noun) {
+  return `${count.toLocaleString("en")} ${noun}${count === 1 ? "" : "s"}`;
+}
+
+/**
+ * A colour as `#rrggbb`, from one that the engine answers; the empty text where it can't be seen.
+ * @param {string} colour
+ */
+export function hexOf(colour) {
+  const [red, green, blue, alpha = "1"] = colour.match(/[\d.]+/g) ?? [];
+  if (!colour.startsWith("rgb") || alpha === "0") {
+    return colour.startsWith("#") ? colour : "";
+  }
+  return `#${[red, green, blue].map((part) => Number(part).toString(16).padStart(2, "0")).join("")}`;
+}
+
+/**
+ * An address as a link has it: without a scheme it is one of the web, or of a mailbox.
+ * @param {string} text
+ */
+export function addressOf(text) {
+  const plain = text.trim();
+  if (/^([a-z][a-z0-9+.-]*:|[/#?])/i.test(plain)) {
+    return plain;
+  }
+  return /^[^/]+@[^/]+$/.test(plain) ? `mailto:${plain}` : `https://${plain}`;
+}
+
+/**
+ * HTML with a span around each tag, each value of an attribute, and each reference, where it isn't long. The text stays.
+ * @param {string} html
+ */
+export function coloured(html) {
+  const shown = document.createDocumentFragment();
+  if (html.length > MOST_COLOURED) {
+    shown.append(html);
+    return shown;
+  }
+  const add = (/** @type {string} */ text, /** @type {string} */ kind) => {
+    const span = document.createElement("span");
+    span.className = kind;
+    span.textContent = text;
+    shown.append(span);
+  };
+  for (const [piece] of html.matchAll(/<!--.*?-->|<(?:"[^"]*"|[^">])*>|&\w+;|&#\w+;|[^<&]+|[<&]/gs)) {
+    if (piece.startsWith("<!--")) {
+      add(piece, "comment");
+    } else if (piece.startsWith("<")) {
+      for (const [inner] of piece.matchAll(/"[^"]*"|[^"]+/g)) {
+        add(inner, inner.startsWith('"') ? "value" : "tag");
+      }
+    } else if (piece.startsWith("&")) {
+      add(piece, "reference");
+    } else {
+      shown.append(piece);
+    }
+  }
+  return shown;
+}

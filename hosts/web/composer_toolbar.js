@@ -1,0 +1,327 @@
+/**
+ * What the composer's controls have in common: a toolbar that is one stop of the Tab key, menus and panels that open below
+ * their buttons, shortcuts, and labels that show on hover and on focus. What a control does is the composer's matter.
+ */
+
+/** Whether the primary modifier is the command key, as on a Mac. */
+const IS_APPLE = /^(Mac|iPhone|iPad)/.test(navigator.platform);
+
+/** How keys are shown, where that isn't by their names. */
+const SHOWN_KEYS = IS_APPLE
+  ? { Control: "⌘", Alt: "⌥", Shift: "⇧" }
+  : { Control: "Ctrl" };
+
+/** How far a menu stays from the edges of the window, and from its button, in pixels. */
+const MARGIN = 8;
+
+/** How long the pointer rests on a control before its label shows, in milliseconds. */
+const REST = 450;
+
+/**
+ * What was pressed, as `data-keys` has it. Digits are those of the keyboard, also with Shift.
+ * @param {KeyboardEvent} event
+ */
+function keysOf(event) {
+  const digit = /^Digit(\d)$/.exec(event.code)?.[1];
+  return [
+    (IS_APPLE ? event.metaKey : event.ctrlKey) && "Control",
+    event.altKey && "Alt",
+    event.shiftKey && "Shift",
+    digit ?? event.key.toUpperCase(),
+  ]
+    .filter(Boolean)
+    .join("+");
+}
+
+/**
+ * @param {string} keys
+ * @returns {string[]}
+ */
+function shownKeys(keys) {
+  return keys.split("+").map((key) => SHOWN_KEYS[key] ?? key);
+}
+
+/**
+ * The name of a control.
+ * @param {HTMLElement} control
+ */
+function nameOf(control) {
+  return control.getAttribute("aria-label") ?? control.textContent.trim();
+}
+
+/** @param {HTMLElement} control */
+export function isDisabled(control) {
+  return control.getAttribute("aria-disabled") === "true";
+}
+
+/**
+ * A control that can't be used can still be found with the keyboard.
+ * @param {HTMLElement} control
+ * @param {boolean} enabled
+ */
+export function setEnabled(control, enabled) {
+  control.setAttribute("aria-disabled", String(!enabled));
+}
+
+/**
+ * @param {HTMLElement} control
+ * @param {boolean | "mixed"} pressed
+ */
+export function setPressed(control, pressed) {
+  control.setAttribute("aria-pressed", String(pressed));
+}
+
+/**
+ * Where an arrow key, Home or End leads from a place among so many.
+ * @param {string} key
+ * @param {number} at
+ * @param {number} count
+ * @param {number} columns
+ */
+function moved(key, at, count, columns = 1) {
+  const steps = { ArrowRight: 1, ArrowLeft: -1, ArrowDown: columns, ArrowUp: -columns };
+  const ends = { Home: 0, End: count - 1 };
+  return key in steps ? (at + steps[key] + count) % count : ends[key];
+}
+
+/** A toolbar: the Tab key stops at it once, and the arrow keys lead through it. */
+export class Toolbar {
+  /** @type {HTMLElement[]} */
+  #controls;
+
+  #element;
+
+  /** @param {HTMLElement} element */
+  constructor(element) {
+    this.#element = element;
+    this.#controls = [...element.querySelectorAll("button")];
+    this.#makeStop(this.#controls[0]);
+    element.addEventListener("keydown", (event) => this.#move(event));
+    element.addEventListener("focusin", (event) => this.#makeStop(event.target));
+    // The message keeps the focus, and what is selected in it.
+    element.addEventListener("mousedown", (event) => event.preventDefault());
+  }
+
+  /** Goes to the control that was used last. */
+  focus() {
+    this.#controls.find((control) => control.tabIndex === 0)?.focus();
+  }
+
+  /** @param {Element | null} element */
+  has(element) {
+    return this.#element.contains(element);
+  }
+
+  /** @param {EventTarget | null} stop */
+  #makeStop(stop) {
+    for (const control of this.#controls) {
+      control.tabIndex = control === stop ? 0 : -1;
+    }
+  }
+
+  /** @param {KeyboardEvent} event */
+  #move(event) {
+    if (event.ctrlKey || event.metaKey || event.altKey || /Arrow(Up|Down)/.test(event.key)) {
+      return;
+    }
+    const at = this.#controls.indexOf(/** @type {HTMLElement} */ (event.target));
+    const next = moved(event.key, at, this.#controls.length);
+    if (next !== undefined && at >= 0) {
+      event.preventDefault();
+      this.#controls[next].focus();
+    }
+  }
+}
+
+/**
+ * Puts what pops up below its button, inside the window.
+ * @param {HTMLElement} popup
+ */
+function place(popup) {
+  const button = document.querySelector(`[popovertarget="${popup.id}"]`);
+  const { left, top, bottom } = /** @type {Element} */ (button).getBoundingClientRect();
+  const { offsetWidth: width, offsetHeight: height } = popup;
+  const below = bottom + MARGIN / 2;
+  const fits = below + height + MARGIN <= innerHeight;
+  popup.style.left = `${Math.max(MARGIN, Math.min(left, innerWidth - width - MARGIN))}px`;
+  popup.style.top = `${fits ? below : Math.max(MARGIN, top - height - MARGIN / 2)}px`;
+}
+
+/**
+ * Calls `opened` each time that a menu or a panel opens, once it stands in its place.
+ * @param {HTMLElement} popup
+ * @param {() => void} opened
+ * @param {() => void} closed
+ */
+export function onPopup(popup, opened, closed = () => {}) {
+  const button = /** @type {Element} */ (document.querySelector(`[popovertarget="${popup.id}"]`));
+  popup.addEventListener("toggle", (event) => {
+    const isOpen = /** @type {ToggleEvent} */ (event).newState === "open";
+    button.setAttribute("aria-expanded", String(isOpen));
+    if (isOpen) {
+      place(popup);
+      opened();
+    } else {
+      closed();
+    }
+  });
+  button.setAttribute("aria-expanded", "false");
+}
+
+/** A menu of values of which one is chosen, in one column or in several. */
+export class Menu {
+  #element;
+
+  /** @type {HTMLElement[]} */
+  #items;
+
+  /**
+   * @param {HTMLElement} element
+   * @param {(item: HTMLElement) => void} choose
+   */
+  constructor(element, choose) {
+    this.#element = element;
+    this.#items = [...element.querySelectorAll('[role="menuitemradio"]')];
+    for (const item of this.#items) {
+      item.tabIndex = -1;
+      item.addEventListener("click", () => {
+        element.hidePopover();
+        choose(item);
+      });
+    }
+    element.addEventListener("keydown", (event) => this.#move(event));
+    onPopup(element, () => (this.#chosen() ?? this.#items[0]).focus());
+  }
+
+  /**
+   * Shows a value as chosen, and gives its item, if there is one.
+   * @param {(item: HTMLElement) => boolean} isChosen
+   */
+  show(isChosen) {
+    for (const item of this.#items) {
+      item.setAttribute("aria-checked", String(isChosen(item)));
+    }
+    return this.#chosen();
+  }
+
+  #chosen() {
+    return this.#items.find((item) => item.getAttribute("aria-checked") === "true");
+  }
+
+  /** @param {KeyboardEvent} event */
+  #move(event) {
+    const at = this.#items.indexOf(/** @type {HTMLElement} */ (event.target));
+    const columns = Number(this.#element.dataset.columns ?? 1);
+    const next =
+      event.key.length === 1
+        ? this.#startingWith(event.key, at)
+        : moved(event.key, at, this.#items.length, columns);
+    if (event.key === "Tab") {
+      this.#element.hidePopover();
+    } else if (next !== undefined && next >= 0) {
+      this.#items[next].focus();
+    } else {
+      return;
+    }
+    event.preventDefault();
+  }
+
+  /**
+   * The next item whose name begins with a letter.
+   * @param {string} letter
+   * @param {number} at
+   */
+  #startingWith(letter, at) {
+    const after = [...this.#items.slice(at + 1), ...this.#items.slice(0, at + 1)];
+    const begins = (/** @type {HTMLElement} */ item) =>
+      nameOf(item).toLowerCase().startsWith(letter.toLowerCase());
+    return letter === " " ? undefined : this.#items.indexOf(/** @type {any} */ (after.find(begins)));
+  }
+}
+
+/** The shortcuts of the controls that have `data-keys`. */
+export class Shortcuts {
+  /** @type {Map<string, HTMLElement>} */
+  #controls = new Map();
+
+  /**
+   * @param {(control: HTMLElement, target: Element) => boolean} applies whether a control's keys
+   *   mean it where they were pressed
+   */
+  constructor(applies) {
+    for (const control of document.querySelectorAll("[data-keys]")) {
+      const { keys } = /** @type {HTMLElement} */ (control).dataset;
+      this.#controls.set(keys, /** @type {HTMLElement} */ (control));
+      control.setAttribute("aria-keyshortcuts", IS_APPLE ? keys.replace("Control", "Meta") : keys);
+    }
+    document.addEventListener("keydown", (event) => {
+      const control = this.#controls.get(keysOf(event));
+      // With AltGr a letter is typed that the keyboard has no key for.
+      const isTyped = event.isComposing || event.getModifierState("AltGraph");
+      if (control && !isTyped && !event.defaultPrevented && applies(control, event.target)) {
+        event.preventDefault();
+        control.click();
+      }
+    });
+  }
+
+  /**
+   * A list of names and keys.
+   * @param {HTMLElement} list
+   */
+  fill(list) {
+    const more = [...this.#controls].map(([keys, control]) => [nameOf(control), keys]);
+    for (const [name, keys] of [...more, ["Toolbar", "Alt+F10"], ["Back to the message", "Escape"]]) {
+      const row = document.createElement("div");
+      const term = document.createElement("dt");
+      const detail = document.createElement("dd");
+      term.textContent = name;
+      detail.append(...shownKeys(keys).map((key) => {
+        const shown = document.createElement("kbd");
+        shown.textContent = key;
+        return shown;
+      }));
+      row.append(term, detail);
+      list.append(row);
+    }
+  }
+}
+
+/**
+ * Shows the name and the keys of each control of a kind while the pointer rests on it, and while the
+ * keyboard has led to it.
+ * @param {HTMLElement} tip
+ * @param {string} selector
+ */
+export function showTips(tip, selector) {
+  let waiting = 0;
+  const hide = () => {
+    clearTimeout(waiting);
+    tip.hidePopover();
+  };
+  const show = (/** @type {HTMLElement} */ control) => {
+    const { keys } = control.dataset;
+    const shown = document.createElement("kbd");
+    shown.textContent = keys ? shownKeys(keys).join(IS_APPLE ? "" : "+") : "";
+    tip.replaceChildren(nameOf(control), ...(keys ? [shown] : []));
+    tip.showPopover();
+    const { left, width, bottom, top } = control.getBoundingClientRect();
+    const middle = left + width / 2 - tip.offsetWidth / 2;
+    const below = bottom + MARGIN;
+    const fits = below + tip.offsetHeight <= innerHeight;
+    tip.style.left = `${Math.max(MARGIN, Math.min(middle, innerWidth - tip.offsetWidth - MARGIN))}px`;
+    tip.style.top = `${fits ? below : top - tip.offsetHeight - MARGIN}px`;
+  };
+  for (const control of /** @type {NodeListOf<HTMLElement>} */ (document.querySelectorAll(selector))) {
+    control.addEventListener("pointerenter", (event) => {
+      clearTimeout(waiting);
+      if (event.pointerType === "mouse") {
+        waiting = setTimeout(() => show(control), REST);
+      }
+    });
+    control.addEventListener("focus", () => control.matches(":focus-visible") && show(control));
+    for (const end of ["pointerleave", "pointerdown", "blur", "keydown", "click"]) {
+      control.addEventListener(end, hide);
+    }
+  }
+}

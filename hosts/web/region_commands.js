@@ -1,0 +1,735 @@
+/**
+ * What the user of a region does, as commands of the engine, for region.js. Here are the habits: what
+ * a region does beside what a command does, so that users of browsers find what they know.
+ */
+import { HeditError, toCharacters } from "./hedit.js";
+import { isBlock, isCaret, isCharacters, isText } from "./region_view.js";
+
+/** @typedef {import("./hedit.js").Counts} Counts */
+/** @typedef {import("./hedit.js").Editor} Editor */
+/** @typedef {import("./hedit.js").Selection} Selection */
+/** @typedef {import("./region_view.js").View} View */
+
+/**
+ * Each can be switched off by `false`. docs/FOR_MAKERS.md, "Where browsers do something else", has a
+ * session for most of them.
+ * @typedef {object} Habits
+ * @property {boolean} keepStyle Enter goes on in the style of the text before it, within blocks of
+ *   one kind
+ * @property {boolean} keepSpaces a space that Enter leaves at the end or at the start of a line
+ *   becomes U+00A0, so that it shows, and is still there when the lines are joined
+ * @property {boolean} keepAlignment `formatBlock` keeps the alignment
+ * @property {boolean} quoteByIndent `formatBlock` with `blockquote` indents
+ * @property {boolean} hiliteAtCaret `backColor` at a caret colours what is typed, as `hiliteColor`
+ *   does
+ * @property {boolean} indentSublists `indent` takes the lists in an item along
+ * @property {boolean} deleteIntoLinks Backspace behind a link takes its last character, and not the
+ *   link
+ * @property {boolean} joinItems Backspace at the start of an item joins it with the one before at
+ *   once
+ * @property {boolean} leaveLinks what is typed at the end of a link stands behind it
+ * @property {boolean} plainAcrossBlocks what is typed over blocks of two kinds has no style of theirs
+ * @property {boolean} wholeClusters Backspace and Delete take what a user sees as one character: a
+ *   flag, an emoji of several, a letter with its accents
+ * @property {boolean} leaveLocked a caret that a command leaves in a locked part goes back to where
+ *   it was
+ */
+
+/** @type {Readonly<Habits>} */
+export const HABITS = Object.freeze({
+  keepStyle: true,
+  keepSpaces: true,
+  keepAlignment: true,
+  quoteByIndent: true,
+  hiliteAtCaret: true,
+  indentSublists: true,
+  deleteIntoLinks: true,
+  joinItems: true,
+  leaveLinks: true,
+  plainAcrossBlocks: true,
+  wholeClusters: true,
+  leaveLocked: true,
+});
+
+/** @typedef {{ node: Node, offset: number }} NodePlace */
+
+/** @typedef {{ block: string, states: [string, boolean][], values: [string, string][] }} Style */
+
+const CLUSTERS = new Intl.Segmenter(undefined, { granularity: "grapheme" });
+
+const NO_BREAK_SPACE = "\u00a0";
+
+const TOGGLES = ["bold", "italic", "underline", "strikethrough", "subscript", "superscript"];
+
+const VALUES = ["fontName", "fontSize", "foreColor", "hiliteColor"];
+
+/** What a link has by itself. */
+const OF_LINKS = new Set(["underline", "foreColor"]);
+
+/** The commands for the values of alignment. */
+const ALIGNMENTS = new Map([
+  ["left", "justifyLeft"],
+  ["center", "justifyCenter"],
+  ["right", "justifyRight"],
+  ["justify", "justifyFull"],
+]);
+
+/** @type {readonly (keyof Counts)[]} */
+const COUNTS = ["nodes", "nextLabel", "chars", "edits", "undo", "redo"];
+
+/** Commands that change one text, mostly. */
+const OF_A_TEXT = new Set(["inserttext", "delete"]);
+
+/**
+ * A text as `insertText` takes it: its lines end with a line feed, and half of a surrogate pair is
+ * replaced.
+ * @param {string} text
+ */
+function plain(text) {
+  const lines = text.replace(/\r\n?/g, "\n").replaceAll("\0", "");
+  return lines.replace(/\p{Surrogate}/gu, "\ufffd");
+}
+
+/** @param {Node} node */
+function indexOf(node) {
+  let index = 0;
+  for (let at = node.previousSibling; at; at = at.previousSibling) {
+    index += 1;
+  }
+  return index;
+}
+
+/** @param {Node} node */
+function elementOf(node) {
+  return node instanceof HTMLElement ? node : /** @type {HTMLElement} */ (node.parentElement);
+}
+
+/**
+ * Whether a node shows nothing, and stands in no one's way.
+ * @param {Node | null} node
+ */
+function isEmpty(node) {
+  return node !== null && isCharacters(node) && (!isText(node) || node.length === 0);
+}
+
+/**
+ * Whether a place is a start of its node.
+ * @param {NodePlace} place
+ */
+function isStart({ node, offset }) {
+  return isText(node) ? offset === 0 : [...node.childNodes].slice(0, offset).every(isEmpty);
+}
+
+/**
+ * Whether a place is an end of its node.
+ * @param {NodePlace} place
+ */
+function isEnd({ node, offset }) {
+  return isText(node) ? offset === node.length : [...node.childNodes].slice(offset).every(isEmpty);
+}
+
+/**
+ * Whether blanks at the ends of its lines aren't shown.
+ * @param {Text} text
+ */
+function isCollapsing(text) {
+  return /^(normal|nowrap|pre-line)$/.test(getComputedStyle(elementOf(text)).whiteSpace);
+}
+
+/**
+ * The last node of all below a node, or it itself.
+ * @param {Node} node
+ */
+function lastLeaf(node) {
+  let at = node;
+  while (at.lastChild) {
+    at = at.lastChild;
+  }
+  return at;
+}
+
+/**
+ * The last node without children before a node, in the order of the page; null where there is none
+ * below the root.
+ * @param {Node} node
+ * @param {Node} root
+ */
+function leafBefore(node, root) {
+  let at = node;
+  while (at !== root && !at.previousSibling) {
+    at = /** @type {Node} */ (at.parentNode);
+  }
+  return at === root ? null : lastLeaf(/** @type {Node} */ (at.previousSibling));
+}
+
+/**
+ * The part that can't be edited and that a node stands in, as a whole; null where the node can be
+ * edited, or nothing around the part can.
+ * @param {Node} node
+ * @param {Node} root
+ */
+export function lockedPart(node, root) {
+  let at = elementOf(node);
+  if (at.isContentEditable) {
+    return null;
+  }
+  while (at !== root && !elementOf(/** @type {Node} */ (at.parentNode)).isContentEditable) {
+    at = elementOf(/** @type {Node} */ (at.parentNode));
+  }
+  return at === root ? null : at;
+}
+
+/** The commands of an editor whose nodes a view shows. */
+export class Commands {
+  #editor;
+
+  #view;
+
+  #habits;
+
+  #denied;
+
+  #undoDepth;
+
+  /** Whether the next `insertText` goes on with the last entry of the history. */
+  #isTyping = false;
+
+  /** What came of the commands. */
+  #done = { entries: 0, isChanged: false };
+
+  /**
+   * @param {Editor} editor
+   * @param {View} view
+   * @param {Habits} habits
+   * @param {readonly string[]} denied
+   * @param {number} undoDepth
+   */
+  constructor(editor, view, habits, denied, undoDepth) {
+    this.#editor = editor;
+    this.#view = view;
+    this.#habits = habits;
+    this.#denied = denied;
+    this.#undoDepth = undoDepth;
+  }
+
+  /**
+   * What came of the commands since this was last asked: entries of the history, and something to
+   * see.
+   */
+  take() {
+    const done = this.#done;
+    this.#done = { entries: 0, isChanged: false };
+    return done;
+  }
+
+  /**
+   * Executes a command of the engine, and shows what it did.
+   * @param {string} name
+   * @param {string} value
+   */
+  exec(name, value = "") {
+    const [before, text] = [this.#editor.counts(), this.#textAtCaret()];
+    const isDone = this.#editor.exec(name, value, this.#denied);
+    if (isDone) {
+      this.#follow(name.toLowerCase(), before, text);
+    }
+    return isDone;
+  }
+
+  /**
+   * @param {string} name
+   * @param {Counts} before
+   * @param {number | null} text
+   */
+  #follow(name, before, text) {
+    const after = this.#editor.counts();
+    const isFull = before.undo === this.#undoDepth;
+    const isAlike = COUNTS.every((key) => before[key] === after[key]);
+    const isNear =
+      text !== null &&
+      OF_A_TEXT.has(name) &&
+      text === this.#textAtCaret() &&
+      before.nodes === after.nodes &&
+      before.nextLabel === after.nextLabel;
+    let isChanged = false;
+    if (isFull || !isAlike) {
+      isChanged = isNear ? this.#view.followBlock(text) : this.#view.follow();
+    }
+    this.#note(name, before, after, isChanged || !isAlike);
+    this.#done.isChanged ||= isChanged;
+  }
+
+  /**
+   * Counts an entry of the history. Where that is full, the oldest goes with each that comes, and an
+   * entry is known by what it changed.
+   * @param {string} name
+   * @param {Counts} before
+   * @param {Counts} after
+   * @param {boolean} isEdited
+   */
+  #note(name, before, after, isEdited) {
+    const isText = name === "inserttext";
+    const isFull = before.undo === this.#undoDepth;
+    const isNew = after.undo > before.undo || (isFull && isEdited && !(isText && this.#isTyping));
+    this.#done.entries += Number(isNew);
+    this.#isTyping = isText && (this.#isTyping || isEdited);
+  }
+
+  /** The label of the text that the caret is in; null where it is in none. */
+  #textAtCaret() {
+    const selection = this.#editor.selection();
+    const isIn = isCaret(selection) && isText(this.#view.node(selection.focus.label) ?? null);
+    return isIn ? selection.focus.label : null;
+  }
+
+  /** @param {Selection} selection */
+  select({ anchor, focus }) {
+    this.#editor.select(anchor, focus);
+    this.#isTyping = false;
+  }
+
+  /**
+   * Takes steps of the history, and shows what they did: how many there were, up to a number.
+   * @param {number} most
+   * @param {() => boolean} call
+   */
+  turn(most, call) {
+    this.#isTyping = false;
+    let turned = 0;
+    try {
+      while (turned < most && call()) {
+        turned += 1;
+      }
+    } finally {
+      this.#done.isChanged ||= this.#view.follow();
+    }
+    return turned;
+  }
+
+  /**
+   * Executes a command with the habits.
+   * @param {string} name in lower case
+   * @param {string} value
+   */
+  run(name, value) {
+    switch (name) {
+      case "inserttext":
+        return this.type(value);
+      case "insertparagraph":
+        return this.#insertParagraph();
+      case "delete":
+        return this.deleteBackward();
+      case "formatblock":
+        return this.#formatBlock(value);
+      case "indent":
+        return this.#indent();
+      case "backcolor":
+        return this.exec(this.#habits.hiliteAtCaret && this.#isCaret() ? "hiliteColor" : name, value);
+      default:
+        return this.exec(name, value);
+    }
+  }
+
+  #isCaret() {
+    return isCaret(this.#editor.selection());
+  }
+
+  /**
+   * The place of the selection's focus, which is the caret where there is one.
+   * @returns {NodePlace | null}
+   */
+  #focus() {
+    const selection = this.#editor.selection();
+    return selection && this.#view.place(selection.focus);
+  }
+
+  /**
+   * Puts the caret at a place.
+   * @param {Node} node
+   * @param {number} offset
+   */
+  #put(node, offset) {
+    const point = this.#view.point(node, offset);
+    if (point) {
+      this.select({ anchor: point, focus: point });
+    }
+  }
+
+  /**
+   * Selects a part of a text, in units.
+   * @param {Text} text
+   * @param {number} start
+   * @param {number} end
+   */
+  #selectIn(text, start, end) {
+    const [anchor, focus] = [this.#view.point(text, start), this.#view.point(text, end)];
+    if (anchor && focus) {
+      this.select({ anchor, focus });
+    }
+  }
+
+  /**
+   * The places of the selection's ends, in the order of the page.
+   * @returns {[NodePlace, NodePlace] | null}
+   */
+  #ends() {
+    const selection = this.#editor.selection();
+    if (!selection) {
+      return null;
+    }
+    const anchor = this.#view.place(selection.anchor);
+    const focus = this.#view.place(selection.focus);
+    const range = new Range();
+    range.setStart(anchor.node, anchor.offset);
+    return range.comparePoint(focus.node, focus.offset) < 0 ? [focus, anchor] : [anchor, focus];
+  }
+
+  // Texts.
+
+  /**
+   * Types a text in place of the selection.
+   * @param {string} text
+   */
+  type(text) {
+    if (this.#habits.plainAcrossBlocks) {
+      this.#forgetStyles();
+    }
+    if (this.#habits.leaveLinks) {
+      this.#leaveLink();
+    }
+    return this.#keepOut(() => this.exec("insertText", plain(text)));
+  }
+
+  /**
+   * Deletes what is selected over blocks of two kinds, and the style that what is typed would get of
+   * it.
+   */
+  #forgetStyles() {
+    const ends = this.#isCaret() ? null : this.#ends();
+    const blocks = ends?.map(({ node }) => this.#view.blockOf(node).nodeName);
+    if (blocks && blocks[0] !== blocks[1] && this.exec("delete")) {
+      this.select(/** @type {Selection} */ (this.#editor.selection()));
+    }
+  }
+
+  /** Puts a caret at the end of a link behind it. */
+  #leaveLink() {
+    const place = this.#isCaret() ? this.#focus() : null;
+    const link = place && isText(place.node) ? place.node.parentElement?.closest("a[href]") : null;
+    if (!place || !link || link === this.#view.element) {
+      return;
+    }
+    let { node, offset } = place;
+    while (node !== link && isEnd({ node, offset })) {
+      offset = indexOf(node) + 1;
+      node = /** @type {Node} */ (node.parentNode);
+    }
+    if (node === link && isEnd({ node, offset })) {
+      const style = this.#style();
+      this.#put(/** @type {Node} */ (link.parentNode), indexOf(link) + 1);
+      this.#carry(style);
+    }
+  }
+
+  /**
+   * Does what may leave the caret in a locked part, and puts it back if it does.
+   * @param {() => boolean} call
+   */
+  #keepOut(call) {
+    const before = this.#editor.selection();
+    const isDone = call();
+    if (isDone && before && this.#habits.leaveLocked && !this.#editor.enabled("delete")) {
+      this.#leaveLocked(before);
+    }
+    return isDone;
+  }
+
+  /** @param {Selection} before */
+  #leaveLocked(before) {
+    const part = lockedPart(/** @type {NodePlace} */ (this.#focus()).node, this.#view.element);
+    try {
+      this.select(before);
+    } catch (error) {
+      if (!(error instanceof HeditError) || !part) {
+        throw error;
+      }
+      this.#put(/** @type {Node} */ (part.parentNode), indexOf(part));
+    }
+  }
+
+  /**
+   * Puts a text in place of a part of a text, as the browser did by itself, and the caret where that
+   * has it.
+   * @param {Text} text
+   * @param {{ start: number, end: number, put: string }} change
+   * @param {number | null} caret in the new text
+   */
+  replace(text, { start, end, put }, caret) {
+    const whole = text.data.slice(0, start) + put + text.data.slice(end);
+    const [anchor, focus] = [this.#view.point(text, start), this.#view.point(text, end)];
+    if (!anchor || !focus) {
+      return false;
+    }
+    if (start !== end || !this.#isAt(text, start)) {
+      this.select({ anchor, focus });
+    }
+    const isDone = put === "" ? this.exec("delete") : this.exec("insertText", plain(put));
+    const now = this.#focus();
+    if (caret !== null && text.data === whole && !(now?.node === text && now.offset === caret)) {
+      this.#put(text, caret);
+    }
+    return isDone;
+  }
+
+  /**
+   * Whether the caret is in a text at an offset, or beside it there.
+   * @param {Text} text
+   * @param {number} at
+   */
+  #isAt(text, at) {
+    const place = this.#isCaret() ? this.#focus() : null;
+    if (!place || place.node === text) {
+      return place?.offset === at;
+    }
+    const { childNodes } = place.node;
+    const isBefore = at === 0 && childNodes[place.offset] === text;
+    return isBefore || (at === text.length && childNodes[place.offset - 1] === text);
+  }
+
+  // Enter.
+
+  #insertParagraph() {
+    const style = this.#habits.keepStyle && this.#isCaret() ? this.#style() : null;
+    const isDone = this.exec("insertParagraph");
+    if (isDone && this.#habits.keepSpaces) {
+      this.#keepSpaces();
+    }
+    if (isDone && style && this.#editor.value("formatBlock") === style.block) {
+      this.#carry(style);
+    }
+    return isDone;
+  }
+
+  /**
+   * The states and values at the selection, but for what a link there has by itself.
+   * @returns {Style}
+   */
+  #style() {
+    const link = elementOf(this.#focus()?.node ?? this.#view.element).closest("a[href]");
+    const isOwn = (/** @type {string} */ name) => !(link && OF_LINKS.has(name));
+    return {
+      block: this.#editor.value("formatBlock"),
+      states: TOGGLES.filter(isOwn).map((name) => [name, this.#editor.state(name)]),
+      values: VALUES.filter(isOwn).map((name) => [name, this.#editor.value(name)]),
+    };
+  }
+
+  /**
+   * Gives the caret a style.
+   * @param {Style} style
+   */
+  #carry({ states, values }) {
+    for (const [name, state] of states) {
+      if (this.#editor.state(name) !== state) {
+        this.exec(name);
+      }
+    }
+    for (const [name, value] of values) {
+      if (value !== "" && this.#editor.value(name) !== value) {
+        this.exec(name, value);
+      }
+    }
+  }
+
+  /** Makes spaces visible that stand before and behind the start of the caret's block. */
+  #keepSpaces() {
+    const selection = /** @type {Selection} */ (this.#editor.selection());
+    const block = this.#view.blockOf(this.#view.place(selection.focus).node);
+    const last = leafBefore(block, this.#view.element);
+    let first = block;
+    while (first.firstChild) {
+      first = first.firstChild;
+    }
+    const isKept = [
+      isText(first) && first.data.startsWith(" ") && this.#keepSpace(first, 0),
+      isText(last) && last.data.endsWith(" ") && this.#keepSpace(last, last.length - 1),
+    ];
+    if (isKept.some(Boolean)) {
+      this.select(selection);
+    }
+  }
+
+  /**
+   * @param {Text} text
+   * @param {number} at
+   */
+  #keepSpace(text, at) {
+    if (!isCollapsing(text) || !elementOf(text).isContentEditable) {
+      return false;
+    }
+    this.#selectIn(text, at, at + 1);
+    return this.exec("insertText", NO_BREAK_SPACE);
+  }
+
+  // Backspace and Delete.
+
+  /** Deletes what is selected. */
+  deleteSelection() {
+    return this.#keepOut(() => this.exec("delete"));
+  }
+
+  /** Deletes what is selected, or at a caret what stands before it. */
+  deleteBackward() {
+    if (!this.#isCaret()) {
+      return this.deleteSelection();
+    }
+    if (this.#habits.deleteIntoLinks) {
+      this.#enterLink();
+    }
+    if (this.#habits.wholeClusters && this.#selectClusterBefore()) {
+      return this.deleteSelection();
+    }
+    const item = this.#habits.joinItems ? this.#itemToJoin() : null;
+    const isDone = this.deleteSelection();
+    if (isDone && item && this.#view.label(item) === undefined && this.#isCaret()) {
+      this.deleteSelection();
+    }
+    return isDone;
+  }
+
+  /** Puts a caret behind a link at the end of the link's text. */
+  #enterLink() {
+    let { node, offset } = /** @type {NodePlace} */ (this.#focus());
+    while (isStart({ node, offset }) && node !== this.#view.element && !isBlock(node)) {
+      offset = indexOf(node);
+      node = /** @type {Node} */ (node.parentNode);
+    }
+    if (isCharacters(node)) {
+      return;
+    }
+    /** @type {Node | null} */
+    let child = node.childNodes[offset - 1] ?? null;
+    let isLink = false;
+    while (child && !isBlock(child) && !isText(child)) {
+      isLink ||= child instanceof HTMLAnchorElement && child.isContentEditable;
+      child = child.lastChild;
+      while (child?.previousSibling && isEmpty(child)) {
+        child = child.previousSibling;
+      }
+    }
+    if (isLink && isText(child) && child.length > 0) {
+      this.#put(child, child.length);
+    }
+  }
+
+  /** Selects what a user sees as one character before the caret, where it is several characters. */
+  #selectClusterBefore() {
+    const text = this.#textBefore();
+    if (!text) {
+      return false;
+    }
+    const { segment, index } = /** @type {Intl.SegmentData} */ (
+      CLUSTERS.segment(text.node.data).containing(text.offset - 1)
+    );
+    if (toCharacters(segment, segment.length) < 2) {
+      return false;
+    }
+    this.#selectIn(text.node, index, index + segment.length);
+    return true;
+  }
+
+  /**
+   * The text before the caret in its line, and the offset that the caret has in it.
+   * @returns {{ node: Text, offset: number } | null}
+   */
+  #textBefore() {
+    const { node, offset } = /** @type {NodePlace} */ (this.#focus());
+    if (isText(node) && offset > 0) {
+      return { node, offset };
+    }
+    const block = this.#view.blockOf(node);
+    const walker = document.createTreeWalker(block);
+    const child = isCharacters(node) ? null : node.childNodes[offset - 1];
+    const leaf = child ? lastLeaf(child) : null;
+    walker.currentNode = leaf ?? node;
+    for (let at = leaf ?? walker.previousNode(); at && at !== block; at = walker.previousNode()) {
+      if (isText(at) && at.length > 0) {
+        const isInLine = this.#view.blockOf(at) === block && elementOf(at).isContentEditable;
+        return isInLine ? { node: at, offset: at.length } : null;
+      }
+      if (at instanceof Element && (at.childNodes.length === 0 || isBlock(at))) {
+        return null;
+      }
+    }
+    return null;
+  }
+
+  /**
+   * The item that the caret is at the start of, where it follows another one without a list in it.
+   */
+  #itemToJoin() {
+    let { node, offset } = /** @type {NodePlace} */ (this.#focus());
+    while (isStart({ node, offset }) && node !== this.#view.element) {
+      if (node instanceof HTMLLIElement) {
+        const before = node.previousElementSibling;
+        return before instanceof HTMLLIElement && !before.querySelector("ul, ol") ? node : null;
+      }
+      offset = indexOf(node);
+      node = /** @type {Node} */ (node.parentNode);
+    }
+    return null;
+  }
+
+  /** Selects what a user sees as one character behind a caret in a text. */
+  selectClusterBehind() {
+    const place = this.#isCaret() ? this.#focus() : null;
+    if (!place || !isText(place.node) || place.offset === place.node.length) {
+      return false;
+    }
+    const { node, offset } = place;
+    const { segment } = /** @type {Intl.SegmentData} */ (
+      CLUSTERS.segment(node.data.slice(offset)).containing(0)
+    );
+    const [first] = segment;
+    const length = this.#habits.wholeClusters ? segment.length : first.length;
+    this.#selectIn(node, offset, offset + length);
+    return true;
+  }
+
+  // Blocks.
+
+  /** @param {string} value */
+  #formatBlock(value) {
+    const name = value.toLowerCase().replace(/^<(.*)>$/, "$1");
+    if (this.#habits.quoteByIndent && name === "blockquote") {
+      return this.exec("indent");
+    }
+    const alignment = this.#editor.value("justifyLeft");
+    const align = ALIGNMENTS.get(alignment);
+    const isKept = this.#habits.keepAlignment && align && !this.#editor.indeterm(align);
+    const isDone = this.exec("formatBlock", value);
+    if (isDone && isKept && this.#editor.value("justifyLeft") !== alignment) {
+      this.exec(align);
+    }
+    return isDone;
+  }
+
+  #indent() {
+    const selection = this.#editor.selection();
+    const ends = this.#habits.indentSublists ? this.#ends() : null;
+    const item = ends && elementOf(ends[1].node).closest("li");
+    const list = item?.querySelector("ul, ol");
+    if (!selection || !ends || !item || !list || !this.#view.element.contains(item)) {
+      return this.exec("indent");
+    }
+    const last = lastLeaf(item);
+    const anchor = this.#view.point(ends[0].node, ends[0].offset);
+    const focus = this.#view.point(last, isText(last) ? last.length : 0);
+    if (anchor && focus) {
+      this.select({ anchor, focus });
+    }
+    const isDone = this.exec("indent");
+    this.select(selection);
+    return isDone;
+  }
+}
