@@ -1,4 +1,4 @@
-//! Edits of a document, and the nodes of trees that come.
+//! Edits of a document, by the labels of its nodes.
 
 use dom_model::{Attributes, Chars, Content, Items};
 
@@ -11,7 +11,7 @@ pub struct TreeNode {
     pub content: Content,
 }
 
-/// An edit of the document, by the labels of its nodes.
+/// An edit of the document. It names no node outside the document, but those that it brings.
 #[derive(Drop)]
 pub enum DocumentEdit {
     /// The tree of a node goes.
