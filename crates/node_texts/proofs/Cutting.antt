@@ -32,13 +32,14 @@ there_below f (Inside p) l h =
 
 -- ---- at a node
 
+-- past the end nothing is shown
+pub shown_over : {S : Type 0} (enter leave : S → ℕ → Content → S) (start end : Limit) (g : Forest Content) → is_over end ≡ true → (s : S) → walked enter leave (between start end g) s ≡ s
+shown_over enter leave start end Nil over s = refl
+shown_over enter leave start end (Tree l c ks rest) over s = rw over refl
+
 module _ {S : Type 0} (enter leave : S → ℕ → Content → S) (f : Forest Content) (distinct : IsDistinct f) (l : ℕ) (c : Content) (there : 0 < count_of f l) (content : content_of f l ≡ Some c) (v : Visit f l c) (start end : Limit) (here : Option ℕ) (at : here ≡ Some l) where
   here_is : onward_at f here ≡ Tree l c (onward_at f (first_of f l)) (onward_at f (next_of f l))
   here_is = ap (onward_at f) at ∙ v.is
-
-  -- nothing more
-  pub shown_over : is_over end ≡ true → (s : S) → walked enter leave (between start end (onward_at f here)) s ≡ s
-  shown_over over s = rw (here_is, over) refl
 
   -- what comes after it
   pub shown_ahead : is_over end ≡ false → is_ahead start (tree_of f l) ≡ true → (right : Option ℕ) → right ≡ next_of f l → (s whole : S)

@@ -1,10 +1,13 @@
 //! The plain text of a node.
 
 ghost use Rattle.std.specs.Prelude.{◌≡◌, ◌<◌, ◌^◌, ◌++◌, ◌||◌, OnOk, IfOk};
-ghost use Rattle.node_texts.specs.PlainText.{own_text, is_line_start, with_text, plain_text};
+ghost use Rattle.node_texts.specs.PlainText.{own_text, is_line_start, with_text, plain_text, range_text};
+ghost use Rattle.dom_model.specs.Forest.{count_of};
 
+use crate::between::{PartVisitor, chars_part, walk_range};
 use crate::walk::{Visitor, walk};
 use dom_model::Content;
+use live_range::Point;
 use node_arena::{NodeRef, Nodes};
 use node_styles::{is_block_content, is_element_named};
 use std::alloc::{AllocError, Global};
@@ -42,6 +45,30 @@ impl Visitor for PlainText {
         self.is_at_edge |= is_block_content(content);
         Ok(())
     }
+}
+
+impl PartVisitor for PlainText {
+    ghost use Rattle.std.proofs.Common.{ap};
+    ghost use Rattle.node_texts.specs.Parts.{is_block_content-part_of};
+    ghost use Rattle.node_texts.specs.PlainText.{with_edge};
+
+    #[tactic(auto, unfolding(crate::specs::Between::part_of, crate::specs::PlainText::own_text))]
+    fn enter_part(
+        &mut self,
+        _label: u32,
+        content: &Content,
+        from: u32,
+        to: Option<u32>,
+    ) -> Result<(), AllocError> {
+        self.is_at_edge |= is_block_content(content);
+        match content {
+            Content::Words(chars) => self.push(chars_part(chars.as_slice(), from, to)),
+            _ => self.push(own_text(content)),
+        }
+    }
+
+    ghost leaves_parts = { λ plain l from to content.
+        ap (λ is_edge. with_edge plain is_edge) (is_block_content-part_of from to content) };
 }
 
 impl PlainText {
@@ -100,5 +127,24 @@ pub fn plain_text<N: Nodes>(
         is_at_edge: false,
     };
     walk(nodes, node, &mut plain)?;
+    Ok(plain.chars)
+}
+
+/// The plain text of the contents of a range, as `plain_text` has it of a node. Its calls go as deep
+/// as the tree.
+pub fn range_text<N: Nodes>(
+    alloc: Global,
+    nodes: &N,
+    range: (Point, Point),
+) -> Result<Vec<char>, AllocError>
+    requires start { 0 < count_of (N.trees nodes.now) range.0.label }
+    requires end { 0 < count_of (N.trees nodes.now) range.1.label }
+    ensures { IfOk result (λ chars. chars.items ≡ range_text (N.trees nodes.now) range.0 range.1) }
+{
+    let mut plain = PlainText {
+        chars: Vec::new(alloc),
+        is_at_edge: false,
+    };
+    walk_range(nodes, range, &mut plain)?;
     Ok(plain.chars)
 }
