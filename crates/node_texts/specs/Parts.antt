@@ -6,18 +6,18 @@ use Rattle.node_styles.specs.Blocks.{is_block_content}
 use Rattle.page_write.specs.Html.{closing}
 use Rattle.node_texts.specs.Between.{part_of}
 
-pub closing-part_of : (from : ℕ) (to : Option ℕ) (c : Content)
+pub closing_of_part : (from : ℕ) (to : Option ℕ) (c : Content)
     → closing (part_of from to c) ≡ closing c
 unfolding part_of
-closing-part_of from to Document = refl
-closing-part_of from to (Element name list) = refl
-closing-part_of from to (Words chars) = refl
-closing-part_of from to (Remark chars) = refl
+closing_of_part from to Document = refl
+closing_of_part from to (Element name list) = refl
+closing_of_part from to (Words chars) = refl
+closing_of_part from to (Remark chars) = refl
 
-pub is_block_content-part_of : (from : ℕ) (to : Option ℕ) (c : Content)
+pub block_of_part : (from : ℕ) (to : Option ℕ) (c : Content)
     → is_block_content (part_of from to c) ≡ is_block_content c
 unfolding part_of is_block_content
-is_block_content-part_of from to Document = refl
-is_block_content-part_of from to (Element name list) = refl
-is_block_content-part_of from to (Words chars) = refl
-is_block_content-part_of from to (Remark chars) = refl
+block_of_part from to Document = refl
+block_of_part from to (Element name list) = refl
+block_of_part from to (Words chars) = refl
+block_of_part from to (Remark chars) = refl

@@ -244,5 +244,6 @@ pub(crate) fn walk_range<N: Nodes, V: PartVisitor>(
         return Ok(());
     }
     let child = nodes.first_child(top);
-    walk_between(nodes, child, start.below(label), end.below(label), visitor)
+    walk_between(nodes, child, start.below(label), end.below(label), visitor)?;
+    Ok(())
 }

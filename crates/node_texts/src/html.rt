@@ -46,7 +46,7 @@ impl Visitor for Writer {
 
 impl PartVisitor for Writer {
     ghost use Rattle.std.proofs.Common.{ap};
-    ghost use Rattle.node_texts.specs.Parts.{closing-part_of};
+    ghost use Rattle.node_texts.specs.Parts.{closing_of_part};
 
     #[tactic(auto, unfolding(crate::specs::Between::part_of))]
     fn enter_part(
@@ -65,7 +65,7 @@ impl PartVisitor for Writer {
     }
 
     ghost leaves_parts = { λ bytes l from to content.
-        ap (λ end. bytes ++ end) (closing-part_of from to content) };
+        ap (λ end. bytes ++ end) (closing_of_part from to content) };
 }
 
 fn push_text_char(bytes: &mut Vec<u8>, c: char) -> Result<(), AllocError>

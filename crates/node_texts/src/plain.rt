@@ -1,6 +1,7 @@
 //! The plain text of a node.
 
 ghost use Rattle.std.specs.Prelude.{◌≡◌, ◌<◌, ◌^◌, ◌++◌, ◌||◌, OnOk, IfOk};
+ghost use Rattle.node_texts.specs.Between.{part_of};
 ghost use Rattle.node_texts.specs.PlainText.{own_text, is_line_start, with_text, plain_text, range_text};
 ghost use Rattle.dom_model.specs.Forest.{count_of};
 
@@ -49,10 +50,10 @@ impl Visitor for PlainText {
 
 impl PartVisitor for PlainText {
     ghost use Rattle.std.proofs.Common.{ap};
-    ghost use Rattle.node_texts.specs.Parts.{is_block_content-part_of};
+    ghost use Rattle.node_texts.specs.Parts.{block_of_part};
     ghost use Rattle.node_texts.specs.PlainText.{with_edge};
 
-    #[tactic(auto, unfolding(crate::specs::Between::part_of, crate::specs::PlainText::own_text))]
+    #[tactic(auto, using(crate::specs::Parts::block_of_part))]
     fn enter_part(
         &mut self,
         _label: u32,
@@ -61,14 +62,11 @@ impl PartVisitor for PlainText {
         to: Option<u32>,
     ) -> Result<(), AllocError> {
         self.is_at_edge |= is_block_content(content);
-        match content {
-            Content::Words(chars) => self.push(chars_part(chars.as_slice(), from, to)),
-            _ => self.push(own_text(content)),
-        }
+        self.push(part_text(content, from, to))
     }
 
     ghost leaves_parts = { λ plain l from to content.
-        ap (λ is_edge. with_edge plain is_edge) (is_block_content-part_of from to content) };
+        ap (λ is_edge. with_edge plain is_edge) (block_of_part from to content) };
 }
 
 impl PlainText {
@@ -107,6 +105,18 @@ fn own_text(content: &Content) -> &[char]
         Content::Words(chars) => chars.as_slice(),
         _ if is_element_named(content, b"br") => &['\n'],
         _ => &[],
+    }
+}
+
+// The same of a part of a text or a comment.
+#[tactic(auto, unfolding(crate::specs::PlainText::own_text, crate::specs::Between::part_of, node_styles::specs::OwnStyles::is_named))]
+fn part_text(content: &Content, from: u32, to: Option<u32>) -> &[char]
+    ensures { result.now ≡ own_text (part_of from to content.now) }
+{
+    match content {
+        Content::Words(chars) => chars_part(chars.as_slice(), from, to),
+        Content::Document | Content::Remark(_) => &[],
+        Content::Element { .. } => own_text(content),
     }
 }
 
