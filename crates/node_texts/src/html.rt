@@ -135,11 +135,7 @@ fn push_closing(bytes: &mut Vec<u8>, content: &Content) -> Result<(), AllocError
 
 /// The HTML of a node with all that stands below it, in UTF-8; that of the document is the HTML of
 /// its children. Its calls go as deep as the tree.
-pub fn node_html<N: Nodes>(
-    alloc: Global,
-    nodes: &N,
-    node: NodeRef,
-) -> Result<Vec<u8>, AllocError>
+pub fn node_html<N: Nodes>(alloc: Global, nodes: &N, node: NodeRef) -> Result<Vec<u8>, AllocError>
     requires { N.holds nodes.now node }
     ensures { IfOk result (λ bytes. bytes.items ≡ node_html (N.trees nodes.now) node.label) }
 {

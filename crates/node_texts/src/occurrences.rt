@@ -33,7 +33,12 @@ impl<'a> Visitor for Finder<'a> {
 
     fn enter(&mut self, label: u32, content: &Content) -> Result<(), AllocError> {
         match content {
-            Content::Words(chars) => push_points(&mut self.points, self.wanted, label, chars.as_slice()),
+            Content::Words(chars) => push_points(
+                &mut self.points,
+                self.wanted,
+                label,
+                chars.as_slice(),
+            ),
             _ => Ok(()),
         }
     }

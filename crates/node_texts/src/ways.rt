@@ -8,11 +8,7 @@ use node_arena::{NodeRef, Nodes};
 use std::alloc::{AllocError, Global};
 
 /// The path to a node of the document: the index of a child in each node on the way.
-pub fn path_of<N: Nodes>(
-    alloc: Global,
-    nodes: &N,
-    node: NodeRef,
-) -> Result<Vec<u32>, AllocError>
+pub fn path_of<N: Nodes>(alloc: Global, nodes: &N, node: NodeRef) -> Result<Vec<u32>, AllocError>
     requires held { N.holds nodes.now node }
     requires inner { IsWithin (N.trees nodes.now) 0 node.label }
     ensures path { IfOk result (λ path. path_of (N.trees nodes.now) node.label ≡ Some path.items) }

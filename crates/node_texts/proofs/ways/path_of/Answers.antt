@@ -25,8 +25,8 @@ loop-parent-preserved g c =
       held = c.in-Some.ensures.held;
       inner = parent_inside c.valid.ensures at c.in-Some.parent.label up i.inner;
       way = λ above is.
-      i.way (above ++ (index_of f at ∷ [])) (path_below c.valid.ensures at c.in-Some.parent.label up i.inner above is)
-      ∙ ap Some (append_assoc above (index_of f at ∷ []) (reverse c.loop-parent.path.items) ∙ ap (λ xs. above ++ xs) (sym noted));
+          i.way (above ++ (index_of f at ∷ [])) (path_below c.valid.ensures at c.in-Some.parent.label up i.inner above is)
+          ∙ ap Some (append_assoc above (index_of f at ∷ []) (reverse c.loop-parent.path.items) ∙ ap (λ xs. above ++ xs) (sym noted));
     }
 
 -- the path that was noted from its end on
