@@ -1,6 +1,7 @@
 mod acts;
 mod applying;
 mod arenas;
+mod extracts;
 mod faults;
 mod lines;
 mod logs;

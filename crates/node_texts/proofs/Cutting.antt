@@ -1,5 +1,5 @@
 -- What a walk between two limits shows at a node.
-use Rattle.std.proofs.Common.{◌≡◌, ℕ, ◌<◌, true, false, Option, Some, None, refl, sym, ap, ◌∙◌, inl, inr}
+use Rattle.std.proofs.Common.{◌≡◌, ℕ, ◌<◌, true, false, Option, Some, refl, sym, ap, ◌∙◌, inl, inr}
 use Rattle.std.proofs.lemmas.Bool.Decides.{eqb_tells}
 use Rattle.dom_model.specs.declared.Content.{Content}
 use Rattle.dom_model.specs.Forest.{Forest, count_of, content_of, first_of, next_of, tree_of, IsDistinct}
@@ -8,7 +8,7 @@ use Rattle.node_paths.specs.Onward.{onward_at}
 use Rattle.node_paths.proofs.Visiting.{Visit}
 use Rattle.node_texts.specs.declared.between.Limit.{Limit}
 use Rattle.node_texts.specs.declared.between.Limit.TheVariants.{Open, Past, Inside}
-use Rattle.node_texts.specs.Between.{is_over, is_ahead, stands_in, passed, below, lower, upper, part_of, content_between, between, IsThere}
+use Rattle.node_texts.specs.Between.{is_over, is_ahead, stands_in, passed, below, content_between, between, IsThere}
 use Rattle.node_texts.specs.Walk.{walked}
 use Rattle.node_texts.proofs.Visiting.{tree_led}
 

@@ -1,5 +1,5 @@
 -- The innermost node that holds two points, and the contents of their range.
-use Rattle.std.proofs.Common.{◌≡◌, ℕ, ◌<◌, true, false, List, [], ◌∷◌, Option, Some, None, refl, sym, ap, ◌∙◌}
+use Rattle.std.proofs.Common.{◌≡◌, ℕ, ◌<◌, true, false, List, [], ◌∷◌, Option, Some, None, refl, ap, ◌∙◌}
 use Rattle.dom_model.specs.declared.Content.{Content}
 use Rattle.dom_model.specs.Contents.{has_chars}
 use Rattle.dom_model.specs.Forest.{Forest, count_of, content_of, parent_of, first_of, tree_of, IsDistinct}

@@ -1,5 +1,4 @@
-use Rattle.std.proofs.Common.{◌≡◌, ◌<◌, true, false, ap, sym, ◌∙◌, arith}
-use Rattle.dom_model.specs.Forest.{tree_of}
+use Rattle.std.proofs.Common.{◌<◌, ap, sym, ◌∙◌, arith}
 use Rattle.node_arena.specs.Held.{label}
 use Rattle.node_paths.specs.Onward.{onward_at}
 use Rattle.node_paths.proofs.Visiting.{size_from}

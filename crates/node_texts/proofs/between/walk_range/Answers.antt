@@ -1,4 +1,4 @@
-use Rattle.std.proofs.Common.{◌≡◌, true, false, sym, ap, ◌∙◌}
+use Rattle.std.proofs.Common.{◌≡◌, sym, ap, ◌∙◌}
 use Rattle.node_arena.specs.Held.{label}
 use Rattle.node_texts.specs.declared.between.Limit.TheVariants.{Inside}
 use Rattle.node_texts.specs.Between as cut

@@ -1,4 +1,4 @@
-use Rattle.std.proofs.Common.{◌≡◌, ◌++◌, ap, ◌∙◌}
+use Rattle.std.proofs.Common.{◌++◌, ap, ◌∙◌}
 use Rattle.page_write.specs.Html.{html_of}
 use Rattle.node_texts.specs.Between.{range_contents}
 use Rattle.node_texts.specs.NodeHtml.{range_html}

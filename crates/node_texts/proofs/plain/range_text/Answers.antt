@@ -1,4 +1,4 @@
-use Rattle.std.proofs.Common.{◌≡◌, false, List, ℕ, ap, ◌∙◌}
+use Rattle.std.proofs.Common.{false, List, ℕ, ap, ◌∙◌}
 use Rattle.node_texts.specs.Between.{range_contents}
 use Rattle.node_texts.specs.PlainText.{Plain, text_of, range_text, text_entered, text_left}
 use Rattle.node_texts.specs.Walk.{walked}
