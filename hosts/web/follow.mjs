@@ -10,7 +10,7 @@ import { readFile } from "node:fs/promises";
 import { argv, exit, stdin, stdout } from "node:process";
 import { text as textOf } from "node:stream/consumers";
 import { fileURLToPath } from "node:url";
-import { NodeKind, load, toUnits } from "./hedit.js";
+import { NodeKind, load, toUnits } from "hedit";
 
 const VOID = new Set(
   "area base br col embed hr img input link meta source track wbr".split(" "),
