@@ -307,6 +307,16 @@ typedef struct hedit_selection_facts {
  * HEDIT_CLOSED. */
 uint32_t hedit_selection(hedit_editor *editor, hedit_selection_facts *facts);
 
+/* Give the HTML and the plain text of what is selected, for the clipboard: what stands between the two
+ * points, whichever comes first. The HTML has the children of the innermost node that holds both
+ * points, from the one to the other, as DOM's cloneContents gives them; an element in which a point
+ * stands has its tags. HEDIT_DONE, HEDIT_NO where nothing is selected, HEDIT_TOO_SMALL,
+ * HEDIT_MEMORY, HEDIT_CLOSED. */
+uint32_t hedit_selection_html(hedit_editor *editor, uint8_t *buffer, size_t capacity,
+                              size_t *length);
+uint32_t hedit_selection_text(hedit_editor *editor, uint8_t *buffer, size_t capacity,
+                              size_t *length);
+
 /* The numbers of a document and of its history. */
 typedef struct hedit_number_facts {
     uint32_t nodes;      /* of the document */

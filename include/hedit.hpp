@@ -421,6 +421,22 @@ class Editor {
         return Selection{{facts.anchor, facts.anchor_offset}, {facts.focus, facts.focus_offset}};
     }
 
+    /* The HTML and the plain text of what is selected; none where nothing is. */
+    std::optional<std::string> selection_html() {
+        return read_text(
+            [&](std::uint8_t *buffer, std::size_t capacity, std::size_t *length) {
+                return hedit_selection_html(&handle_, buffer, capacity, length);
+            },
+            4096);
+    }
+    std::optional<std::string> selection_text() {
+        return read_text(
+            [&](std::uint8_t *buffer, std::size_t capacity, std::size_t *length) {
+                return hedit_selection_text(&handle_, buffer, capacity, length);
+            },
+            4096);
+    }
+
     /* The label of the node at a path. */
     Label label_at(const std::vector<std::uint32_t> &path) {
         Label label = 0;

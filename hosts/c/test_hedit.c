@@ -205,6 +205,33 @@ static void points(void) {
     hedit_close(&editor);
 }
 
+/* What is selected, in just as much room as its HTML needs. */
+static void selected(void) {
+    static const char html[] = "<i>\xc3\xa9</i>b";
+    hedit_editor editor = opened(NODES);
+    uint8_t buffer[20];
+    size_t length = 7;
+    memset(buffer, '.', sizeof buffer);
+    CHECK(hedit_selection_html(&editor, buffer, sizeof buffer, &length) == HEDIT_NO);
+    CHECK(hedit_selection_text(&editor, buffer, sizeof buffer, &length) == HEDIT_NO);
+    CHECK(holds(buffer, sizeof buffer, ""));
+    CHECK(hedit_select_points(&editor, label_at(&editor, 1, 1, 9), 1, label_at(&editor, 1, 0, 9), 1) ==
+          HEDIT_DONE);
+    CHECK(hedit_selection_text(&editor, buffer, 0, &length) == HEDIT_TOO_SMALL && length == 1);
+    CHECK(hedit_selection_text(&editor, buffer, 1, &length) == HEDIT_DONE && length == 1);
+    CHECK(holds(buffer, sizeof buffer, "b"));
+    hedit_close(&editor);
+    editor = opened("<p><i>\xc3\xa9</i>b</p>");
+    CHECK(hedit_select_points(&editor, label_at(&editor, 0, 9, 9), 0, label_at(&editor, 0, 1, 9), 1) ==
+          HEDIT_DONE);
+    CHECK(hedit_selection_html(&editor, buffer, sizeof html - 2, &length) == HEDIT_TOO_SMALL);
+    CHECK(hedit_selection_html(&editor, buffer, sizeof html - 1, &length) == HEDIT_DONE);
+    CHECK(length == sizeof html - 1 && holds(buffer, sizeof buffer, html));
+    hedit_close(&editor);
+    CHECK(hedit_selection_html(&editor, buffer, sizeof buffer, &length) == HEDIT_CLOSED);
+    CHECK(hedit_selection_text(&editor, buffer, sizeof buffer, &length) == HEDIT_CLOSED);
+}
+
 /* The texts that a node has. */
 enum text { NAME, VALUE, HTML, PLAIN, ATTRIBUTE_NAME, ATTRIBUTE_VALUE };
 
@@ -517,6 +544,7 @@ int main(void) {
     mistakes();
     gates();
     points();
+    selected();
     texts();
     searches();
     nodes();

@@ -105,7 +105,11 @@ static void labels() {
     check(editor.node(text).length == 1 && editor.node(text).kind == HEDIT_TEXT, "a text");
     check(!editor.node(text).first_child && !editor.node(text).next, "a text has no child");
     check(!editor.selection(), "nothing is selected");
+    check(!editor.selection_html() && !editor.selection_text(), "which has no texts");
+    editor.select({{1, 0, 0}, 0}, {{1, 1}, 1});
+    check(editor.selection_text() == "\u00e9b", "the plain text of what is selected");
     editor.select_points({text, 0}, {text, 1});
+    check(editor.selection_html() == "b", "the HTML of what is selected");
     check(editor.points() == "anchor 1/1:0\nfocus 1/1:1\n", "two points are selected");
     editor.exec("bold");
     hedit::Label b = editor.label_at({1, 1});

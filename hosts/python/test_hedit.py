@@ -329,6 +329,31 @@ class Nodes(unittest.TestCase):
         with Editor("<p>a</p><p><br></p><p>b</p><div><div>c</div></div>") as editor:
             self.assertEqual(editor.node_text(0), "a\n\nb\nc")
 
+    def test_what_is_selected_has_html_and_plain_text(self) -> None:
+        page = "<p>one <b>two</b></p><ul><li>three</li><li>four</li></ul>"
+        with Editor(page) as editor:
+            self.assertIsNone(editor.selection_html())
+            self.assertIsNone(editor.selection_text())
+            last = ((1, 1, 0), 2)
+            for points in ((((0, 1, 0), 1), last), (last, ((0, 1, 0), 1))):
+                editor.select(*points)
+                html = "<p><b>wo</b></p><ul><li>three</li><li>fo</li></ul>"
+                self.assertEqual(editor.selection_html(), html)
+                self.assertEqual(editor.selection_text(), "wo\nthree\nfo")
+            editor.select(((0, 0), 1), ((0, 0), 3))
+            self.assertEqual((editor.selection_html(), editor.selection_text()), ("ne", "ne"))
+            editor.select(((1,), 0), ((1,), 1))
+            self.assertEqual(editor.selection_html(), "<li>three</li>")
+            editor.select(((), 0), ((1,), 1))
+            whole = "<p>one <b>two</b></p><ul><li>three</li></ul>"
+            self.assertEqual(editor.selection_html(), whole)
+            self.assertEqual(editor.selection_text(), "one two\nthree")
+            editor.select(((0, 1, 0), 3), ((1, 0), 0))
+            self.assertEqual(editor.selection_html(), "<p><b></b></p><ul><li></li></ul>")
+            for caret in (((0, 0), 1), ((0,), 1), ((), 2)):
+                editor.select(caret)
+                self.assertEqual((editor.selection_html(), editor.selection_text()), ("", ""))
+
     def test_a_text_is_found(self) -> None:
         with Editor("<p>aaaa\u00e9a<b>aa</b></p><!--aa-->") as editor:
             first, second = editor.label_at((0, 0)), editor.label_at((0, 1, 0))
@@ -363,6 +388,8 @@ class Nodes(unittest.TestCase):
             lambda: editor.node_text(0),
             lambda: editor.find("x"),
             editor.selection,
+            editor.selection_html,
+            editor.selection_text,
             editor.counts,
             editor.revision,
             editor.changes,

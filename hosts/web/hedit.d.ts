@@ -268,6 +268,12 @@ export declare class Editor {
   /** The points of the selection; null where nothing is selected. */
   selection(): Selection | null;
 
+  /** The HTML of what is selected, for the clipboard; null where nothing is selected. */
+  selectionHtml(): string | null;
+
+  /** The plain text of what is selected, for the clipboard; null where nothing is selected. */
+  selectionText(): string | null;
+
   /** The label of the node at a path. The document's is 0. */
   labelAt(path: readonly number[]): number;
 

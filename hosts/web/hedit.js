@@ -991,6 +991,22 @@ export class Editor {
   }
 
   /**
+   * The HTML of what is selected, for the clipboard; null where nothing is selected.
+   * @returns {string | null}
+   */
+  selectionHtml() {
+    return this.#text("hedit_selection_html", 4096) ?? null;
+  }
+
+  /**
+   * The plain text of what is selected, for the clipboard; null where nothing is selected.
+   * @returns {string | null}
+   */
+  selectionText() {
+    return this.#text("hedit_selection_text", 4096) ?? null;
+  }
+
+  /**
    * The label of the node at a path. The document's is 0.
    * @param {readonly number[]} path
    */

@@ -2,6 +2,7 @@ mod acts;
 mod applying;
 mod arenas;
 mod edits;
+mod extracts;
 mod faults;
 mod lines;
 mod logs;

@@ -1,7 +1,7 @@
 pub mod Appending
 pub mod Commanding
 pub mod Finding
-pub mod Following
+pub mod Followed
 pub mod Holding
 pub mod Keeping
 pub mod Outcomes

@@ -25,8 +25,8 @@ rest_long es u us n is some = let count : length es ≡ suc (length us) = ap len
 
 -- ---- one way and the other
 
--- the entries that lie one way, and what a turn that way and one back make of the history and of the state: past the first entry, and
--- back to its view on this side
+-- the entries that lie one way, and what a turn that way and one back make of the history and of the state: past the first entry,
+-- and back to its view on this side
 record Ways (there back : Editing → Editing) (ahead : History → List Entry) (view : Entry → View) : Type 0 where
   past : (e : Editing) (u : Entry) (us : List Entry) → ahead e.history ≡ u ∷ us → ahead (there e).history ≡ us
   again : (x e : Editing) (u : Entry) (us : List Entry) → ahead e.history ≡ u ∷ us → x.history ≡ (there e).history → (back x).history ≡ e.history

@@ -71,7 +71,7 @@ undone_within old w false answer within = by_entries old.undo refl
   where
     by_entries : (us : List Entry) → old.undo ≡ us → IsWithin w.last (undone_history_by old.undo old)
     by_entries [] none = subst (λ (es : List Entry). IsWithin w.last (undone_history_by es old)) (sym none) within
-    by_entries (e ∷ es) some = absurd (answer.1 (let n = ap (λ (xs : List Entry). length xs) some in omega (arith, n)))
+    by_entries (e ∷ es) some = absurd (true≢false (sym (answer.1 (let n = ap (λ (xs : List Entry). length xs) some in omega (arith, n)))))
 
 redone_within : (old : History) (w : Following) (taken : Bool) → (IsTrue taken ↔ (0 < length old.redo)) → IsWithin w.last old → IsWithin (after_redo taken w).last (redone_history old)
 unfolding redone_history
@@ -80,7 +80,7 @@ redone_within old w false answer within = by_entries old.redo refl
   where
     by_entries : (rs : List Entry) → old.redo ≡ rs → IsWithin w.last (redone_history_by old.redo old)
     by_entries [] none = subst (λ (es : List Entry). IsWithin w.last (redone_history_by es old)) (sym none) within
-    by_entries (e ∷ es) some = absurd (answer.1 (let n = ap (λ (xs : List Entry). length xs) some in omega (arith, n)))
+    by_entries (e ∷ es) some = absurd (true≢false (sym (answer.1 (let n = ap (λ (xs : List Entry). length xs) some in omega (arith, n)))))
 
 pub rests_undone : (old new : Whole) (typing taken : Bool) (w : Following) → (IsTrue taken ↔ (0 < length old.history.undo)) → new ≡ record old { state = undone_state old.history old.state; history = undone_history old.history } → IsResting old typing w → IsResting new (typing && not taken) (after_undo taken w)
 rests_undone old new typing taken w answer is rests = record {
@@ -89,16 +89,15 @@ rests_undone old new typing taken w answer is rests = record {
   within = subst (IsWithin (after_undo taken w).last) (sym (ap (λ (d : Whole). d.history) is)) (undone_within old.history w taken answer rests.within);
 }
   where
+    not_both : (b : Bool) → IsTrue b → not b ≡ true → ⊥
+    not_both true t e = true≢false (sym e)
+    not_both false t e = true≢false (sym t)
+
     stays : (typing && not taken) ≡ true → IsJoinable (undone_history old.history)
-    unfolding undone_history
     stays on =
         let j = rests.joinable (and_parts typing (not taken) on).0 in
         let some : IsTrue taken = answer.1 j.some in
         absurd (not_both taken some (and_parts typing (not taken) on).1)
-
-    not_both : (b : Bool) → IsTrue b → not b ≡ true → ⊥
-    not_both true t e = absurd (true≢false (sym e))
-    not_both false t e = absurd t
 
 pub rests_redone : (old new : Whole) (typing taken : Bool) (w : Following) → (IsTrue taken ↔ (0 < length old.history.redo)) → new ≡ record old { state = redone_state old.history old.state; history = redone_history old.history } → IsResting old typing w → IsResting new (typing && not taken) (after_redo taken w)
 rests_redone old new typing taken w answer is rests = record {

@@ -22,8 +22,8 @@ html_after (Tree m c kids rest) h =
     else (if nat_lt 0 (count_of kids h) then html_after kids h ++ closing c ++ html_of rest
     else html_after rest h)
 
--- The HTML of a document is that of the children of h between what stands before and after them, and
--- so is that of another document, with the same before and after them.
+-- The HTML of a document is that of the children of h between what stands before and after them.
+-- So is that of another document, with the same before and after them.
 pub record DiffersInside (f g : Forest Content) (h : ℕ) : Type 0 where
   pub first : document_html f ≡ html_before f h ++ html_of (below f h) ++ html_after f h
   pub second : document_html g ≡ html_before f h ++ html_of (below g h) ++ html_after f h

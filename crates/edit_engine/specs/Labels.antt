@@ -7,8 +7,8 @@ use Rattle.edit_model.specs.History.{Entry}
 use Rattle.edit_laws.specs.Kinds.{Kind, kind_of, SameKinds, DrawsKinds}
 use Rattle.edit_engine.specs.Editing.{Editing}
 
--- a label that stands for a node before and after stands for one of the same kind, an element of the
--- same name; and the next label never falls
+-- a label that stands for a node before and after stands for one of the same kind, an element of
+-- the same name; and the next label never falls
 pub record KeepsLabels (old new : Editing) : Type 0 where
   pub kinds : SameKinds old.state.trees new.state.trees
   pub next : old.state.next ≤ new.state.next

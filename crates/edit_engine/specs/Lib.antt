@@ -9,6 +9,7 @@ pub mod Queries
 pub mod Places
 pub mod Probe
 pub mod Views
+pub mod SelectedTexts
 pub mod Logs
 pub mod Faults
 pub mod Running

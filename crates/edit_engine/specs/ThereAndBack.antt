@@ -20,8 +20,8 @@ abbrev pub before_first : List Entry → Option View
 before_first [] = None
 before_first (e ∷ es) = Some e.before
 
--- the document and the history are as before, and so are the selection and the marks where they were
--- those of the view: where none was moved since
+-- the document and the history are as before, and so are the selection and the marks where they
+-- were those of the view: where none was moved since
 pub record IsBack (view : Option View) (old new : Editing) : Type 0 where
   pub document : new.state.trees ≡ old.state.trees
   pub history : new.history ≡ old.history

@@ -1,19 +1,22 @@
-//! What is read of a node by its label: its path, its HTML, its plain text, and where characters
-//! occur in it.
+//! What is read of a node by its label, its path, its HTML, its plain text, and where characters
+//! occur in it; and the HTML and the plain text of the selection.
 
 ghost use Rattle.std.specs.Prelude.{◌≡◌, ◌↔◌, IfOk, Some, Err};
+ghost use Rattle.std.specs.Option.{option_map};
 ghost use Rattle.dom_model.specs.Forest.{count_of};
 ghost use Rattle.node_paths.specs.Paths.{label_at};
 ghost use Rattle.node_texts.specs.NodeHtml.{node_html};
 ghost use Rattle.node_texts.specs.Occurrences.{found_in};
 ghost use Rattle.node_texts.specs.PlainText.{plain_text};
+ghost use Rattle.edit_engine.specs.SelectedTexts.{selected_html, selected_text};
 
 use crate::answers::ViewFault;
 use crate::editor::Editor;
+use edit_actions::ends_of;
 use edit_doc::Point;
-use node_texts::{find, node_html, path_of, plain_text};
+use node_texts::{find, node_html, path_of, plain_text, range_html, range_text};
 use script_read::Path;
-use std::alloc::Global;
+use std::alloc::{AllocError, Global};
 
 impl Editor {
     /// The path of the node of a label.
@@ -75,6 +78,36 @@ impl Editor {
         match doc.find(top) {
             Some(node) => Ok(find(alloc, doc, node, wanted)?),
             None => Err(ViewFault::BadPlace),
+        }
+    }
+
+    /// The HTML of what is selected (DOM Standard, "clone the contents" of a range), if anything
+    /// is: of the children of the innermost node that holds both points, from the earlier point to
+    /// the later one.
+    #[tactic(auto, using(edit_actions::proofs::Placed::placed_here), unfolding(crate::specs::SelectedTexts::selected_html))]
+    pub fn selection_html(&self, alloc: Global) -> Result<Option<Vec<u8>>, AllocError>
+        ensures { IfOk result (λ html. option_map (λ text. text.items) html
+            ≡ selected_html self.now.editing.state) }
+    {
+        let doc = self.document();
+        doc.valid();
+        match doc.points().selection() {
+            Some(pair) => Ok(Some(range_html(alloc, doc, ends_of(doc, pair))?)),
+            None => Ok(None),
+        }
+    }
+
+    /// The plain text of what is selected, if anything is, as `node_text` has it of a node.
+    #[tactic(auto, using(edit_actions::proofs::Placed::placed_here), unfolding(crate::specs::SelectedTexts::selected_text))]
+    pub fn selection_text(&self, alloc: Global) -> Result<Option<Vec<char>>, AllocError>
+        ensures { IfOk result (λ text. option_map (λ chars. chars.items) text
+            ≡ selected_text self.now.editing.state) }
+    {
+        let doc = self.document();
+        doc.valid();
+        match doc.points().selection() {
+            Some(pair) => Ok(Some(range_text(alloc, doc, ends_of(doc, pair))?)),
+            None => Ok(None),
         }
     }
 }

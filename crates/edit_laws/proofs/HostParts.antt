@@ -1,5 +1,5 @@
--- What is told of the nodes of a forest, one after another, is what is told before the children of a node, then what is told of them,
--- and then what is told after them; and the first and the last of the three don't depend on the children.
+-- What is told of the nodes of a forest, one after another, is what is told before the children of a node, then what is told of
+-- them, and then what is told after them; and the first and the last of the three don't depend on the children.
 use Rattle.std.proofs.Common.{◌≡◌, ℕ, ◌+◌, ◌<◌, true, false, cond, eqb, List, [], ◌++◌, refl, sym, ap, ◌∙◌, inl, inr, arith, append_assoc}
 use Rattle.std.specs.Prelude.{nat_lt}
 use Rattle.std.proofs.lemmas.Bool.Decides.{eqb_tells}

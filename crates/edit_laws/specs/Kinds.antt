@@ -25,8 +25,8 @@ kind_of f l = option_map kind_in (content_of f l)
 abbrev pub SameKinds : Forest Content → Forest Content → Type 0
 SameKinds f g = (l : ℕ) (k m : Kind) → kind_of f l ≡ Some k → kind_of g l ≡ Some m → m ≡ k
 
--- each node of the second forest is one of the first, of the same kind, or its label is from `low` on
--- and below `high`
+-- each node of the second forest is one of the first, of the same kind, or its label is from `low`
+-- on and below `high`
 abbrev pub DrawsKinds : (low high : ℕ) → Forest Content → Forest Content → Type 0
 DrawsKinds low high f g =
     (l : ℕ) (k : Kind) → kind_of g l ≡ Some k → (kind_of f l ≡ Some k) ⊎ ((low ≤ l) × (l < high))

@@ -1,5 +1,5 @@
--- Runs that give no node a state of contenteditable, take none away, and don't give up the selection:
--- the certificate of an algorithm that keeps islands and the selection.
+-- Runs that give no node a state of contenteditable, take none away, and don't give up the
+-- selection: the certificate of an algorithm that keeps islands and the selection.
 use Rattle.edit_model.specs.Action.{Action, Unselect}
 use Rattle.edit_model.specs.State.{State}
 use Rattle.edit_model.specs.Valid.{IsValid}

@@ -1,4 +1,5 @@
--- The certificate of runs that keep islands and the selection, closed under the ways in which runs are composed.
+-- The certificate of runs that keep islands and the selection, closed under the ways in which runs
+-- are composed.
 use Rattle.std.specs.Prelude.{◌≡◌, ℕ, Bool, true, List, Option, if◌then◌else◌}
 use Rattle.edit_model.specs.State.{State}
 use Rattle.edit_model.specs.Action.{Action}

@@ -12,7 +12,7 @@ ghost use Rattle.hedit_c.specs.Following.{Between, StaysFollowed, KeepsFollowing
 ghost use Rattle.node_texts.specs.NodeHtml.{node_html};
 ghost use Rattle.hedit_c.specs.Nodes.{NodeTells, LabelTells, PathTells, name_text, value_text, TextTells, attribute_name, attribute_value, AttributeTells, SelectionTells, NumbersTell};
 ghost use Rattle.hedit_c.specs.Statuses.{number_of};
-ghost use Rattle.hedit_c.specs.Subtrees.{SubtreeTells, FindTells, plain_bytes};
+ghost use Rattle.hedit_c.specs.Subtrees.{SubtreeTells, FindTells, SelectedTells, plain_bytes, html_selected, text_selected};
 
 mod acts;
 mod answers;
@@ -37,7 +37,7 @@ use nodes::{
 use opening::{Refusal, open};
 use status::Status;
 use std::alloc::Global;
-use subtrees::{PointFacts, find, node_html, node_text};
+use subtrees::{PointFacts, find, node_html, node_text, selection_html, selection_text};
 
 /// Opens a page, and closes what the handle held before.
 ///
@@ -607,6 +607,46 @@ pub extern "C" fn hedit_selection(
         return Status::Closed.number();
     };
     let status = selection(&held, facts);
+    editor.put(held);
+    status.number()
+}
+
+/// Puts the HTML of what is selected into the buffer. The answer is false where nothing is.
+#[unsafe(no_mangle)]
+pub extern "C" fn hedit_selection_html(
+    alloc: Global,
+    editor: &mut Handle,
+    buffer: &mut [u8],
+    length: &mut usize,
+) -> u32
+    ensures stays { editor.new.value ≡ editor.old.value }
+    ensures told { Asks result (editing_of editor.old.value) buffer.old buffer.new
+        (λ status e. SelectedTells html_selected status e buffer.old buffer.new length.new) }
+{
+    let Some(held) = editor.take(alloc) else {
+        return Status::Closed.number();
+    };
+    let status = selection_html(alloc, &held, buffer, length);
+    editor.put(held);
+    status.number()
+}
+
+/// Puts the plain text of what is selected into the buffer. The answer is false where nothing is.
+#[unsafe(no_mangle)]
+pub extern "C" fn hedit_selection_text(
+    alloc: Global,
+    editor: &mut Handle,
+    buffer: &mut [u8],
+    length: &mut usize,
+) -> u32
+    ensures stays { editor.new.value ≡ editor.old.value }
+    ensures told { Asks result (editing_of editor.old.value) buffer.old buffer.new
+        (λ status e. SelectedTells text_selected status e buffer.old buffer.new length.new) }
+{
+    let Some(held) = editor.take(alloc) else {
+        return Status::Closed.number();
+    };
+    let status = selection_text(alloc, &held, buffer, length);
     editor.put(held);
     status.number()
 }

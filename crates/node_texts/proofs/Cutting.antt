@@ -1,5 +1,5 @@
 -- What a walk between two limits shows at a node.
-use Rattle.std.proofs.Common.{◌≡◌, ℕ, ◌<◌, true, false, Option, Some, None, refl, sym, ap, ◌∙◌, inl, inr}
+use Rattle.std.proofs.Common.{◌≡◌, ℕ, ◌<◌, true, false, Option, Some, refl, sym, ap, ◌∙◌, inl, inr}
 use Rattle.std.proofs.lemmas.Bool.Decides.{eqb_tells}
 use Rattle.dom_model.specs.declared.Content.{Content}
 use Rattle.dom_model.specs.Forest.{Forest, count_of, content_of, first_of, next_of, tree_of, IsDistinct}
@@ -8,7 +8,7 @@ use Rattle.node_paths.specs.Onward.{onward_at}
 use Rattle.node_paths.proofs.Visiting.{Visit}
 use Rattle.node_texts.specs.declared.between.Limit.{Limit}
 use Rattle.node_texts.specs.declared.between.Limit.TheVariants.{Open, Past, Inside}
-use Rattle.node_texts.specs.Between.{is_over, is_ahead, stands_in, passed, below, lower, upper, part_of, content_between, between, IsThere}
+use Rattle.node_texts.specs.Between.{is_over, is_ahead, stands_in, passed, below, content_between, between, IsThere}
 use Rattle.node_texts.specs.Walk.{walked}
 use Rattle.node_texts.proofs.Visiting.{tree_led}
 
@@ -32,13 +32,14 @@ there_below f (Inside p) l h =
 
 -- ---- at a node
 
+-- past the end nothing is shown
+pub shown_over : {S : Type 0} (enter leave : S → ℕ → Content → S) (start end : Limit) (g : Forest Content) → is_over end ≡ true → (s : S) → walked enter leave (between start end g) s ≡ s
+shown_over enter leave start end Nil over s = refl
+shown_over enter leave start end (Tree l c ks rest) over s = rw over refl
+
 module _ {S : Type 0} (enter leave : S → ℕ → Content → S) (f : Forest Content) (distinct : IsDistinct f) (l : ℕ) (c : Content) (there : 0 < count_of f l) (content : content_of f l ≡ Some c) (v : Visit f l c) (start end : Limit) (here : Option ℕ) (at : here ≡ Some l) where
   here_is : onward_at f here ≡ Tree l c (onward_at f (first_of f l)) (onward_at f (next_of f l))
   here_is = ap (onward_at f) at ∙ v.is
-
-  -- nothing more
-  pub shown_over : is_over end ≡ true → (s : S) → walked enter leave (between start end (onward_at f here)) s ≡ s
-  shown_over over s = rw (here_is, over) refl
 
   -- what comes after it
   pub shown_ahead : is_over end ≡ false → is_ahead start (tree_of f l) ≡ true → (right : Option ℕ) → right ≡ next_of f l → (s whole : S)

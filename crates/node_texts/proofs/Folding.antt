@@ -1,5 +1,5 @@
 -- What a walk makes of those to whom it shows trees.
-use Rattle.std.proofs.Common.{◌≡◌, ℕ, List, [], ◌∷◌, ◌++◌, refl, sym, ap, ◌∙◌, append_assoc, append-nil}
+use Rattle.std.proofs.Common.{◌≡◌, ℕ, List, ◌++◌, sym, ap, append_assoc, append-nil}
 use Rattle.dom_model.specs.declared.Content.{Content}
 use Rattle.dom_model.specs.Forest.{Forest}
 use Rattle.dom_model.specs.Forest.Forest.{Nil, Tree}

@@ -3,3 +3,4 @@ mod Folding
 mod Offsets
 mod Upward
 mod Cutting
+mod Ranges

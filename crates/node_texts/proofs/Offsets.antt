@@ -1,11 +1,10 @@
 -- Where characters occur in a text: from offset to offset.
-use Rattle.std.proofs.Common.{◌≡◌, ℕ, zero, suc, ◌+◌, ◌-◌, ◌<◌, true, false, List, [], ◌∷◌, ◌++◌, length, drop, get_or, map, nat_eq, refl, sym, ap, ◌∙◌, arith, drop-cons, append_assoc}
+use Rattle.std.proofs.Common.{◌≡◌, ℕ, zero, suc, ◌+◌, ◌-◌, ◌<◌, true, false, List, [], ◌∷◌, length, drop, get_or, nat_eq, refl, sym, ap, ◌∙◌, arith, drop-cons}
 use Rattle.std.specs.List.{starts_with}
 use Rattle.std.proofs.lemmas.Bool.Decides.{nat_tests}
 use Rattle.std.proofs.lemmas.List.{drop-drop}
 use Rattle.std.specs.Prelude.{◌==◌}
-use Rattle.live_range.specs.declared.places.Point.{Point}
-use Rattle.node_texts.specs.Occurrences.{offsets, offsets_from, points_at}
+use Rattle.node_texts.specs.Occurrences.{offsets, offsets_from}
 
 -- characters that belong to an occurrence are passed over
 passed_over : (w : List ℕ) (at k : ℕ) (cs : List ℕ) → offsets_from w at k cs ≡ offsets_from w (at + k) 0 (drop k cs)

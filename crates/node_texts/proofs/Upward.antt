@@ -1,16 +1,16 @@
 -- The path to a node, from the node up.
-use Rattle.std.proofs.Common.{◌≡◌, ℕ, zero, suc, ◌<◌, List, [], ◌∷◌, ◌++◌, Option, Some, None, refl, sym, ap, subst, ◌∙◌, inl, inr, arith, append_assoc}
+use Rattle.std.proofs.Common.{◌≡◌, ℕ, suc, List, [], ◌∷◌, ◌++◌, Option, Some, None, refl, sym, ap, subst, ◌∙◌, inl, inr}
 use Rattle.std.proofs.lemmas.Bool.Decides.{eqb_tells}
 use Rattle.std.specs.Option.{option_map}
 use Rattle.dom_model.specs.declared.Content.{Content}
-use Rattle.dom_model.specs.Forest.{Forest, either, parent_of, count_of, IsDistinct, IsWithin}
+use Rattle.dom_model.specs.Forest.{Forest, either, parent_of, IsDistinct, IsWithin}
 use Rattle.dom_model.specs.Forest.Forest.{Nil, Tree}
 use Rattle.dom_model.specs.Places.{kids_in, index_of}
 use Rattle.dom_model.proofs.Walks.{document_first}
 use Rattle.dom_model.proofs.Within.{within_step}
 use Rattle.node_arena.specs.declared.NodeRef.{NodeRef}
 use Rattle.node_arena.specs.Reads.{IsValid}
-use Rattle.node_paths.specs.Paths.{node_in, path_in, label_by, label_at, path_of, stepped}
+use Rattle.node_paths.specs.Paths.{node_in, path_in, label_at, path_of, stepped}
 use Rattle.node_paths.proofs.Ways.{path_of-child, root_is}
 
 -- ---- a path leads to its node

@@ -1,9 +1,9 @@
 -- What a walk needs at a node of any nodes that can be read.
-use Rattle.std.proofs.Common.{◌≡◌, ◌⊎◌, ℕ, zero, suc, ◌+◌, ◌<◌, ◌≤◌, ◌^◌, Option, Some, None, IfSome, refl, sym, ap, ◌∙◌, inl, inr, arith}
+use Rattle.std.proofs.Common.{◌≡◌, ◌⊎◌, ℕ, zero, suc, ◌+◌, ◌<◌, ◌≤◌, ◌^◌, Option, Some, IfSome, refl, sym, ap, ◌∙◌, inl, inr, arith}
 use Rattle.std.proofs.lemmas.Bool.Decides.{eqb_tells}
 use Rattle.dom_model.specs.declared.Content.{Content}
 use Rattle.dom_model.specs.Contents.{char_length, IsNode}
-use Rattle.dom_model.specs.Forest.{Forest, Seen, join, count_of, content_of, first_of, next_of, tree_of, IsDistinct}
+use Rattle.dom_model.specs.Forest.{Forest, join, count_of, content_of, first_of, next_of, tree_of, IsDistinct}
 use Rattle.dom_model.specs.Forest.Forest.{Nil, Tree}
 use Rattle.dom_model.specs.Places.{onward, or_else}
 use Rattle.dom_model.proofs.Links.{tree_of_absent, seen}

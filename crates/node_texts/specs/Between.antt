@@ -1,13 +1,12 @@
 -- What stands between two points.
-use Rattle.std.specs.Prelude.{ℕ, ◌-◌, ◌<◌, ◌==◌, nat_lt, not, List, take, drop, Bool, true, false, Option, Some, None, if◌then◌else◌}
+use Rattle.std.specs.Prelude.{ℕ, ◌-◌, ◌<◌, ◌==◌, nat_lt, not, List, take, drop, Bool, false, Option, Some, None, if◌then◌else◌}
 use Rattle.std.specs.List.{find}
 use Rattle.std.specs.Option.{option_map, option_map_or}
 use Rattle.dom_model.specs.declared.Content.{Content}
 use Rattle.dom_model.specs.declared.Content.TheVariants.{Words, Remark}
-use Rattle.dom_model.specs.Contents.{has_chars_at}
+use Rattle.dom_model.specs.Contents.{has_chars}
 use Rattle.dom_model.specs.Forest.{Forest, count_of, tree_of}
 use Rattle.dom_model.specs.Forest.Forest.{Nil, Tree}
-use Rattle.dom_model.specs.Places.{kids_in}
 use Rattle.live_range.specs.declared.places.Point.{Point}
 use Rattle.node_styles.specs.Lineage.{lineage}
 use Rattle.point_order.specs.PointOrder.{is_within}
@@ -101,12 +100,14 @@ between start end (Tree l c children rest) =
 unfoldable pub common_ancestor : Forest Content → ℕ → ℕ → Option ℕ
 common_ancestor f a b = option_map (λ k. k.label) (find (λ k. is_within f k.label b) (lineage f a))
 
--- of the tree of a node that holds both points: the characters between them, or the children
-unfoldable pub contents_in : Forest Content → Point → Point → ℕ → Forest Content
-contents_in f start end top =
-    let cut = between (Inside start) (Inside end) (tree_of f top) in
-    if has_chars_at f top then cut else kids_in cut
+-- of the tree that holds both points: the characters between them, or the children
+abbrev pub contents_in : Limit → Limit → Forest Content → Forest Content
+contents_in start end Nil = Nil
+contents_in start end (Tree l c children rest) =
+    if has_chars c then Tree l (content_between start end l c) Nil Nil
+    else between (below start l) (below end l) children
 
 unfoldable pub range_contents : Forest Content → Point → Point → Forest Content
 range_contents f start end =
-    option_map_or (contents_in f start end) (common_ancestor f start.label end.label) Nil
+    option_map_or (λ top. contents_in (Inside start) (Inside end) (tree_of f top))
+    (common_ancestor f start.label end.label) Nil

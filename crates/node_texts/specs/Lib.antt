@@ -3,3 +3,4 @@ pub mod NodeHtml
 pub mod PlainText
 pub mod Occurrences
 pub mod Between
+pub mod Parts

@@ -9,6 +9,8 @@ use Rattle.dom_model.specs.declared.Content.TheVariants.{Words}
 use Rattle.dom_model.specs.Forest.{Forest, tree_of}
 use Rattle.node_styles.specs.Blocks.{is_block_content}
 use Rattle.node_styles.specs.OwnStyles.{is_named}
+use Rattle.live_range.specs.declared.places.Point.{Point}
+use Rattle.node_texts.specs.Between.{range_contents}
 use Rattle.node_texts.specs.Walk.{walked}
 
 -- the characters so far, and whether a block has begun or ended since the last of them
@@ -47,3 +49,7 @@ text_of f = (walked text_entered text_left f ([], false)).0
 -- that of a node with all that stands below it
 unfoldable pub plain_text : Forest Content → ℕ → List ℕ
 plain_text f l = text_of (tree_of f l)
+
+-- and that of the contents between two points
+unfoldable pub range_text : Forest Content → Point → Point → List ℕ
+range_text f start end = text_of (range_contents f start end)

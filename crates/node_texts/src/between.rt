@@ -1,7 +1,7 @@
 //! What stands between two points (DOM Standard, "clone the contents" of a range).
 
 ghost use Rattle.std.specs.Prelude.{◌≡◌, ◌<◌, ◌^◌, OnOk, IfSome};
-ghost use Rattle.dom_model.specs.Contents.{char_length};
+ghost use Rattle.dom_model.specs.Contents.{has_chars};
 ghost use Rattle.dom_model.specs.Forest.{count_of, tree_of};
 ghost use Rattle.node_arena.specs.Held.{label};
 ghost use Rattle.node_arena.specs.Reads.{Names};
@@ -12,7 +12,7 @@ ghost use Rattle.node_texts.specs.Walk.{walked};
 use crate::walk::Visitor;
 use live_range::Point;
 use node_arena::{Content, NodeRef, Nodes};
-use point_order::node_of;
+use point_order::{is_within, node_of};
 use std::alloc::AllocError;
 
 /// Where siblings begin or end, as a point says it.
@@ -172,12 +172,12 @@ fn walk_between<N: Nodes, V: PartVisitor>(
         if end.is_over() {
             return Ok(());
         }
+        let (label, content) = (node.label, nodes.content(node));
         if is_ahead(nodes, start, node) {
             (start, end) = (start.passed(), end.passed());
             at = nodes.next(node);
             continue;
         }
-        let (label, content) = (node.label, nodes.content(node));
         visitor.enter_part(label, content, start.lower(label), end.upper(label))?;
         let child = nodes.first_child(node);
         walk_between(nodes, child, start.below(label), end.below(label), visitor)?;
@@ -188,5 +188,62 @@ fn walk_between<N: Nodes, V: PartVisitor>(
         (start, end) = (Limit::Open, end.passed());
         at = nodes.next(node);
     }
+    Ok(())
+}
+
+// The innermost node in whose tree both nodes stand.
+fn common_ancestor<N: Nodes>(nodes: &N, node: NodeRef, other: NodeRef) -> Option<NodeRef>
+    requires node_held { N.holds nodes.now node }
+    requires other_held { N.holds nodes.now other }
+    ensures { Names (N.holds nodes.now) result
+        (cut.common_ancestor (N.trees nodes.now) node.label other.label) }
+{
+    nodes.valid();
+    let mut at = node;
+    while !is_within(nodes, at, other) {
+        match nodes.parent(at) {
+            Some(parent) => at = parent,
+            None => return None,
+        }
+    }
+    Some(at)
+}
+
+fn has_chars(content: &Content) -> bool
+    ensures { result ≡ has_chars content.now }
+{
+    match content {
+        Content::Words(_) | Content::Remark(_) => true,
+        _ => false,
+    }
+}
+
+/// Shows the contents of a range: the children of the innermost node that holds both points, from
+/// the first point to the second, or the characters between them where it is a text or a comment.
+/// Its calls go as deep as the tree.
+pub(crate) fn walk_range<N: Nodes, V: PartVisitor>(
+    nodes: &N,
+    range: (Point, Point),
+    visitor: &mut V,
+) -> Result<(), AllocError>
+    requires start { 0 < count_of (N.trees nodes.now) range.0.label }
+    requires end { 0 < count_of (N.trees nodes.now) range.1.label }
+    ensures ok { OnOk result (visitor.new ≡ walked V.entered V.left
+        (cut.range_contents (N.trees nodes.now) range.0 range.1) visitor.old) }
+{
+    nodes.valid();
+    let (start, end) = (node_of(nodes, range.0), node_of(nodes, range.1));
+    let Some(top) = common_ancestor(nodes, start, end) else {
+        return Ok(());
+    };
+    let (start, end) = (Limit::Inside(range.0), Limit::Inside(range.1));
+    let (label, content) = (top.label, nodes.content(top));
+    if has_chars(content) {
+        visitor.enter_part(label, content, start.lower(label), end.upper(label))?;
+        visitor.leave(label, content)?;
+        return Ok(());
+    }
+    let child = nodes.first_child(top);
+    walk_between(nodes, child, start.below(label), end.below(label), visitor)?;
     Ok(())
 }

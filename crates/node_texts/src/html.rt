@@ -1,13 +1,16 @@
 //! The HTML of a node (HTML Standard, "Serializing HTML fragments").
 
-ghost use Rattle.std.specs.Prelude.{◌≡◌, ◌++◌, OnOk, IfOk};
+ghost use Rattle.std.specs.Prelude.{◌≡◌, ◌<◌, ◌++◌, OnOk, IfOk};
 ghost use Rattle.page_write.specs.Html.{text_char, text_html, end_tag, comment_html, opening, closing};
-ghost use Rattle.node_texts.specs.NodeHtml.{node_html};
+ghost use Rattle.dom_model.specs.Forest.{count_of};
+ghost use Rattle.node_texts.specs.NodeHtml.{node_html, range_html};
 
+use crate::between::{PartVisitor, chars_part, walk_range};
 use crate::walk::{Visitor, walk};
-use dom_model::{Chars, Content, Name};
+use dom_model::{Content, Name};
 use escaped_text::{push_char, push_chars};
 use html_names::is_void;
+use live_range::Point;
 use node_arena::{NodeRef, Nodes};
 use page_write::push_start_tag;
 use std::alloc::{AllocError, Global};
@@ -39,6 +42,30 @@ impl Visitor for Writer {
     fn leave(&mut self, _label: u32, content: &Content) -> Result<(), AllocError> {
         push_closing(&mut self.bytes, content)
     }
+}
+
+impl PartVisitor for Writer {
+    ghost use Rattle.std.proofs.Common.{ap};
+    ghost use Rattle.node_texts.specs.Parts.{closing_of_part};
+
+    #[tactic(auto, unfolding(crate::specs::Between::part_of))]
+    fn enter_part(
+        &mut self,
+        _label: u32,
+        content: &Content,
+        from: u32,
+        to: Option<u32>,
+    ) -> Result<(), AllocError> {
+        let bytes = &mut self.bytes;
+        match content {
+            Content::Words(text) => push_text(bytes, chars_part(text.as_slice(), from, to)),
+            Content::Remark(text) => push_comment(bytes, chars_part(text.as_slice(), from, to)),
+            _ => push_opening(bytes, content),
+        }
+    }
+
+    ghost leaves_parts = { λ bytes l from to content.
+        ap (λ end. bytes ++ end) (closing_of_part from to content) };
 }
 
 fn push_text_char(bytes: &mut Vec<u8>, c: char) -> Result<(), AllocError>
@@ -75,11 +102,11 @@ fn push_end_tag(bytes: &mut Vec<u8>, name: &Name) -> Result<(), AllocError>
     Ok(())
 }
 
-fn push_comment(bytes: &mut Vec<u8>, text: &Chars) -> Result<(), AllocError>
+fn push_comment(bytes: &mut Vec<u8>, text: &[char]) -> Result<(), AllocError>
     ensures ok { OnOk result (bytes.new.items ≡ bytes.old.items ++ comment_html text.now) }
 {
     bytes.extend_from_slice(b"<!--")?;
-    push_chars(bytes, text.as_slice())?;
+    push_chars(bytes, text)?;
     bytes.extend_from_slice(b"-->")?;
     Ok(())
 }
@@ -92,7 +119,7 @@ fn push_opening(bytes: &mut Vec<u8>, content: &Content) -> Result<(), AllocError
         Content::Document => Ok(()),
         Content::Element { name, attributes } => push_start_tag(bytes, name, attributes),
         Content::Words(text) => push_text(bytes, text.as_slice()),
-        Content::Remark(text) => push_comment(bytes, text),
+        Content::Remark(text) => push_comment(bytes, text.as_slice()),
     }
 }
 
@@ -116,5 +143,24 @@ pub fn node_html<N: Nodes>(alloc: Global, nodes: &N, node: NodeRef) -> Result<Ve
         bytes: Vec::new(alloc),
     };
     walk(nodes, node, &mut writer)?;
+    Ok(writer.bytes)
+}
+
+/// The HTML of the contents of a range, in UTF-8 (DOM Standard, "clone the contents" of a range): of
+/// the children of the innermost node that holds both points, from the first point to the second.
+/// Its calls go as deep as the tree.
+pub fn range_html<N: Nodes>(
+    alloc: Global,
+    nodes: &N,
+    range: (Point, Point),
+) -> Result<Vec<u8>, AllocError>
+    requires start { 0 < count_of (N.trees nodes.now) range.0.label }
+    requires end { 0 < count_of (N.trees nodes.now) range.1.label }
+    ensures { IfOk result (λ bytes. bytes.items ≡ range_html (N.trees nodes.now) range.0 range.1) }
+{
+    let mut writer = Writer {
+        bytes: Vec::new(alloc),
+    };
+    walk_range(nodes, range, &mut writer)?;
     Ok(writer.bytes)
 }

@@ -9,7 +9,7 @@ mod plain;
 mod walk;
 mod ways;
 
-pub use html::node_html;
+pub use html::{node_html, range_html};
 pub use occurrences::find;
-pub use plain::plain_text;
+pub use plain::{plain_text, range_text};
 pub use ways::path_of;

@@ -1,10 +1,14 @@
 //! The plain text of a node.
 
 ghost use Rattle.std.specs.Prelude.{◌≡◌, ◌<◌, ◌^◌, ◌++◌, ◌||◌, OnOk, IfOk};
-ghost use Rattle.node_texts.specs.PlainText.{own_text, is_line_start, with_text, plain_text};
+ghost use Rattle.node_texts.specs.Between.{part_of};
+ghost use Rattle.node_texts.specs.PlainText.{own_text, is_line_start, with_text, plain_text, range_text};
+ghost use Rattle.dom_model.specs.Forest.{count_of};
 
+use crate::between::{PartVisitor, chars_part, walk_range};
 use crate::walk::{Visitor, walk};
 use dom_model::Content;
+use live_range::Point;
 use node_arena::{NodeRef, Nodes};
 use node_styles::{is_block_content, is_element_named};
 use std::alloc::{AllocError, Global};
@@ -42,6 +46,27 @@ impl Visitor for PlainText {
         self.is_at_edge |= is_block_content(content);
         Ok(())
     }
+}
+
+impl PartVisitor for PlainText {
+    ghost use Rattle.std.proofs.Common.{ap};
+    ghost use Rattle.node_texts.specs.Parts.{block_of_part};
+    ghost use Rattle.node_texts.specs.PlainText.{with_edge};
+
+    #[tactic(auto, using(crate::specs::Parts::block_of_part))]
+    fn enter_part(
+        &mut self,
+        _label: u32,
+        content: &Content,
+        from: u32,
+        to: Option<u32>,
+    ) -> Result<(), AllocError> {
+        self.is_at_edge |= is_block_content(content);
+        self.push(part_text(content, from, to))
+    }
+
+    ghost leaves_parts = { λ plain l from to content.
+        ap (λ is_edge. with_edge plain is_edge) (block_of_part from to content) };
 }
 
 impl PlainText {
@@ -83,6 +108,18 @@ fn own_text(content: &Content) -> &[char]
     }
 }
 
+// The same of a part of a text or a comment.
+#[tactic(auto, unfolding(crate::specs::PlainText::own_text, crate::specs::Between::part_of, node_styles::specs::OwnStyles::is_named))]
+fn part_text(content: &Content, from: u32, to: Option<u32>) -> &[char]
+    ensures { result.now ≡ own_text (part_of from to content.now) }
+{
+    match content {
+        Content::Words(chars) => chars_part(chars.as_slice(), from, to),
+        Content::Document | Content::Remark(_) => &[],
+        Content::Element { .. } => own_text(content),
+    }
+}
+
 /// The plain text of a node with all that stands below it: the characters of its texts and a line
 /// feed for each br, in tree order. Where a block begins or ends between two of these characters, a
 /// line feed comes between them, unless the first one is a line feed. Its calls go as deep as the
@@ -100,5 +137,24 @@ pub fn plain_text<N: Nodes>(
         is_at_edge: false,
     };
     walk(nodes, node, &mut plain)?;
+    Ok(plain.chars)
+}
+
+/// The plain text of the contents of a range, as `plain_text` has it of a node. Its calls go as deep
+/// as the tree.
+pub fn range_text<N: Nodes>(
+    alloc: Global,
+    nodes: &N,
+    range: (Point, Point),
+) -> Result<Vec<char>, AllocError>
+    requires start { 0 < count_of (N.trees nodes.now) range.0.label }
+    requires end { 0 < count_of (N.trees nodes.now) range.1.label }
+    ensures { IfOk result (λ chars. chars.items ≡ range_text (N.trees nodes.now) range.0 range.1) }
+{
+    let mut plain = PlainText {
+        chars: Vec::new(alloc),
+        is_at_edge: false,
+    };
+    walk_range(nodes, range, &mut plain)?;
     Ok(plain.chars)
 }

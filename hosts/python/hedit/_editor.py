@@ -352,6 +352,14 @@ class Editor:
             Point(facts.anchor, facts.anchor_offset), Point(facts.focus, facts.focus_offset)
         )
 
+    def selection_html(self) -> str | None:
+        """The HTML of what is selected, for the clipboard; None where nothing is selected."""
+        return self._text("hedit_selection_html", 4096)
+
+    def selection_text(self) -> str | None:
+        """The plain text of what is selected, for the clipboard; None where nothing is selected."""
+        return self._text("hedit_selection_text", 4096)
+
     def label_at(self, path: Sequence[int]) -> int:
         """The label of the node at a path. The document's is 0."""
         label = NUMBER(0)

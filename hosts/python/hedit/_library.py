@@ -107,6 +107,8 @@ CALLS: dict[str, list[Any]] = {
     "hedit_node_text": [*EDITOR, NUMBER, *BUFFER],
     "hedit_find": [*EDITOR, NUMBER, *TEXT, *POINTS],
     "hedit_selection": [*EDITOR, ctypes.POINTER(SelectionFacts)],
+    "hedit_selection_html": [*EDITOR, *BUFFER],
+    "hedit_selection_text": [*EDITOR, *BUFFER],
     "hedit_numbers": [*EDITOR, ctypes.POINTER(NumberFacts)],
     "hedit_revision": [*EDITOR, ctypes.POINTER(ctypes.c_uint64)],
     "hedit_changes": [*EDITOR, *BUFFER],

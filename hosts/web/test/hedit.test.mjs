@@ -354,6 +354,18 @@ describe("nodes", () => {
     assert.equal(lines.nodeText(0), "a\n\nb\nc");
   });
 
+  it("have HTML and a plain text between the points of the selection", (t) => {
+    const editor = open(t, "<p>one <b>two</b></p><ul><li>three</li><li>four</li></ul>");
+    assert.deepEqual([editor.selectionHtml(), editor.selectionText()], [null, null]);
+    editor.select(at([1, 1, 0], 2), at([0, 1, 0], 1));
+    const html = "<p><b>wo</b></p><ul><li>three</li><li>fo</li></ul>";
+    assert.deepEqual([editor.selectionHtml(), editor.selectionText()], [html, "wo\nthree\nfo"]);
+    editor.select(at([0, 0], 1), at([0, 0], 3));
+    assert.deepEqual([editor.selectionHtml(), editor.selectionText()], ["ne", "ne"]);
+    editor.select(at([1], 1));
+    assert.deepEqual([editor.selectionHtml(), editor.selectionText()], ["", ""]);
+  });
+
   it("are searched for a text", (t) => {
     const editor = open(t, `<p>aaaa😀a<b>aa</b></p><!--aa--><p>${"xy".repeat(200)}</p>`);
     const [first, second] = [editor.labelAt([0, 0]), editor.labelAt([0, 1, 0])];
@@ -652,6 +664,8 @@ describe("a cause has a class", () => {
       () => editor.nodeHtml(0),
       () => editor.nodeText(0),
       () => editor.find("x"),
+      () => editor.selectionHtml(),
+      () => editor.selectionText(),
     ];
     for (const call of calls) {
       refused(call, "EditorClosed", Status.CLOSED);

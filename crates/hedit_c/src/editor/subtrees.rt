@@ -1,10 +1,10 @@
-//! What C reads of a node with all that stands below it, by its label.
+//! What C reads of a node with all that stands below it, by its label, and of what is selected.
 
 ghost use Rattle.std.specs.Prelude.{◌≡◌, IfOk, map};
 ghost use Rattle.std.specs.Str.{chars};
 ghost use Rattle.node_texts.specs.NodeHtml.{node_html};
 ghost use Rattle.node_texts.specs.Occurrences.{found_in};
-ghost use Rattle.hedit_c.specs.Subtrees.{SubtreeTells, FindTells, plain_bytes, point_facts};
+ghost use Rattle.hedit_c.specs.Subtrees.{SubtreeTells, FindTells, SelectedTells, plain_bytes, point_facts, html_selected, text_selected};
 ghost use Rattle.hedit_c.specs.Calls.{PutsUnlessMemory};
 
 use super::status::Status;
@@ -105,5 +105,41 @@ pub(crate) fn find(
         Ok(points) => put_points(alloc, &points, buffer, count),
         Err(ViewFault::BadPlace) => Status::BadPlace,
         Err(ViewFault::Memory) => Status::Memory,
+    }
+}
+
+/// The HTML of what is selected.
+#[tactic(auto, unfolding(edit_engine::specs::SelectedTexts::selected_html))]
+pub(crate) fn selection_html(
+    alloc: Global,
+    editor: &Editor,
+    buffer: &mut [u8],
+    length: &mut usize,
+) -> Status
+    ensures { SelectedTells html_selected result editor.now.editing
+        buffer.old buffer.new length.new }
+{
+    match editor.selection_html(alloc) {
+        Ok(Some(html)) => put(&html, buffer, length),
+        Ok(None) => Status::No,
+        Err(_) => Status::Memory,
+    }
+}
+
+/// The plain text of what is selected.
+#[tactic(auto, unfolding(edit_engine::specs::SelectedTexts::selected_text))]
+pub(crate) fn selection_text(
+    alloc: Global,
+    editor: &Editor,
+    buffer: &mut [u8],
+    length: &mut usize,
+) -> Status
+    ensures { SelectedTells text_selected result editor.now.editing
+        buffer.old buffer.new length.new }
+{
+    match editor.selection_text(alloc) {
+        Ok(Some(text)) => put_chars(alloc, &text, buffer, length),
+        Ok(None) => Status::No,
+        Err(_) => Status::Memory,
     }
 }

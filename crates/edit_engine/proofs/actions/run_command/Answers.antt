@@ -49,7 +49,7 @@ returns-in-Ok-false c =
     record {
       told = tt;
       ran = refused c.args.doc.now c.open.new.doc c.take_action.new.doc c.args.joining (row_of c.args.command).keeping (action_of c.args.command c.args.value.now) begins c.take_action.ensures.keeps
-    c.roll_back.new.self c.in-Ok-false.ensures.gives.0 (c.in-Ok-false.ensures.gives.1 ∙ c.in-Ok-false.field-0-test) c.valid-in-Ok-false.ensures c.roll_back.ensures.state c.roll_back.ensures.history c.roll_back.ensures.closed;
+          c.roll_back.new.self c.in-Ok-false.ensures.gives.0 (c.in-Ok-false.ensures.gives.1 ∙ c.in-Ok-false.field-0-test) c.valid-in-Ok-false.ensures c.roll_back.ensures.state c.roll_back.ensures.history c.roll_back.ensures.closed;
     }
 
 pub returns-in-Err : goal.returns-in-Err
@@ -58,5 +58,5 @@ returns-in-Err c =
     record {
       told = tt;
       ran = failed c.args.doc.now c.open.new.doc c.take_action.new.doc c.args.joining (row_of c.args.command).keeping (action_of c.args.command c.args.value.now) begins c.take_action.ensures.keeps
-    c.roll_back-in-Err.new.self c.in-Err.fault c.in-Err.ensures.gives c.roll_back-in-Err.ensures.state c.roll_back-in-Err.ensures.history c.roll_back-in-Err.ensures.closed;
+          c.roll_back-in-Err.new.self c.in-Err.fault c.in-Err.ensures.gives c.roll_back-in-Err.ensures.state c.roll_back-in-Err.ensures.history c.roll_back-in-Err.ensures.closed;
     }

@@ -1,4 +1,4 @@
-use Rattle.std.proofs.Common.{◌≡◌, ◌++◌, [], sym, ap, ◌∙◌}
+use Rattle.std.proofs.Common.{◌++◌, ap, ◌∙◌}
 use Rattle.dom_model.specs.Forest.{tree_of}
 use Rattle.page_write.specs.Html.{html_of}
 use Rattle.node_texts.specs.NodeHtml.{node_html}

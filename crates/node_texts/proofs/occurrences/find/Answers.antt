@@ -1,4 +1,4 @@
-use Rattle.std.proofs.Common.{◌≡◌, ◌++◌, List, ℕ, sym, ap, ◌∙◌}
+use Rattle.std.proofs.Common.{◌++◌, List, ℕ, ap, ◌∙◌}
 use Rattle.live_range.specs.declared.places.Point.{Point}
 use Rattle.dom_model.specs.Forest.{tree_of}
 use Rattle.node_texts.specs.Occurrences.{occurrences, found_in}

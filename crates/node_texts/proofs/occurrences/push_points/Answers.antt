@@ -1,7 +1,7 @@
-use Rattle.std.proofs.Common.{◌≡◌, ◌<◌, ◌+◌, ◌++◌, ◌∷◌, [], true, false, nat_eq, length, drop, sym, ap, ◌∙◌, arith, append_assoc}
+use Rattle.std.proofs.Common.{◌≡◌, ◌++◌, true, false, nat_eq, length, drop, sym, ap, ◌∙◌, arith, append_assoc}
 use Rattle.std.specs.List.{starts_with}
 use Rattle.std.proofs.lemmas.List.{take_rest, length-drop}
-use Rattle.node_texts.specs.Occurrences.{offsets_from, points_at}
+use Rattle.node_texts.specs.Occurrences.{points_at}
 use Rattle.node_texts.proofs.Offsets.{found_here, not_here, some_wanted}
 use Rattle.node_texts.proofs.occurrences.push_points.Goals as goal
 

@@ -1,4 +1,4 @@
-use Rattle.std.proofs.Common.{◌≡◌, Bool, false, List, ℕ, ap, ◌∙◌}
+use Rattle.std.proofs.Common.{false, List, ℕ, ap, ◌∙◌}
 use Rattle.dom_model.specs.Forest.{tree_of}
 use Rattle.node_texts.specs.PlainText.{Plain, text_of, plain_text, text_entered, text_left}
 use Rattle.node_texts.specs.Walk.{walked}

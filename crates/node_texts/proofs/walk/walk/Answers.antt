@@ -1,4 +1,3 @@
-use Rattle.std.proofs.Common.{◌≡◌}
 use Rattle.node_texts.proofs.Visiting.{first_led, short_content, shown_tree}
 use Rattle.node_texts.proofs.walk.walk.Goals as goal
 

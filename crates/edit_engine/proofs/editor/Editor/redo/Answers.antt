@@ -3,7 +3,7 @@ use Rattle.std.specs.Prelude.{◌&&◌}
 use Rattle.edit_engine.specs.Changes.{CanFollow}
 use Rattle.edit_engine.specs.Editing.{EditorValue, IsResting, value_of}
 use Rattle.edit_engine.specs.declared.following.Following.{Following}
-use Rattle.edit_engine.proofs.Following.{redo_followed}
+use Rattle.edit_engine.proofs.Followed.{redo_followed}
 use Rattle.edit_engine.proofs.HistoryKinds.{labels_after_redo}
 use Rattle.edit_engine.proofs.Typing.{rests_redone}
 use Rattle.edit_engine.proofs.editor.Editor.redo.Goals as goal

@@ -10,7 +10,7 @@ use Rattle.edit_engine.specs.Execution.{Acted, Tells, run_outcome}
 use Rattle.edit_engine.specs.Running.{IsRefused, Ran, TellsChange}
 use Rattle.edit_engine.specs.declared.answers.ExecFault.{ExecFault}
 use Rattle.edit_engine.proofs.Outcomes.{shown, made_outcome, refused_tells, failed_tells}
-use Rattle.edit_engine.proofs.Following.{run_followed, kept_followed}
+use Rattle.edit_engine.proofs.Followed.{run_followed, kept_followed}
 use Rattle.edit_engine.proofs.Typing.{taken, told_edits, joining_is, rests_after}
 use Rattle.edit_engine.proofs.editor.Editor.run.Goals as goal
 

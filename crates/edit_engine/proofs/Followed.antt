@@ -1,5 +1,5 @@
 -- What a host is told of a call leads from the document before it to the document after it.
-use Rattle.std.proofs.Common.{◌≡◌, ℕ, ◌<◌, ◌≤◌, Bool, true, false, List, [], ◌∷◌, length, Some, Ok, refl, sym, ap, subst, ◌∙◌, inl, inr, arith}
+use Rattle.std.proofs.Common.{◌≡◌, ℕ, ◌<◌, ◌≤◌, Bool, true, false, true≢false, List, [], ◌∷◌, length, Some, Ok, refl, sym, ap, subst, ◌∙◌, inl, inr, arith}
 use Rattle.std.specs.Prelude.{◌↔◌, IsTrue}
 use Rattle.dom_model.specs.declared.Content.{Content}
 use Rattle.dom_model.specs.Forest.{Forest}
@@ -39,10 +39,8 @@ kept_followed old new typing after w same = inl (refl, ap (λ (s : State). s.tre
 -- the document is the one after the entry that undo would take, and before the one that redo would take
 undo_after : (d : Whole) (e : Entry) (es : List Entry) → d.history.undo ≡ e ∷ es → HoldsOnlyNeeded d → e.after.document ≡ d.state.trees
 undo_after d e es is needed =
-    let f = needed.0 in
-    let n = needed.1.1.1 in
-    let back = subst (λ (us : List Entry). LeadAllBack f needed.1.0 us) is n.undo in
-    first needed.1.0 back ∙ n.document
+    let back = subst (λ (us : List Entry). LeadAllBack needed.0 needed.1 us) is needed.3.undo in
+    first needed.1 back ∙ needed.3.document
   where
     first : (xs : List (List Change)) → LeadAllBack needed.0 xs (e ∷ es) → e.after.document ≡ document_of needed.0
     first [] h = absurd h
@@ -50,10 +48,8 @@ undo_after d e es is needed =
 
 redo_before : (d : Whole) (e : Entry) (es : List Entry) → d.history.redo ≡ e ∷ es → HoldsOnlyNeeded d → e.before.document ≡ d.state.trees
 redo_before d e es is needed =
-    let f = needed.0 in
-    let n = needed.1.1.1 in
-    let forth = subst (λ (us : List Entry). LeadAllForth f needed.1.1.0 us) is n.redo in
-    first needed.1.1.0 forth ∙ n.document
+    let forth = subst (λ (us : List Entry). LeadAllForth needed.0 needed.2 us) is needed.3.redo in
+    first needed.2 forth ∙ needed.3.document
   where
     first : (xs : List (List Change)) → LeadAllForth needed.0 xs (e ∷ es) → e.before.document ≡ document_of needed.0
     first [] h = absurd h
@@ -65,9 +61,9 @@ module _ (old new : Whole) (typing after : Bool) (w : Following) (needed : Holds
   undo_followed taken answer is lead = by_entries old.history.undo refl taken answer
     where
       by_entries : (us : List Entry) → old.history.undo ≡ us → (t : Bool) → (IsTrue t ↔ (0 < length us)) → CanFollow (value_of old typing w) (value_of new after (after_undo t w))
-      by_entries [] none true a = absurd (let lt = a.0 tt in omega (arith, lt))
+      by_entries [] none true a = absurd (let lt = a.0 refl in omega (arith, lt))
       by_entries [] none false a = inl (refl, ap (λ (d : Whole). d.state.trees) is ∙ ap (λ (us : List Entry). (undone_state_by us old.state).trees) none)
-      by_entries (e ∷ es) some false a = absurd (a.1 (omega arith))
+      by_entries (e ∷ es) some false a = absurd (true≢false (sym (a.1 (omega arith))))
       by_entries (e ∷ es) some true a =
           let trees : new.state.trees ≡ e.before.document = ap (λ (d : Whole). d.state.trees) is ∙ ap (λ (us : List Entry). (undone_state_by us old.state).trees) some in
           let redo : new.history.redo ≡ e ∷ old.history.redo = ap (λ (d : Whole). d.history.redo) is ∙ ap (λ (us : List Entry). (undone_history_by us old.history).redo) some in
@@ -86,9 +82,9 @@ module _ (old new : Whole) (typing after : Bool) (w : Following) (needed : Holds
   redo_followed taken answer is lead = by_entries old.history.redo refl taken answer
     where
       by_entries : (rs : List Entry) → old.history.redo ≡ rs → (t : Bool) → (IsTrue t ↔ (0 < length rs)) → CanFollow (value_of old typing w) (value_of new after (after_redo t w))
-      by_entries [] none true a = absurd (let lt = a.0 tt in omega (arith, lt))
+      by_entries [] none true a = absurd (let lt = a.0 refl in omega (arith, lt))
       by_entries [] none false a = inl (refl, ap (λ (d : Whole). d.state.trees) is ∙ ap (λ (rs : List Entry). (redone_state_by rs old.state).trees) none)
-      by_entries (e ∷ es) some false a = absurd (a.1 (omega arith))
+      by_entries (e ∷ es) some false a = absurd (true≢false (sym (a.1 (omega arith))))
       by_entries (e ∷ es) some true a =
           let trees : new.state.trees ≡ e.after.document = ap (λ (d : Whole). d.state.trees) is ∙ ap (λ (rs : List Entry). (redone_state_by rs old.state).trees) some in
           let undo : new.history.undo ≡ e ∷ old.history.undo = ap (λ (d : Whole). d.history.undo) is ∙ ap (λ (rs : List Entry). (redone_history_by rs old.history).undo) some in
