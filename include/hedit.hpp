@@ -21,6 +21,7 @@
 #include <string>
 #include <string_view>
 #include <utility>
+#include <variant>
 #include <vector>
 
 namespace hedit {
@@ -75,6 +76,53 @@ struct Attribute {
     std::string name;
     std::string value;
 };
+
+/* A node of a tree that comes into the page, and its level below the root of the tree. An element
+ * has a name and attributes, a text and a comment have a value. */
+struct TreeNode {
+    std::uint32_t level;
+    Label label;
+    hedit_node_kind kind;
+    std::string name;
+    std::vector<Attribute> attributes;
+    std::string value;
+};
+
+/* A node went, with its tree. */
+struct Removed {
+    Label label;
+};
+
+/* A tree came, told by its nodes in tree order, before a child of the parent, or at its end. */
+struct Inserted {
+    std::vector<TreeNode> tree;
+    Label parent;
+    std::optional<Label> before;
+};
+
+/* A node went to another place, with its tree. */
+struct Moved {
+    Label label;
+    Label parent;
+    std::optional<Label> before;
+};
+
+/* Of the characters of a text or a comment, `taken` from the offset `at` on gave way to others. */
+struct Replaced {
+    Label label;
+    std::uint32_t at;
+    std::uint32_t taken;
+    std::string put;
+};
+
+/* An element was given another list of attributes. */
+struct AttributesSet {
+    Label label;
+    std::vector<Attribute> attributes;
+};
+
+/* What a call changed: an edit of the page. */
+using Change = std::variant<Removed, Inserted, Moved, Replaced, AttributesSet>;
 
 /* A call was refused. */
 class Error : public std::runtime_error {
@@ -135,6 +183,94 @@ class BadArgument : public Error {
 class Closed : public Error {
   public:
     Closed() : Error(HEDIT_CLOSED, "the editor is closed") {}
+};
+
+/* Reads changes as hedit.h says that they are packed. */
+class ChangeReader {
+  public:
+    explicit ChangeReader(std::string_view packed) : rest_(packed) {}
+
+    /* All of them, in their order. */
+    std::vector<Change> changes() {
+        std::vector<Change> all;
+        while (!rest_.empty()) {
+            all.push_back(change());
+        }
+        return all;
+    }
+
+  private:
+    std::string_view take(std::size_t length) {
+        std::string_view taken = rest_.substr(0, length);
+        rest_.remove_prefix(taken.size());
+        return taken;
+    }
+
+    std::uint64_t number() {
+        std::uint64_t found = 0;
+        int shift = 0;
+        for (char byte : take(8)) {
+            found |= std::uint64_t{static_cast<unsigned char>(byte)} << shift;
+            shift += 8;
+        }
+        return found;
+    }
+
+    /* A label, an offset or a level. */
+    std::uint32_t small() { return static_cast<std::uint32_t>(number()); }
+
+    std::optional<Label> there() {
+        Label label = small();
+        return label == HEDIT_NO_NODE ? std::nullopt : std::optional<Label>(label);
+    }
+
+    std::string text() { return std::string(take(static_cast<std::size_t>(number()))); }
+
+    std::vector<Attribute> attributes() {
+        std::vector<Attribute> all;
+        for (std::uint64_t left = number(); left > 0; --left) {
+            std::string name = text();
+            all.push_back({std::move(name), text()});
+        }
+        return all;
+    }
+
+    TreeNode node() {
+        TreeNode node = {};
+        node.level = small();
+        node.label = small();
+        node.kind = static_cast<hedit_node_kind>(number());
+        if (node.kind == HEDIT_ELEMENT) {
+            node.name = text();
+            node.attributes = attributes();
+        } else if (node.kind != HEDIT_DOCUMENT) {
+            node.value = text();
+        }
+        return node;
+    }
+
+    Inserted inserted() {
+        Inserted change = {};
+        change.parent = small();
+        change.before = there();
+        for (std::uint64_t left = number(); left > 0; --left) {
+            change.tree.push_back(node());
+        }
+        return change;
+    }
+
+    /* What stands in braces is read in its order. */
+    Change change() {
+        switch (number()) {
+        case HEDIT_REMOVED: return Removed{small()};
+        case HEDIT_INSERTED: return inserted();
+        case HEDIT_MOVED: return Moved{small(), small(), there()};
+        case HEDIT_REPLACED: return Replaced{small(), small(), small(), text()};
+        default: return AttributesSet{small(), attributes()};
+        }
+    }
+
+    std::string_view rest_;
 };
 
 /* An editor of a page, which it closes when it ends. It can be moved, and not copied. Its calls
@@ -265,14 +401,15 @@ class Editor {
         return number;
     }
 
-    /* What the last of them changed that changed something, packed as hedit.h says. */
-    std::string changes() {
-        return read_text(
-                   [&](std::uint8_t *buffer, std::size_t capacity, std::size_t *length) {
-                       return hedit_changes(&handle_, buffer, capacity, length);
-                   },
-                   256)
-            .value();
+    /* What the last of them changed that changed something, from the first edit to the last. A tree
+     * that was the page before that call, and follows them, is the page. */
+    std::vector<Change> changes() {
+        std::optional<std::string> packed = read_text(
+            [&](std::uint8_t *buffer, std::size_t capacity, std::size_t *length) {
+                return hedit_changes(&handle_, buffer, capacity, length);
+            },
+            1024);
+        return ChangeReader(packed.value()).changes();
     }
 
     /* The points of the selection; none where nothing is selected. */

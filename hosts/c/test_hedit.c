@@ -3,6 +3,7 @@
 #include <hedit.h>
 
 #include <stdio.h>
+#include <stdlib.h>
 #include <string.h>
 
 /* A text without a terminating zero, and its length. */
@@ -433,6 +434,105 @@ static void labels(void) {
     CHECK(mark_in(&editor, "m", 0, 0) == HEDIT_CLOSED);
 }
 
+/* Packs words as changes are packed: a number, "-" for HEDIT_NO_NODE, and a text in quotes. */
+static size_t pack(const char *words, uint8_t *bytes) {
+    size_t length = 0;
+    while (*words != '\0') {
+        const char *end = *words == '\'' ? strchr(words + 1, '\'') + 1 : words + strcspn(words, " ");
+        size_t quoted = *words == '\'' ? (size_t)(end - words) - 2 : 0;
+        uint64_t number = *words == '\''  ? quoted
+                          : *words == '-' ? HEDIT_NO_NODE
+                                          : strtoul(words, NULL, 10);
+        int i;
+        for (i = 0; i < 8; i++)
+            bytes[length++] = (uint8_t)(number >> 8 * i);
+        memcpy(bytes + length, words + 1, quoted);
+        length += quoted;
+        words = end + (*end == ' ');
+    }
+    return length;
+}
+
+/* Whether the page was changed so often, and these are the last changes, as often as one asks: they
+ * come whole where there is just room for them, and not at all where there is room for less. */
+static int tells(hedit_editor *editor, uint64_t wanted_revision, const char *words) {
+    uint8_t wanted[400], buffer[401];
+    size_t room = pack(words, wanted), length = 7;
+    uint64_t revision = wanted_revision + 1;
+    memset(buffer, '.', sizeof buffer);
+    if (hedit_revision(editor, &revision) != HEDIT_DONE || revision != wanted_revision)
+        return 0;
+    if (room > 0 &&
+        (hedit_changes(editor, buffer, room - 1, &length) != HEDIT_TOO_SMALL || length != room ||
+         !holds(buffer, sizeof buffer, "")))
+        return 0;
+    return hedit_changes(editor, buffer, room, &length) == HEDIT_DONE && length == room &&
+           memcmp(buffer, wanted, room) == 0 && buffer[room] == '.';
+}
+
+static void select_text(hedit_editor *editor, uint32_t anchor, uint32_t anchor_offset, uint32_t focus,
+                        uint32_t focus_offset) {
+    CHECK(hedit_select_points(editor, anchor, anchor_offset, focus, focus_offset) == HEDIT_DONE);
+}
+
+/* What changes nothing tells the changes before it. */
+static void revisions(void) {
+    static const char came[] = "2 1 2 1 0 3 1 'b' 0 3 2 3 -", went[] = "3 2 1 - 1 3";
+    hedit_editor editor = opened(PAGE);
+    hedit_refusal refusal;
+    uint8_t buffer[2] = {'.', '.'};
+    uint64_t revision = 7;
+    size_t length = 7;
+    select_text(&editor, 2, 0, 2, 2);
+    CHECK(mark_in(&editor, "m", 2, 1) == HEDIT_DONE);
+    CHECK(bold(&editor, "bold") == HEDIT_NO && bold(&editor, ",") == HEDIT_BAD_ARGUMENT);
+    CHECK(hedit_exec(&editor, TEXT("createLink"), TEXT("")) == HEDIT_NO);
+    CHECK(hedit_undo(&editor) == HEDIT_NO && tells(&editor, 0, ""));
+    CHECK(bold(&editor, "") == HEDIT_DONE && tells(&editor, 1, came));
+    CHECK(hedit_redo(&editor) == HEDIT_NO && tells(&editor, 1, came));
+    CHECK(hedit_undo(&editor) == HEDIT_DONE && tells(&editor, 2, went));
+    CHECK(hedit_undo(&editor) == HEDIT_NO && tells(&editor, 2, went));
+    CHECK(hedit_redo(&editor) == HEDIT_DONE && tells(&editor, 3, came));
+    CHECK(hedit_exec(&editor, TEXT("styleWithCSS"), TEXT("true")) == HEDIT_DONE);
+    select_text(&editor, 2, 1, 2, 1);
+    CHECK(hedit_exec(&editor, TEXT("insertText"), TEXT("")) == HEDIT_DONE && tells(&editor, 3, came));
+    CHECK(hedit_open(&editor, TEXT(PAGE), 99, 9, &refusal) == HEDIT_DONE && tells(&editor, 0, ""));
+    hedit_close(&editor);
+    CHECK(hedit_revision(&editor, &revision) == HEDIT_CLOSED && revision == 7);
+    CHECK(hedit_changes(&editor, buffer, 2, &length) == HEDIT_CLOSED && length == 7);
+    CHECK(buffer[0] == '.' && buffer[1] == '.');
+}
+
+static void changes(void) {
+    hedit_editor editor = opened("<p contenteditable>a<b lang><!--n-->\xc3\xa9</b>c</p>");
+    CHECK(label_at(&editor, 0, 0, 9) == 2 && label_at(&editor, 0, 1, 1) == 5);
+    select_text(&editor, 2, 0, 6, 1);
+    CHECK(hedit_exec(&editor, TEXT("delete"), TEXT("")) == HEDIT_DONE);
+    CHECK(tells(&editor, 1, "1 2 1 3 1 6 2 1 - 1 0 7 1 'br' 0"));
+    CHECK(hedit_undo(&editor) == HEDIT_DONE);
+    CHECK(tells(&editor, 2,
+                "1 7 2 1 - 1 0 6 3 'c' 2 1 6 3 0 3 1 'b' 1 'lang' '' 1 4 8 'n' 1 5 3 '\xc3\xa9' "
+                "2 1 3 1 0 2 3 'a'"));
+    hedit_close(&editor);
+    editor = opened("<p contenteditable>\xc3\xa9</p>");
+    select_text(&editor, 2, 1, 2, 1);
+    CHECK(hedit_exec(&editor, TEXT("insertText"), TEXT("\xf0\x9f\x98\x80")) == HEDIT_DONE);
+    CHECK(tells(&editor, 1, "4 2 1 0 '\xf0\x9f\x98\x80'"));
+    CHECK(hedit_exec(&editor, TEXT("insertText"), TEXT("ab")) == HEDIT_DONE);
+    CHECK(tells(&editor, 2, "4 2 2 0 'a' 4 2 3 0 'b'"));
+    CHECK(hedit_undo(&editor) == HEDIT_DONE);
+    CHECK(tells(&editor, 3, "4 2 3 1 '' 4 2 2 1 '' 4 2 1 1 ''"));
+    select_text(&editor, 2, 1, 2, 1);
+    CHECK(hedit_exec(&editor, TEXT("insertParagraph"), TEXT("")) == HEDIT_DONE);
+    CHECK(tells(&editor, 4,
+                "2 1 2 1 0 3 1 'div' 0 3 2 3 - 2 1 - 1 0 4 1 'div' 0 2 4 - 1 0 5 1 'br' 0"));
+    CHECK(hedit_exec(&editor, TEXT("styleWithCSS"), TEXT("true")) == HEDIT_DONE);
+    select_text(&editor, 2, 0, 2, 1);
+    CHECK(hedit_exec(&editor, TEXT("foreColor"), TEXT("red")) == HEDIT_DONE);
+    CHECK(tells(&editor, 5, "2 3 2 1 0 6 1 'span' 0 5 6 1 'style' 'color: red;' 3 2 6 -"));
+    hedit_close(&editor);
+}
+
 int main(void) {
     versions();
     sessions();
@@ -449,6 +549,8 @@ int main(void) {
     searches();
     nodes();
     labels();
+    revisions();
+    changes();
     if (!failed)
         puts("hedit.h: each call answers as it should");
     return failed;

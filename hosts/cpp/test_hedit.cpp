@@ -149,6 +149,95 @@ static void labels() {
     refused<hedit::Closed>([&] { editor.selection(); }, "nor a selection");
 }
 
+static std::string told(const std::optional<hedit::Label> &label) {
+    return label ? std::to_string(*label) : "-";
+}
+
+static std::string told(const std::vector<hedit::Attribute> &attributes) {
+    std::string text;
+    for (const auto &[name, value] : attributes) {
+        text += ' ' + name + '=' + value;
+    }
+    return text;
+}
+
+/* A line for each change, and for each node of a tree that comes. */
+struct Teller {
+    std::string text;
+
+    void operator()(const hedit::Removed &change) {
+        text += "removed " + told(change.label) + '\n';
+    }
+
+    void operator()(const hedit::Inserted &change) {
+        text += "inserted " + told(change.parent) + ' ' + told(change.before) + '\n';
+        for (const hedit::TreeNode &node : change.tree) {
+            text += std::string(node.level + 1, ' ') + told(node.label) + ' ' +
+                    std::to_string(node.kind) + ' ' + node.name + node.value +
+                    told(node.attributes) + '\n';
+        }
+    }
+
+    void operator()(const hedit::Moved &change) {
+        text += "moved " + told(change.label) + ' ' + told(change.parent) + ' ' +
+                told(change.before) + '\n';
+    }
+
+    void operator()(const hedit::Replaced &change) {
+        text += "replaced " + told(change.label) + ' ' + std::to_string(change.at) + ' ' +
+                std::to_string(change.taken) + ' ' + change.put + '\n';
+    }
+
+    void operator()(const hedit::AttributesSet &change) {
+        text += "attributes " + told(change.label) + told(change.attributes) + '\n';
+    }
+};
+
+static void tells(hedit::Editor &editor, std::uint64_t revision, const std::string &changes,
+                  const char *words) {
+    Teller teller;
+    for (const hedit::Change &change : editor.changes()) {
+        std::visit(teller, change);
+    }
+    check(editor.revision() == revision && teller.text == changes, words);
+}
+
+static void changes() {
+    hedit::Editor editor("<p contenteditable>a<b lang id=\"x\"><!--n-->\u00e9</b>c</p>");
+    editor.select_points({2, 0}, {6, 1});
+    check(!editor.exec_gated("delete", "delete"), "a denied command does nothing");
+    tells(editor, 0, "", "nothing is told at first");
+    editor.exec("delete");
+    std::string gone = "removed 2\nremoved 3\nremoved 6\ninserted 1 -\n 7 1 br\n";
+    tells(editor, 1, gone, "what went is told");
+    refused<hedit::BadPlace>([&] { editor.select_points({99, 0}); }, "a label of no node");
+    tells(editor, 1, gone, "and told again");
+    editor.undo();
+    tells(editor, 2,
+          "removed 7\ninserted 1 -\n 6 3 c\n"
+          "inserted 1 6\n 3 1 b lang= id=x\n  4 8 n\n  5 3 \u00e9\n"
+          "inserted 1 3\n 2 3 a\n",
+          "what comes back is told whole");
+    check(!editor.undo(), "no step is left");
+    editor.select_points({5, 1});
+    editor.exec("insertText", "\u00fcy");
+    tells(editor, 3, "replaced 5 1 0 \u00fc\nreplaced 5 2 0 y\n", "characters are told");
+    editor.exec("styleWithCSS", "true");
+    editor.select_points({2, 0}, {2, 1});
+    editor.exec("foreColor", "red");
+    tells(editor, 4, "inserted 1 2\n 8 1 span\nattributes 8 style=color: red;\nmoved 2 8 -\n",
+          "attributes and a move are told");
+    editor.select_points({6, 1});
+    editor.exec("insertImage", std::string(20000, 'x'));
+    check(std::get<hedit::Inserted>(editor.changes().back()).tree[0].attributes[0].value.size() ==
+              20000,
+          "changes that are long are whole");
+    hedit::Editor other(std::move(editor));
+    check(other.revision() == 5, "a moved editor has its revision");
+    refused<hedit::Closed>([&] { editor.revision(); }, "a closed editor has no revision");
+    refused<hedit::Closed>([&] { editor.changes(); }, "and no changes");
+}
+
 int main() {
     check(hedit::version() == HEDIT_VERSION, "the library has the header's version");
     moves();
@@ -156,5 +245,6 @@ int main() {
     texts();
     gates();
     labels();
+    changes();
     return failed;
 }

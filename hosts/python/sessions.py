@@ -46,14 +46,14 @@ class FollowedEditor(Editor):
 
     def __init__(self, page: str, **options: int) -> None:
         super().__init__(page, **options)
-        self.tree, self.seen, self.is_followed = Tree(self), self.revision(), True
+        self.own_tree, self.seen, self.is_followed = Tree(self), self.revision(), True
 
     def _follow(self) -> None:
         if self.revision() != self.seen:
             self.is_followed &= self.revision() == self.seen + 1
-            self.tree.follow(self.changes())
+            self.own_tree.follow(self.changes())
             self.seen = self.revision()
-        self.is_followed &= self.tree.html() == self.html()
+        self.is_followed &= self.own_tree.html() == self.html()
 
     def exec(self, name: str | bytes, value: str | bytes = "", denied: Iterable[str] = ()) -> bool:
         try:

@@ -15,7 +15,23 @@ from typing import Any
 
 import hedit
 from hedit import _editor, _library
-from hedit import Editor, NodeKind, Point, Question, Selection, Status, View
+from hedit import (
+    AttributesSet,
+    Change,
+    Editor,
+    Inserted,
+    Moved,
+    NodeKind,
+    Point,
+    Question,
+    Removed,
+    Replaced,
+    Selection,
+    Status,
+    TreeNode,
+    View,
+)
+from hedit._changes import read_changes
 
 PAGE = "<p contenteditable>Call Ann</p>"
 
@@ -375,6 +391,8 @@ class Nodes(unittest.TestCase):
             editor.selection_html,
             editor.selection_text,
             editor.counts,
+            editor.revision,
+            editor.changes,
         ]
         for call in calls:
             self.assertIsInstance(in_another_thread(call), hedit.WrongThread)
@@ -429,6 +447,116 @@ class Points(unittest.TestCase):
             line = " ".join(f"{name} {number}" for name, number in zip(names, told))
             self.assertEqual(self.editor.numbers(), f"{line}\n")
         self.assertEqual((counts.nodes, counts.chars, counts.undo, counts.redo), (3, 8, 0, 1))
+
+
+def element(label: int, name: str, level: int = 0, **attributes: str) -> TreeNode:
+    return TreeNode(level, label, NodeKind.ELEMENT, name, attributes, "")
+
+
+def characters(label: int, value: str, level: int = 0, kind: NodeKind = NodeKind.TEXT) -> TreeNode:
+    return TreeNode(level, label, kind, "", {}, value)
+
+
+class Changes(unittest.TestCase):
+    def setUp(self) -> None:
+        self.editor = Editor("<p contenteditable>ab</p>")
+        self.addCleanup(self.editor.close)
+
+    def assert_tells(self, revision: int, changes: list[Change]) -> None:
+        """The page was changed so often, and this is told of the last time, as often as one asks."""
+        self.assertEqual(self.editor.revision(), revision)
+        self.assertEqual(self.editor.changes(), changes)
+        self.assertEqual(self.editor.changes(), changes)
+
+    def test_the_last_call_that_changed_something_is_told(self) -> None:
+        editor = self.editor
+        came: list[Change] = [Inserted((element(3, "b"),), 1, 2), Moved(2, 3, None)]
+        went: list[Change] = [Moved(2, 1, None), Removed(3)]
+        editor.select(Point(2, 0), Point(2, 2))
+        editor.mark("note", Point(2, 0), Point(2, 1))
+        self.assertFalse(editor.exec("bold", denied=["bold"]))
+        self.assertFalse(editor.exec("createLink"))
+        self.assert_tells(0, [])
+        self.assertTrue(editor.exec("bold"))
+        self.assert_tells(1, came)
+        self.assertFalse(editor.redo())
+        self.assert_tells(1, came)
+        self.assertTrue(editor.undo())
+        self.assertFalse(editor.undo())
+        self.assert_tells(2, went)
+        self.assertTrue(editor.redo())
+        self.assertTrue(editor.exec("styleWithCSS", "true"))
+        editor.unselect()
+        self.assert_tells(3, came)
+
+    def test_a_refused_call_changes_nothing(self) -> None:
+        editor = self.editor
+        with self.assertRaises(hedit.BadArgument):
+            editor.exec("bold", b"\xff")
+        with self.assertRaises(hedit.BadPlace):
+            editor.select(Point(9, 0))
+        self.assert_tells(0, [])
+        with Editor("<p contenteditable>ab</p>", label_cap=3) as full:
+            full.select(Point(2, 0), Point(2, 1))
+            self.assertRaises(hedit.PageFull, full.exec, "bold")
+            self.assertEqual((full.revision(), full.changes()), (0, []))
+
+    def test_characters_are_told_and_not_bytes(self) -> None:
+        editor = self.editor
+        editor.select(Point(2, 2))
+        editor.exec("insertText", "\ufeff\U0001f600")
+        self.assert_tells(1, [Replaced(2, 2, 0, "\ufeff"), Replaced(2, 3, 0, "\U0001f600")])
+        editor.exec("insertText", "\u00e9")
+        self.assert_tells(2, [Replaced(2, 4, 0, "\u00e9")])
+        editor.undo()
+        self.assert_tells(3, [Replaced(2, at, 1, "") for at in (4, 3, 2)])
+
+    def test_attributes_are_told(self) -> None:
+        editor = self.editor
+        editor.select(Point(2, 0), Point(2, 2))
+        editor.exec("styleWithCSS", "true")
+        editor.exec("foreColor", "red")
+        span = Inserted((element(3, "span"),), 1, 2)
+        self.assert_tells(1, [span, AttributesSet(3, {"style": "color: red;"}), Moved(2, 3, None)])
+        editor.undo()
+        self.assert_tells(2, [Moved(2, 1, None), AttributesSet(3, {}), Removed(3)])
+
+    def test_a_tree_comes_back_whole(self) -> None:
+        self.editor = Editor('<p contenteditable>a<b lang id="x"><!--n-->\u00e9</b>c</p>')
+        self.addCleanup(self.editor.close)
+        self.editor.select(Point(2, 0), Point(6, 1))
+        self.editor.exec("delete")
+        self.editor.undo()
+        tree = (
+            element(3, "b", lang="", id="x"),
+            characters(4, "n", 1, NodeKind.COMMENT),
+            characters(5, "\u00e9", 1),
+        )
+        last = Inserted((characters(6, "c"),), 1, None)
+        first = Inserted((characters(2, "a"),), 1, 3)
+        self.assert_tells(2, [Removed(7), last, Inserted(tree, 1, 6), first])
+        inserted = self.editor.changes()[2]
+        assert isinstance(inserted, Inserted)
+        self.assertEqual(list(inserted.tree[0].attributes), ["lang", "id"])
+
+    def test_changes_longer_than_the_room_are_whole(self) -> None:
+        address = "\u00fc" * 5_000
+        self.editor.select(Point(2, 1))
+        self.editor.exec("insertImage", address)
+        image = Inserted((element(3, "img", src=address),), 1, 4)
+        self.assert_tells(1, [Inserted((characters(4, "b"),), 1, None), Replaced(2, 1, 1, ""), image])
+
+    def test_changes_are_read_as_they_are_packed(self) -> None:
+        def packed(*numbers: int) -> bytes:
+            return b"".join(number.to_bytes(8, "little") for number in numbers)
+
+        self.assertEqual(read_changes(b""), [])
+        self.assertEqual(read_changes(packed(4, 2, 5, 2**40, 0)), [Replaced(2, 5, 2**40, "")])
+        document = TreeNode(0, 0, NodeKind.DOCUMENT, "", {}, "")
+        inserted = Inserted((document,), 1, None)
+        self.assertEqual(read_changes(packed(2, 1, 2**32 - 1, 1, 0, 0, 9)), [inserted])
+        with self.assertRaises(ValueError):
+            read_changes(packed(6, 1))
 
 
 class Causes(unittest.TestCase):

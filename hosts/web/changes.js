@@ -34,7 +34,7 @@
 const NO_NODE = 0xffffffff;
 const ELEMENT = 1;
 const DOCUMENT = 9;
-const decoder = new TextDecoder();
+const decoder = new TextDecoder("utf-8", { ignoreBOM: true });
 
 /**
  * Reads changes as the engine packs them: numbers of eight bytes, the lowest first, and texts after

@@ -585,9 +585,9 @@ export class Region extends EventTarget {
       return;
     }
     const write = this.#changeOfText(ours) ?? (isComposed ? this.#newText(ours) : null);
-    const labels = ours.map(({ target }) => this.#view.nearest(target));
+    const labels = ours.flatMap(({ target }) => this.#view.nearest(target) ?? []);
     for (const label of new Set(labels)) {
-      this.#view.follow(label);
+      this.#view.mend(label);
     }
     this.#observer.takeRecords();
     this.#finish(write ?? (() => false));

@@ -74,12 +74,6 @@ const ALIGNMENTS = new Map([
   ["justify", "justifyFull"],
 ]);
 
-/** @type {readonly (keyof Counts)[]} */
-const COUNTS = ["nodes", "nextLabel", "chars", "edits", "undo", "redo"];
-
-/** Commands that change one text, mostly. */
-const OF_A_TEXT = new Set(["inserttext", "delete"]);
-
 /**
  * A text as `insertText` takes it: its lines end with a line feed, and half of a surrogate pair is
  * replaced.
@@ -228,35 +222,14 @@ export class Commands {
    * @param {string} value
    */
   exec(name, value = "") {
-    const [before, text] = [this.#editor.counts(), this.#textAtCaret()];
+    const before = this.#editor.counts();
     const isDone = this.#editor.exec(name, value, this.#denied);
     if (isDone) {
-      this.#follow(name.toLowerCase(), before, text);
+      const isChanged = this.#view.follow();
+      this.#note(name.toLowerCase(), before, isChanged);
+      this.#done.isChanged ||= isChanged;
     }
     return isDone;
-  }
-
-  /**
-   * @param {string} name
-   * @param {Counts} before
-   * @param {number | null} text
-   */
-  #follow(name, before, text) {
-    const after = this.#editor.counts();
-    const isFull = before.undo === this.#undoDepth;
-    const isAlike = COUNTS.every((key) => before[key] === after[key]);
-    const isNear =
-      text !== null &&
-      OF_A_TEXT.has(name) &&
-      text === this.#textAtCaret() &&
-      before.nodes === after.nodes &&
-      before.nextLabel === after.nextLabel;
-    let isChanged = false;
-    if (isFull || !isAlike) {
-      isChanged = isNear ? this.#view.followBlock(text) : this.#view.follow();
-    }
-    this.#note(name, before, after, isChanged || !isAlike);
-    this.#done.isChanged ||= isChanged;
   }
 
   /**
@@ -264,22 +237,15 @@ export class Commands {
    * entry is known by what it changed.
    * @param {string} name
    * @param {Counts} before
-   * @param {Counts} after
-   * @param {boolean} isEdited
+   * @param {boolean} isChanged
    */
-  #note(name, before, after, isEdited) {
+  #note(name, before, isChanged) {
     const isText = name === "inserttext";
     const isFull = before.undo === this.#undoDepth;
-    const isNew = after.undo > before.undo || (isFull && isEdited && !(isText && this.#isTyping));
+    const isMore = this.#editor.counts().undo > before.undo;
+    const isNew = isMore || (isFull && isChanged && !(isText && this.#isTyping));
     this.#done.entries += Number(isNew);
-    this.#isTyping = isText && (this.#isTyping || isEdited);
-  }
-
-  /** The label of the text that the caret is in; null where it is in none. */
-  #textAtCaret() {
-    const selection = this.#editor.selection();
-    const isIn = isCaret(selection) && isText(this.#view.node(selection.focus.label) ?? null);
-    return isIn ? selection.focus.label : null;
+    this.#isTyping = isText && (this.#isTyping || isChanged);
   }
 
   /** @param {Selection} selection */
@@ -296,12 +262,10 @@ export class Commands {
   turn(most, call) {
     this.#isTyping = false;
     let turned = 0;
-    try {
-      while (turned < most && call()) {
-        turned += 1;
-      }
-    } finally {
-      this.#done.isChanged ||= this.#view.follow();
+    while (turned < most && call()) {
+      turned += 1;
+      this.#view.follow();
+      this.#done.isChanged = true;
     }
     return turned;
   }

@@ -5,9 +5,11 @@
  */
 import { NodeKind, toCharacters, toUnits } from "./hedit.js";
 
+/** @typedef {import("./hedit.js").Change} Change */
 /** @typedef {import("./hedit.js").Editor} Editor */
 /** @typedef {import("./hedit.js").Point} Point */
 /** @typedef {import("./hedit.js").Selection} Selection */
+/** @typedef {import("./hedit.js").TreeNode} TreeNode */
 
 /** Attributes whose values are addresses. */
 const ADDRESSES = new Set([
@@ -184,8 +186,11 @@ export class View {
   /** @type {WeakMap<Node, number>} */
   #labels = new WeakMap();
 
-  /** How often something of the page was changed. */
-  #changes = 0;
+  /**
+   * The editor's revision that the page shows; null before the first one.
+   * @type {number | null}
+   */
+  #seen = null;
 
   /** Where the browser is asked how it writes a style. */
   #style;
@@ -313,15 +318,103 @@ export class View {
   }
 
   /**
-   * Makes the page what the engine's nodes are, from the node of a label down, and says whether
-   * anything differed. What doesn't differ isn't touched.
-   *
-   * It compares the two, as long as the engine doesn't tell what it changed. A list of edits by label
-   * would be followed here, and nowhere else.
+   * Does to the page what the engine's last call changed, and looks at nothing else. At first, and
+   * where a call was missed, the two are compared. Says whether the engine's page is another one.
+   */
+  follow() {
+    const [seen, now] = [this.#seen, this.#editor.revision()];
+    this.#seen = now;
+    if (now === seen) {
+      return false;
+    }
+    if (seen === null || now > seen + 1) {
+      this.mend(this.#root);
+      return true;
+    }
+    for (const change of this.#editor.changes()) {
+      this.#followOne(change);
+    }
+    return true;
+  }
+
+  /** @param {Change} change */
+  #followOne(change) {
+    switch (change.type) {
+      case "remove": {
+        const node = /** @type {ChildNode} */ (this.#shown(change.label));
+        node.remove();
+        this.#forget(node);
+        break;
+      }
+      case "insert":
+        this.#put(this.#grow(change.tree), change.parent, change.before);
+        break;
+      case "move":
+        this.#put(this.#shown(change.label), change.parent, change.before);
+        break;
+      case "replace":
+        this.#replace(change.label, change.at, change.taken, change.put);
+        break;
+      default: {
+        const node = /** @type {HTMLElement} */ (this.#shown(change.label));
+        this.#updateAttributes(node, change.attributes);
+      }
+    }
+  }
+
+  /**
+   * The node that shows a label that the engine has.
    * @param {number} label
    */
-  follow(label = this.#root) {
-    const before = this.#changes;
+  #shown(label) {
+    return /** @type {Node} */ (this.#nodes.get(label));
+  }
+
+  /**
+   * @param {Node} node
+   * @param {number} parent
+   * @param {number | null} before
+   */
+  #put(node, parent, before) {
+    this.#shown(parent).insertBefore(node, before === null ? null : this.#shown(before));
+  }
+
+  /**
+   * Makes the nodes of a tree, and gives its root.
+   * @param {readonly TreeNode[]} tree
+   */
+  #grow(tree) {
+    /** @type {Node[]} */
+    const above = [];
+    for (const { level, label, kind, name, attributes, value } of tree) {
+      const node = this.#keep(label, this.#make(kind, name, value));
+      if (kind === NodeKind.ELEMENT) {
+        this.#updateAttributes(/** @type {HTMLElement} */ (node), attributes);
+      }
+      above.length = level;
+      above.at(-1)?.appendChild(node);
+      above.push(node);
+    }
+    return above[0];
+  }
+
+  /**
+   * @param {number} label
+   * @param {number} at
+   * @param {number} taken
+   * @param {string} put
+   */
+  #replace(label, at, taken, put) {
+    const [start, end] = [at, at + taken].map((offset) => this.place({ label, offset }).offset);
+    /** @type {CharacterData} */ (this.#shown(label)).replaceData(start, end - start, put);
+  }
+
+  /**
+   * Makes the page what the engine's nodes are, from the node of a label down, whatever the browser
+   * did to it. What doesn't differ isn't touched.
+   * @param {number} label
+   */
+  mend(label) {
     /** @type {Set<Node>} */
     const gone = new Set();
     if (this.#nodes.has(label)) {
@@ -332,20 +425,6 @@ export class View {
         this.#forget(node);
       }
     }
-    return this.#changes !== before;
-  }
-
-  /**
-   * The same for the block alone that a node stands in: one that its style makes no line of the block around
-   * it.
-   * @param {number} label
-   */
-  followBlock(label) {
-    let block = this.blockOf(/** @type {Node} */ (this.#nodes.get(label)));
-    while (block !== this.#element && /** @type {HTMLElement} */ (block).style.display !== "") {
-      block = this.blockOf(/** @type {Node} */ (block.parentNode));
-    }
-    return this.follow(this.label(block));
   }
 
   /**
@@ -366,30 +445,38 @@ export class View {
    * @param {Set<Node>} gone
    */
   #update(label, gone) {
-    const { kind } = this.#editor.node(label);
-    const node = this.#nodes.get(label) ?? this.#keep(label, this.#make(label, kind));
+    const node = this.#nodes.get(label) ?? this.#copy(label);
     if (isCharacters(node)) {
       this.#updateData(node, this.#editor.nodeValue(label));
       return node;
     }
     if (node !== this.#element) {
-      this.#updateAttributes(/** @type {HTMLElement} */ (node), label);
+      this.#updateAttributes(/** @type {HTMLElement} */ (node), this.#editor.attributes(label));
     }
     this.#updateChildren(node, [...this.#editor.children(label)], gone);
     return node;
   }
 
+  /** @param {number} label */
+  #copy(label) {
+    const { kind } = this.#editor.node(label);
+    const node = this.#make(kind, this.#editor.nodeName(label), this.#editor.nodeValue(label));
+    return this.#keep(label, node);
+  }
+
   /**
-   * @param {number} label
+   * A node without attributes.
    * @param {number} kind
+   * @param {string} name
+   * @param {string} value
    * @returns {Node}
    */
-  #make(label, kind) {
+  #make(kind, name, value) {
     const page = this.#element.ownerDocument;
     if (kind === NodeKind.ELEMENT) {
-      return page.createElement(this.#editor.nodeName(label));
+      return page.createElement(name);
     }
-    return kind === NodeKind.TEXT ? page.createTextNode("") : page.createComment("");
+    return kind === NodeKind.TEXT ? page.createTextNode(value) : page.createComment(value);
   }
 
   /**
@@ -403,17 +490,17 @@ export class View {
     }
     const { start, end, put } = difference(node.data, data);
     node.replaceData(start, end - start, put);
-    this.#changes += 1;
   }
 
   /**
-   * The attributes that the page is to have of a node, with styles as the browser writes them.
-   * @param {number} label
+   * What the page is to have of the engine's attributes of a node, with styles as the browser
+   * writes them.
+   * @param {ReadonlyMap<string, string>} attributes
    */
-  #shownAttributes(label) {
+  #shownAttributes(attributes) {
     /** @type {Map<string, string>} */
     const shown = new Map();
-    for (const [name, value] of this.#editor.attributes(label)) {
+    for (const [name, value] of attributes) {
       const text = name === "style" ? this.#styleText(value) : value;
       if (text !== null && isShown(name, value)) {
         shown.set(name, text);
@@ -434,13 +521,12 @@ export class View {
   /**
    * A style is set as a property: a content security policy may refuse the attribute.
    * @param {HTMLElement} node
-   * @param {number} label
+   * @param {ReadonlyMap<string, string>} attributes the engine's
    */
-  #updateAttributes(node, label) {
-    const shown = this.#shownAttributes(label);
+  #updateAttributes(node, attributes) {
+    const shown = this.#shownAttributes(attributes);
     for (const name of node.getAttributeNames().filter((name) => !shown.has(name))) {
       node.removeAttribute(name);
-      this.#changes += 1;
     }
     for (const [name, value] of shown) {
       if (node.getAttribute(name) === value) {
@@ -451,7 +537,6 @@ export class View {
       } else {
         node.setAttribute(name, value);
       }
-      this.#changes += 1;
     }
   }
 
@@ -469,7 +554,6 @@ export class View {
         at = this.#staying(node.nextSibling, staying, gone);
       } else {
         parent.insertBefore(node, at);
-        this.#changes += 1;
       }
     }
   }
@@ -487,7 +571,6 @@ export class View {
       const next = at.nextSibling;
       at.remove();
       gone.add(at);
-      this.#changes += 1;
       at = next;
     }
     return at;
@@ -499,7 +582,7 @@ export class View {
    */
   #forget(node) {
     const label = this.label(node);
-    if (label !== undefined && this.#nodes.get(label) === node) {
+    if (label !== undefined) {
       this.#nodes.delete(label);
     }
     for (const child of node.childNodes) {
@@ -569,7 +652,8 @@ export class View {
       return `node ${label} is ${name}, and not ${node.localName}`;
     }
     const there = node.getAttributeNames().map((each) => [each, node.getAttribute(each)]);
-    const texts = [this.#shownAttributes(label), there].map((all) => JSON.stringify([...all].sort()));
+    const wanted = this.#shownAttributes(this.#editor.attributes(label));
+    const texts = [wanted, there].map((all) => JSON.stringify([...all].sort()));
     return texts[0] === texts[1] ? null : `node ${label} has ${texts[0]}, and not ${texts[1]}`;
   }
 

@@ -4,12 +4,14 @@
  *
  * Each goes through Engine.session, which has to give what is stored. Those of `run` also go through
  * an Editor, call by call: the lines that are acts for which it has calls, which the engine has to
- * answer as a session of these lines alone.
+ * answer as a session of these lines alone. Beside it a tree follows what each call changed, and has
+ * to come to the same HTML after each.
  */
 import { readFileSync, readdirSync } from "node:fs";
 import { join } from "node:path";
 import { argv, exit } from "node:process";
 import { BYTES } from "./test/engine.mjs";
+import { Tree } from "./follow.mjs";
 import { HeditError, load } from "./hedit.js";
 
 const engine = await load(BYTES);
@@ -132,9 +134,32 @@ function linesOf(bytes) {
     });
 }
 
+/** Lets a tree follow what each call of an editor changes, and gives whether it was the page after each. */
+function followed(editor) {
+  const tree = new Tree(editor);
+  let [seen, isFollowed] = [editor.revision(), true];
+  for (const name of ["exec", "undo", "redo"]) {
+    const call = editor[name].bind(editor);
+    editor[name] = (...words) => {
+      try {
+        return call(...words);
+      } finally {
+        const revision = editor.revision();
+        if (revision !== seen) {
+          isFollowed &&= revision === seen + 1;
+          tree.follow(editor.changes());
+          seen = revision;
+        }
+        isFollowed &&= tree.html() === editor.html();
+      }
+    };
+  }
+  return () => isFollowed;
+}
+
 /**
- * The transcript of the acts that an Editor has calls for, by these calls, and the session that has
- * these acts alone.
+ * The transcript of the acts that an Editor has calls for, by these calls, the session that has these
+ * acts alone, and whether a tree could follow them.
  */
 function byCalls(bytes, { denied, ...limits }) {
   const known = actsPast(denied);
@@ -142,9 +167,10 @@ function byCalls(bytes, { denied, ...limits }) {
   const end = lines.indexOf(opening.replace(/^page <</, ""));
   const acts = lines.slice(end + 1).filter((line) => actOf(known, line));
   const editor = engine.open(lines.slice(0, end).join("\n"), limits);
+  const isFollowed = followed(editor);
   const transcript = acts.map((line) => replyOf(editor, actOf(known, line))).join("");
   editor.close();
-  return [transcript, [opening, ...lines.slice(0, end + 1), ...acts, ""].join("\n")];
+  return [transcript, [opening, ...lines.slice(0, end + 1), ...acts, ""].join("\n"), isFollowed()];
 }
 
 /** The limits and the denied names of the words; undefined where they ask for something else. */
@@ -181,15 +207,18 @@ for (const folder of argv.slice(2)) {
     const limits = limitsOf(words);
     if (limits && status === 0) {
       calls += 1;
-      const [transcript, known] = byCalls(input, limits);
+      const [transcript, known, isFollowed] = byCalls(input, limits);
       const wanted = engine.session(known, words);
       if (wanted.status !== 0 || wanted.transcript !== transcript) {
         differ.push(`${file} call by call`);
       }
+      if (!isFollowed) {
+        differ.push(`${file} followed`);
+      }
     }
   }
 }
-console.log(`web: ${whole} stored sessions as sessions, ${calls} call by call; ${differ.length} differ`);
+console.log(`web: ${whole} stored sessions as sessions, ${calls} call by call and followed; ${differ.length} differ`);
 for (const line of differ.slice(0, 20)) {
   console.log(line);
 }

@@ -12,6 +12,7 @@ import { it } from "node:test";
 const FILES = {
   "/": ["page.html", "text/html"],
   "/hedit.js": ["../hedit.js", "text/javascript"],
+  "/changes.js": ["../changes.js", "text/javascript"],
   "/hedit.wasm": ["../dist/hedit.wasm", "application/wasm"],
 };
 

@@ -3,6 +3,7 @@ import { readFile } from "node:fs/promises";
 import { createServer } from "node:http";
 import { describe, it } from "node:test";
 import { BYTES, collect, withMorePages } from "./engine.mjs";
+import { readChanges } from "../changes.js";
 import * as hedit from "../hedit.js";
 
 const { NodeKind, PageKind, Question, Status, View, load, toCharacters, toUnits } = hedit;
@@ -417,6 +418,134 @@ describe("nodes", () => {
       refused(() => editor.labelAt(path), "BadPlace", Status.BAD_PLACE);
     }
     assert.equal(editor.points(), "none\n");
+  });
+});
+
+describe("changes", () => {
+  const open = (t, page = "<p contenteditable>ab</p>") => {
+    const editor = engine.open(page);
+    t.after(() => editor.close());
+    return editor;
+  };
+
+  const element = (label, name, attributes = new Map(), level = 0) =>
+    ({ level, label, kind: NodeKind.ELEMENT, name, attributes, value: "" });
+
+  const text = (label, value, level = 0) =>
+    ({ level, label, kind: NodeKind.TEXT, name: "", attributes: new Map(), value });
+
+  const came = [
+    { type: "insert", tree: [element(3, "b")], parent: 1, before: 2 },
+    { type: "move", label: 2, parent: 3, before: null },
+  ];
+
+  const went = [
+    { type: "move", label: 2, parent: 1, before: null },
+    { type: "remove", label: 3 },
+  ];
+
+  /** Whether the page was changed so often, and what is told of the last time, as often as one asks. */
+  const tells = (editor, revision, changes) => {
+    assert.equal(editor.revision(), revision);
+    assert.deepEqual(editor.changes(), changes);
+    assert.deepEqual(editor.changes(), changes);
+  };
+
+  it("are told of the last call that changed something", (t) => {
+    const editor = open(t);
+    editor.select({ label: 2, offset: 0 }, { label: 2, offset: 2 });
+    editor.mark("note", { label: 2, offset: 0 }, { label: 2, offset: 1 });
+    assert.equal(editor.exec("bold", "", ["bold"]), false);
+    assert.equal(editor.exec("createLink"), false);
+    tells(editor, 0, []);
+    assert.equal(editor.exec("bold"), true);
+    tells(editor, 1, came);
+    assert.equal(editor.redo(), false);
+    tells(editor, 1, came);
+    assert.equal(editor.undo(), true);
+    assert.equal(editor.undo(), false);
+    tells(editor, 2, went);
+    assert.equal(editor.redo(), true);
+    assert.equal(editor.exec("styleWithCSS", "true"), true);
+    editor.unselect();
+    tells(editor, 3, came);
+  });
+
+  it("tell characters, and attributes in their order", (t) => {
+    const editor = open(t);
+    editor.select({ label: 2, offset: 2 });
+    editor.exec("insertText", "\ufeff😀");
+    tells(editor, 1, [
+      { type: "replace", label: 2, at: 2, taken: 0, put: "\ufeff" },
+      { type: "replace", label: 2, at: 3, taken: 0, put: "😀" },
+    ]);
+    editor.exec("insertText", "é");
+    tells(editor, 2, [{ type: "replace", label: 2, at: 4, taken: 0, put: "é" }]);
+    editor.undo();
+    const takes = (at) => ({ type: "replace", label: 2, at, taken: 1, put: "" });
+    tells(editor, 3, [takes(4), takes(3), takes(2)]);
+    editor.select({ label: 2, offset: 0 }, { label: 2, offset: 2 });
+    editor.exec("styleWithCSS", "true");
+    editor.exec("foreColor", "red");
+    tells(editor, 4, [
+      { type: "insert", tree: [element(3, "span")], parent: 1, before: 2 },
+      { type: "attributes", label: 3, attributes: new Map([["style", "color: red;"]]) },
+      { type: "move", label: 2, parent: 3, before: null },
+    ]);
+  });
+
+  it("tell the whole tree that comes back", (t) => {
+    const editor = open(t, '<p contenteditable>a<b lang id="x"><!--n-->é</b>c</p>');
+    editor.select({ label: 2, offset: 0 }, { label: 6, offset: 1 });
+    editor.exec("delete");
+    editor.undo();
+    const attributes = new Map([["lang", ""], ["id", "x"]]);
+    const tree = [
+      element(3, "b", attributes),
+      { level: 1, label: 4, kind: NodeKind.COMMENT, name: "", attributes: new Map(), value: "n" },
+      text(5, "é", 1),
+    ];
+    tells(editor, 2, [
+      { type: "remove", label: 7 },
+      { type: "insert", tree: [text(6, "c")], parent: 1, before: null },
+      { type: "insert", tree, parent: 1, before: 6 },
+      { type: "insert", tree: [text(2, "a")], parent: 1, before: 3 },
+    ]);
+    assert.deepEqual([...editor.changes()[2].tree[0].attributes.keys()], ["lang", "id"]);
+  });
+
+  it("are whole where they are longer than the room", (t) => {
+    const editor = open(t);
+    editor.select({ label: 2, offset: 1 });
+    const address = "ü".repeat(5_000);
+    editor.exec("insertImage", address);
+    tells(editor, 1, [
+      { type: "insert", tree: [text(4, "b")], parent: 1, before: null },
+      { type: "replace", label: 2, at: 1, taken: 1, put: "" },
+      { type: "insert", tree: [element(3, "img", new Map([["src", address]]))], parent: 1, before: 4 },
+    ]);
+  });
+
+  it("are read as they are packed", () => {
+    const bytes = (...numbers) => new Uint8Array(new BigUint64Array(numbers.map(BigInt)).buffer);
+    assert.deepEqual(readChanges(bytes()), []);
+    const taken = 2 ** 40 + 3;
+    const replaced = { type: "replace", label: 2, at: 5, taken, put: "" };
+    assert.deepEqual(readChanges(bytes(4, 2, 5, taken, 0)), [replaced]);
+    const within = Uint8Array.from([7, 7, 7, ...bytes(1, 9)]).subarray(3);
+    assert.deepEqual(readChanges(within), [{ type: "remove", label: 9 }]);
+    const document = { level: 0, label: 0, kind: 9, name: "", attributes: new Map(), value: "" };
+    const inserted = { type: "insert", parent: 1, before: null, tree: [document] };
+    assert.deepEqual(readChanges(bytes(2, 1, 0xffffffff, 1, 0, 0, 9)), [inserted]);
+    assert.throws(() => readChanges(bytes(6, 1)), RangeError);
+    assert.throws(() => readChanges(bytes(1, 9).subarray(0, 12)), RangeError);
+  });
+
+  it("are refused when the editor is closed", () => {
+    const editor = engine.open(PAGE);
+    editor.close();
+    refused(() => editor.revision(), "EditorClosed", Status.CLOSED);
+    refused(() => editor.changes(), "EditorClosed", Status.CLOSED);
   });
 });
 

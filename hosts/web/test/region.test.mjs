@@ -13,6 +13,7 @@ import { Browser, missing } from "./chromium.mjs";
 const FILES = {
   "/": ["region.html", "text/html"],
   "/hedit.js": ["../hedit.js", "text/javascript"],
+  "/changes.js": ["../changes.js", "text/javascript"],
   "/region.js": ["../region.js", "text/javascript"],
   "/region_commands.js": ["../region_commands.js", "text/javascript"],
   "/region_input.js": ["../region_input.js", "text/javascript"],

@@ -1,0 +1,42 @@
+/* A tree that a host in C keeps of a page, and that follows it by what changed alone. */
+#ifndef TREE_H
+#define TREE_H
+
+#include <hedit.h>
+
+#include <stddef.h>
+#include <stdint.h>
+
+struct text {
+    uint8_t *bytes;
+    size_t length;
+};
+
+/* A node. Of its attributes it has the HTML. */
+struct node {
+    uint32_t label, kind;
+    struct text name, attributes, value;
+    struct node *parent, *first_child, *last_child, *previous, *next;
+};
+
+/* The nodes by their labels, NULL where the page has none, and how many labels have room. */
+struct tree {
+    struct node **nodes;
+    size_t room;
+};
+
+/* The program ends where a call should have been done and was not. */
+void want(uint32_t status);
+
+/* The tree of an editor's page, read by the calls on nodes. */
+struct tree tree_of(hedit_editor *editor);
+
+/* Does what the last call changed that changed something. Before that call the tree was the page. */
+void tree_follow(struct tree *tree, hedit_editor *editor);
+
+/* The HTML of the tree as the editor prints it. The caller frees its bytes. */
+struct text tree_html(const struct tree *tree);
+
+void tree_close(struct tree *tree);
+
+#endif
