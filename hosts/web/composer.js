@@ -23,7 +23,10 @@ const NEW_MESSAGE =
   '<p><br></p><div class="signature" contenteditable="false"><p><b>Ada Lovelace</b><br>' +
   "Analytical Engines, 12 St James’s Square, London</p></div>";
 
-/** The colours to choose from. A mail is read on light and on dark: text can be read on both. */
+/**
+ * The colours to choose from, by command. A mail is read on light and on dark: text can be read on both.
+ * @type {Readonly<Record<string, readonly (readonly [string, string])[]>>}
+ */
 const PALETTES = {
   foreColor: [
     ["Automatic", "#000000"],
@@ -47,19 +50,22 @@ const PALETTES = {
   ],
 };
 
-/** What is shown of a value that no item of the menu has. */
+/**
+ * What is shown of a value that no item of the menu has, by command.
+ * @type {Readonly<Record<string, (value: string) => string>>}
+ */
 const OTHER_VALUE = {
-  formatBlock: (/** @type {string} */ value) => (value ? `Block: ${value}` : "Text"),
-  fontSize: (/** @type {string} */ value) => (value ? `Size ${value}` : "Sizes"),
+  formatBlock: (value) => (value ? `Block: ${value}` : "Text"),
+  fontSize: (value) => (value ? `Size ${value}` : "Sizes"),
 };
 
-/** How long after a change the words are counted and the draft is kept, in milliseconds. */
-const PAUSE = 300;
+/** How long after a change the words are counted, the source is shown and the draft is kept, in milliseconds. */
+const PAUSE = 250;
 
-/** How long typing has to rest before a screen reader says how many words there are. */
+/** How long typing has to rest before a screen reader is told how many words there are. */
 const SPOKEN_PAUSE = 2500;
 
-/** How long it is said that something couldn't be done. */
+/** How long a remark on what was done stays. */
 const SAID_PAUSE = 4000;
 
 /**
@@ -70,7 +76,25 @@ const SAID_PAUSE = 4000;
 const part = (id) => document.getElementById(id);
 
 /**
- * A call that is made once things rest for a while after it was asked for.
+ * A call that is made a while after it was asked for, once for all who ask meanwhile.
+ * @param {() => void} call
+ * @param {number} pause
+ */
+function gathered(call, pause) {
+  let isWaiting = false;
+  return () => {
+    if (!isWaiting) {
+      isWaiting = true;
+      setTimeout(() => {
+        isWaiting = false;
+        call();
+      }, pause);
+    }
+  };
+}
+
+/**
+ * A call that is made once nobody has asked for it for a while.
  * @param {() => void} call
  * @param {number} pause
  */
@@ -95,9 +119,9 @@ function unmarkSelected() {
 }
 
 /**
- * Puts the colours to choose from into a menu.
+ * Puts the colours to choose from into a menu, which shows the name of the one that is pointed at.
  * @param {HTMLElement} menu
- * @param {readonly string[][]} colours
+ * @param {readonly (readonly [string, string])[]} colours
  */
 function fillPalette(menu, colours) {
   for (const [name, value] of colours) {
@@ -107,6 +131,11 @@ function fillPalette(menu, colours) {
     item.setAttribute("role", "menuitemradio");
     item.setAttribute("aria-label", name);
     item.style.setProperty("--swatch", value === "#000000" ? "currentColor" : value);
+    for (const kind of ["focus", "pointerenter"]) {
+      item.addEventListener(kind, () => {
+        menu.dataset.name = name;
+      });
+    }
     menu.append(item);
   }
 }
@@ -115,7 +144,6 @@ function fillPalette(menu, colours) {
 class Composer {
   #engine;
 
-  /** @type {Region} */
   #region;
 
   #toolbar = new Toolbar(part("toolbar"));
@@ -126,17 +154,11 @@ class Composer {
   /** Whether the controls are to be refreshed with the next frame. */
   #isStale = false;
 
-  /**
-   * The link around the caret when the panel for links was opened.
-   * @type {Element | null}
-   */
-  #linked = null;
+  #countSoon = gathered(() => this.#count(), PAUSE);
 
-  #countSoon = rested(() => this.#count(), PAUSE);
+  #keepSoon = gathered(() => this.#keep(), PAUSE);
 
-  #keepSoon = rested(() => this.#keep(), PAUSE);
-
-  #showSourceSoon = rested(() => this.#showSource(), PAUSE);
+  #showSourceSoon = gathered(() => this.#showSource(), PAUSE);
 
   #sayCountSoon = rested(() => {
     part("spoken").textContent = part("count").textContent;
@@ -149,6 +171,8 @@ class Composer {
   /** @param {Awaited<ReturnType<typeof load>>} engine */
   constructor(engine) {
     this.#engine = engine;
+    const draft = keptDraft();
+    this.#region = this.#open(draft?.html ?? NEW_MESSAGE);
     this.#startToolbar();
     this.#startMenus();
     this.#startLink();
@@ -156,48 +180,54 @@ class Composer {
     this.#startKeys();
     this.#startFrame();
     this.#startSource();
-    showTips(part("tip"), ".tool[aria-label], .palette > button");
-    const draft = keptDraft();
-    this.#fill(draft?.to ?? "", draft?.subject ?? "", draft?.html ?? NEW_MESSAGE);
+    showTips(part("tip"), ".tool[aria-label]");
+    this.#address(draft?.to ?? "", draft?.subject ?? "");
     (draft ? this.#region : part("to")).focus();
   }
 
   // The message.
 
   /**
-   * @param {string} to
-   * @param {string} subject
+   * The region with a message in it, or with a new one where that is refused, as a draft that doesn't read back.
    * @param {string} html
+   * @returns {Region}
    */
-  #fill(to, subject, html) {
-    part("to").value = to;
-    part("subject").value = subject;
-    this.#region?.close();
-    this.#region = this.#opened(html);
-    this.#region.addEventListener("statechange", () => this.#refreshSoon());
-    this.#region.addEventListener("change", () => this.#changed());
-    this.#region.addEventListener("error", (/** @type {ErrorEvent} */ event) => {
-      this.#say(`That wasn’t done: ${event.message}`);
-    });
-    this.#showSubject();
-    this.#count();
-    this.#refreshSoon();
-  }
-
-  /**
-   * The region with a message, or with a new one where it is none, as a draft that doesn't read back.
-   * @param {string} html
-   */
-  #opened(html) {
+  #open(html) {
     try {
-      return new Region(this.#engine, part("message"), { html });
+      const region = new Region(this.#engine, part("message"), { html });
+      this.#listen(region);
+      return region;
     } catch (error) {
       if (!(error instanceof HeditError) || html === NEW_MESSAGE) {
         throw error;
       }
       this.#say("The draft couldn’t be read");
-      return this.#opened(NEW_MESSAGE);
+      return this.#open(NEW_MESSAGE);
     }
+  }
+
+  /** @param {Region} region */
+  #listen(region) {
+    region.addEventListener("statechange", () => this.#refreshSoon());
+    region.addEventListener("change", () => this.#changed());
+    region.addEventListener("error", ({ message }) => this.#say(`That wasn’t done: ${message}`));
+    // The caret is at the start, and the command reads it there. Mail programs know elements better than styles.
+    document.getSelection()?.collapse(part("message").firstChild, 0);
+    region.exec("styleWithCSS", "false");
+  }
+
+  /**
+   * Shows to whom the message goes and what it is on, and all that is shown of the message.
+   * @param {string} to
+   * @param {string} subject
+   */
+  #address(to, subject) {
+    part("to").value = to;
+    part("subject").value = subject;
+    this.#showSubject();
+    this.#count();
+    this.#refresh();
+    this.#showSource();
   }
 
   #changed() {
@@ -228,8 +258,18 @@ class Composer {
       }
       this.#say(`That wasn’t done: ${error.message}`);
     }
-    if (this.#toolbar.has(focused)) {
-      focused.focus();
+    this.#return(focused);
+  }
+
+  /**
+   * Puts the focus where it was before a menu or a panel had it: in the toolbar, or else in the message, with
+   * what is selected there.
+   * @param {Element | null} before
+   */
+  #return(before) {
+    unmarkSelected();
+    if (before instanceof HTMLElement && this.#toolbar.has(before)) {
+      before.focus();
     } else {
       this.#region.focus();
     }
@@ -283,7 +323,9 @@ class Composer {
 
   /** @param {Region} region */
   #quote(region) {
-    return this.#around("blockquote") ? region.exec("outdent") : region.exec("formatBlock", "blockquote");
+    return this.#around("blockquote") === null
+      ? region.exec("formatBlock", "blockquote")
+      : region.exec("outdent");
   }
 
   #startMenus() {
@@ -294,9 +336,10 @@ class Composer {
         fillPalette(menu, PALETTES[command]);
       }
       const button = document.querySelector(`[popovertarget="${menu.id}"]`);
-      const choices = new Menu(menu, ({ dataset }) => {
+      const choose = (/** @type {HTMLElement} */ { dataset }) => {
         this.#act((region) => region.exec(command, dataset.value));
-      });
+      };
+      const choices = new Menu(menu, choose, (before) => this.#return(before));
       this.#menus.set(command, { choices, button });
     }
   }
@@ -344,7 +387,8 @@ class Composer {
       const chosen = choices.show(({ dataset }) => dataset.value === value);
       const words = chosen?.textContent ?? OTHER_VALUE[command](value);
       const isMixed = this.#region.indeterm(command);
-      button.querySelector(".chosen").textContent = isMixed ? "Mixed" : words;
+      const shown = /** @type {Element} */ (button.querySelector(".chosen"));
+      shown.textContent = isMixed ? "Mixed" : words;
     }
   }
 
@@ -355,28 +399,29 @@ class Composer {
     setEnabled(part("link-button"), isEnabled);
     setEnabled(part("image-button"), isEnabled);
     setEnabled(part("unlink-button"), isEnabled && (isLink || this.#region.indeterm("createLink")));
-    setEnabled(part("quote-button"), isEnabled && !this.#around("li"));
+    setEnabled(part("quote-button"), isEnabled && this.#around("li") === null);
     setPressed(part("link-button"), isLink);
-    setPressed(part("quote-button"), Boolean(this.#around("blockquote")));
+    setPressed(part("quote-button"), this.#around("blockquote") !== null);
   }
 
   /**
-   * The element of a kind around the caret, in the message.
-   * @param {string} selector
-   * @returns {Element | null}
+   * The label of the innermost element of a name around the caret; null where there is none.
+   * @param {string} name
    */
-  #around(selector) {
-    const { anchorNode } = /** @type {Selection} */ (document.getSelection());
-    const element = anchorNode instanceof Element ? anchorNode : anchorNode?.parentElement;
-    const found = element?.closest(selector);
-    return found && part("message").contains(found) ? found : null;
+  #around(name) {
+    const { editor } = this.#region;
+    let label = editor.selection()?.focus.label ?? null;
+    while (label !== null && editor.nodeName(label) !== name) {
+      label = editor.node(label).parent;
+    }
+    return label;
   }
 
   // Links and images.
 
   #startLink() {
     const panel = part("link-panel");
-    onPopup(panel, () => this.#askForLink(), unmarkSelected);
+    onPopup(panel, () => this.#askForLink(), (before) => this.#return(before));
     panel.addEventListener("submit", (/** @type {Event} */ event) => {
       event.preventDefault();
       const [text, address] = [part("link-text").value, addressOf(part("link-address").value)];
@@ -401,36 +446,41 @@ class Composer {
     part("link-text").value = "";
     part("link-address").value = address;
     part("link-remove").hidden = address === "";
-    this.#linked = this.#around("a[href]");
     part(asksText ? "link-text" : "link-address").select();
   }
 
-  #isCaret() {
+  /** The end of the selection that moves. There is one wherever a command is enabled. */
+  #caret() {
     const selection = this.#region.editor.selection();
-    const { anchor, focus } = selection ?? {};
+    return /** @type {import("./hedit.js").Selection} */ (selection).focus;
+  }
+
+  #isCaret() {
+    const { anchor, focus } = this.#region.editor.selection() ?? {};
     return anchor?.label === focus?.label && anchor?.offset === focus?.offset;
   }
 
   /**
-   * Makes a link of what is selected, or of the link around the caret, or else of a text that it
-   * inserts.
+   * Makes a link of what is selected. At a caret it changes the link that is there, or else inserts a text.
    * @param {Region} region
    * @param {string} text
    * @param {string} address
    */
   #link(region, text, address) {
-    if (this.#isCaret()) {
-      if (!this.#linked && !region.exec("insertText", text)) {
-        return false;
-      }
-      const { focusNode, focusOffset } = document.getSelection();
-      if (this.#linked) {
-        document.getSelection().selectAllChildren(this.#linked);
-      } else {
-        document.getSelection().setBaseAndExtent(focusNode, focusOffset - text.length, focusNode, focusOffset);
-      }
+    const { editor } = region;
+    const link = this.#around("a");
+    if (!this.#isCaret()) {
+      return region.exec("createLink", address);
     }
-    return region.exec("createLink", address);
+    if (link !== null) {
+      editor.select({ label: link, offset: 0 }, { label: link, offset: editor.node(link).length });
+    } else if (region.exec("insertText", text)) {
+      const { label, offset } = this.#caret();
+      editor.select({ label, offset: offset - [...text].length }, { label, offset });
+    }
+    const isDone = region.exec("createLink", address);
+    editor.select(this.#caret());
+    return isDone;
   }
 
   #startImage() {
@@ -440,11 +490,12 @@ class Composer {
       panel.hidePopover();
       this.#act((region) => region.exec("insertImage", address));
     };
-    onPopup(panel, () => {
+    const ask = () => {
       markSelected();
       panel.reset();
       part("image-address").focus();
-    }, unmarkSelected);
+    };
+    onPopup(panel, ask, (before) => this.#return(before));
     panel.addEventListener("submit", (/** @type {Event} */ event) => {
       event.preventDefault();
       insert(addressOf(part("image-address").value));
@@ -481,9 +532,11 @@ class Composer {
     part("discard").addEventListener("click", () => question.showModal());
     question.addEventListener("close", () => {
       if (question.returnValue === "discard") {
-        dropDraft();
-        this.#fill("", "", NEW_MESSAGE);
+        this.#region.close();
+        this.#region = this.#open(NEW_MESSAGE);
+        this.#address("", "");
         part("saved").textContent = "";
+        dropDraft();
       }
     });
     part("save").addEventListener("click", () => this.#save());
@@ -561,7 +614,7 @@ async function start() {
   try {
     new Composer(await load());
   } catch (error) {
-    part("trouble").textContent = `The engine can’t run here: ${error.message}`;
+    part("trouble").textContent = `The engine can’t run here: ${/** @type {Error} */ (error).message}`;
     part("trouble").hidden = false;
     throw error;
   }
