@@ -211,9 +211,7 @@ class Composer {
     region.addEventListener("statechange", () => this.#refreshSoon());
     region.addEventListener("change", () => this.#changed());
     region.addEventListener("error", ({ message }) => this.#say(`That wasn’t done: ${message}`));
-    // The caret is at the start, and the command reads it there. Mail programs know elements better than styles.
-    document.getSelection()?.collapse(part("message").firstChild, 0);
-    region.exec("styleWithCSS", "false");
+    region.select({ label: region.editor.labelAt([0, 0]), offset: 0 });
   }
 
   /**
@@ -467,20 +465,22 @@ class Composer {
    * @param {string} address
    */
   #link(region, text, address) {
-    const { editor } = region;
-    const link = this.#around("a");
     if (!this.#isCaret()) {
       return region.exec("createLink", address);
     }
-    if (link !== null) {
-      editor.select({ label: link, offset: 0 }, { label: link, offset: editor.node(link).length });
-    } else if (region.exec("insertText", text)) {
-      const { label, offset } = this.#caret();
-      editor.select({ label, offset: offset - [...text].length }, { label, offset });
-    }
-    const isDone = region.exec("createLink", address);
-    editor.select(this.#caret());
-    return isDone;
+    return region.step(() => {
+      const link = this.#around("a");
+      if (link !== null) {
+        const { length } = region.editor.node(link);
+        region.select({ label: link, offset: 0 }, { label: link, offset: length });
+      } else if (region.exec("insertText", text)) {
+        const { label, offset } = this.#caret();
+        region.select({ label, offset: offset - [...text].length }, { label, offset });
+      }
+      const isDone = region.exec("createLink", address);
+      region.select(this.#caret());
+      return isDone;
+    });
   }
 
   #startImage() {

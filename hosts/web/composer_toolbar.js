@@ -21,16 +21,17 @@ const MARGIN = 8;
 const REST = 450;
 
 /**
- * What was pressed, as `data-keys` has it. Digits are those of the keyboard, also with Shift.
+ * What was pressed, as `data-keys` has it. Shift makes other characters of the digits, and Alt may of the letters
+ * too: these keys go by what stands on them.
  * @param {KeyboardEvent} event
  */
 function keysOf(event) {
-  const digit = /^Digit(\d)$/.exec(event.code)?.[1];
+  const [, digit, letter] = /^(?:Digit(\d)|Key([A-Z]))$/.exec(event.code) ?? [];
   return [
     (IS_APPLE ? event.metaKey : event.ctrlKey) && "Control",
     event.altKey && "Alt",
     event.shiftKey && "Shift",
-    digit ?? event.key.toUpperCase(),
+    digit ?? ((event.altKey && letter) || event.key.toUpperCase()),
   ]
     .filter(Boolean)
     .join("+");
