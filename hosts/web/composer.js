@@ -178,6 +178,7 @@ class Composer {
     this.#startLink();
     this.#startImage();
     this.#startKeys();
+    this.#startMessage();
     this.#startFrame();
     this.#startSource();
     showTips(part("tip"), ".tool[aria-label]");
@@ -513,8 +514,7 @@ class Composer {
   #startKeys() {
     const shortcuts = new Shortcuts(
       (control, target) =>
-        !isDisabled(control) &&
-        (control.closest(".bar") !== null || target.closest("#message, #toolbar") !== null),
+        control.closest(".bar") !== null || target.closest("#message, #toolbar") !== null,
     );
     document.addEventListener("keydown", (event) => {
       if (event.altKey && event.key === "F10") {
@@ -552,7 +552,25 @@ class Composer {
         }
       });
     }
-    part("message").addEventListener("compositionstart", () => {
+  }
+
+  #startMessage() {
+    const message = part("message");
+    let isTabbing = false;
+    document.addEventListener("keydown", ({ key }) => {
+      isTabbing = key === "Tab";
+    });
+    document.addEventListener("pointerdown", () => {
+      isTabbing = false;
+    });
+    // The Tab key leads to the start of the message, and on from there to what was selected.
+    message.addEventListener("focus", () => {
+      const selected = isTabbing && this.#region.editor.selection();
+      if (selected) {
+        setTimeout(() => this.#region.select(selected.anchor, selected.focus));
+      }
+    });
+    message.addEventListener("compositionstart", () => {
       part("paper").classList.remove("is-empty");
     });
   }

@@ -275,7 +275,9 @@ export class Shortcuts {
       const isTyped = event.isComposing || event.getModifierState("AltGraph");
       if (control && !isTyped && !event.defaultPrevented && applies(control, /** @type {Element} */ (event.target))) {
         event.preventDefault();
-        control.click();
+        if (!isDisabled(control)) {
+          control.click();
+        }
       }
     });
   }

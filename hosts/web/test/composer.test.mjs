@@ -130,6 +130,10 @@ describe("the composer", { skip: missing() }, () => {
     await writes("<p>Call <b>Ann</b></p>");
     await page.press("Shift+Tab");
     assert.equal(await focused(), "Bold", "the toolbar is one stop, where it was left");
+    await page.press("Tab");
+    await page.type("!");
+    await writes("<p>Call <b>Ann!</b></p>");
+    await page.press("Shift+Tab");
     await page.press("Home");
     assert.equal(await focused(), "Undo");
     await page.press("ArrowLeft");
