@@ -232,7 +232,7 @@ export class Menu {
         : moved(event.key, at, this.#items.length, columns);
     if (event.key === "Tab") {
       this.#element.hidePopover();
-    } else if (next !== undefined && next >= 0) {
+    } else if (next !== undefined) {
       this.#items[next].focus();
     } else {
       return;
@@ -241,15 +241,15 @@ export class Menu {
   }
 
   /**
-   * The next item whose name begins with a letter.
+   * The place of the next item whose name begins with a letter; undefined where there is none.
    * @param {string} letter
    * @param {number} at
    */
   #startingWith(letter, at) {
-    const after = [...this.#items.slice(at + 1), ...this.#items.slice(0, at + 1)];
-    const begins = (/** @type {HTMLElement} */ item) =>
-      nameOf(item).toLowerCase().startsWith(letter.toLowerCase());
-    return letter === " " ? undefined : this.#items.indexOf(/** @type {any} */ (after.find(begins)));
+    const places = this.#items.map((_, step) => (at + 1 + step) % this.#items.length);
+    const begins = (/** @type {number} */ place) =>
+      nameOf(this.#items[place]).toLowerCase().startsWith(letter.toLowerCase());
+    return places.find(begins);
   }
 }
 

@@ -316,8 +316,8 @@ describe("the composer", { skip: missing() }, () => {
     await compose("Call Ann, and Bob’s 2 friends: o’clock 😀.\nZoë");
     await page.press("Control+Shift+ArrowLeft");
     await page.press("Control+B");
-    await page.until(() => document.querySelector("#count").textContent === "8 words, 45 characters");
-    await page.until(() => document.querySelector("#spoken").textContent === "8 words, 45 characters");
+    await page.until(() => document.querySelector("#count").textContent === "8 words, 44 characters");
+    await page.until(() => document.querySelector("#spoken").textContent === "8 words, 44 characters");
     assert.equal(await attribute("#spoken", "aria-live"), "polite");
   });
 
