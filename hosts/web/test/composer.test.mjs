@@ -257,7 +257,7 @@ describe("the composer", { skip: missing() }, () => {
     await page.click(button("Horizontal rule"));
     await writes(
       '<p>See <a href="https://example.org/plan">the plan</a></p>' +
-        '<p><img src="data:image/gif;base64,R0lGODlhAQABAAAAACw="></p><hr>',
+        '<p><img src="data:image/gif;base64,R0lGODlhAQABAAAAACw="></p><hr><p><br></p>',
     );
   });
 
