@@ -494,6 +494,8 @@ class Composer {
     if (!this.#isCaret()) {
       return region.exec("createLink", address);
     }
+    // What was typed before stays a step of its own.
+    region.select(this.#caret());
     return region.step(() => {
       const link = this.#around("a");
       if (link !== null) {
