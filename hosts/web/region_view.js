@@ -336,8 +336,8 @@ export class View {
   }
 
   /**
-   * The same for the block alone that a node stands in: one that its style makes no line of the block around
-   * it.
+   * The same for the block alone that a node stands in: one that its style makes no line of the block
+   * around it.
    * @param {number} label
    */
   followBlock(label) {
