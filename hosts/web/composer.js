@@ -2,7 +2,7 @@
  * A mail composer over the engine: index.html has its controls, region.js is the editor behind the message, and this file
  * joins them.
  */
-import { HeditError, load } from "./hedit.js";
+import { HeditError, NodeKind, load } from "./hedit.js";
 import { Region } from "./region.js";
 import { dropDraft, fileName, keepDraft, keptDraft, messageOf } from "./composer_draft.js";
 import { addressOf, coloured, countWords, counted, hexOf } from "./composer_text.js";
@@ -12,6 +12,7 @@ import {
   Shortcuts,
   Toolbar,
   isDisabled,
+  keysOf,
   onPopup,
   setEnabled,
   setPressed,
@@ -23,7 +24,10 @@ const NEW_MESSAGE =
   '<p><br></p><div class="signature" contenteditable="false"><p><b>Ada Lovelace</b><br>' +
   "Analytical Engines, 12 St James’s Square, London</p></div>";
 
-/** The colours to choose from. A mail is read on light and on dark: text can be read on both. */
+/**
+ * The colours to choose from, by command. A mail is read on light and on dark: text can be read on both.
+ * @type {Readonly<Record<string, readonly (readonly [string, string])[]>>}
+ */
 const PALETTES = {
   foreColor: [
     ["Automatic", "#000000"],
@@ -47,19 +51,22 @@ const PALETTES = {
   ],
 };
 
-/** What is shown of a value that no item of the menu has. */
+/**
+ * What is shown of a value that no item of the menu has, by command.
+ * @type {Readonly<Record<string, (value: string) => string>>}
+ */
 const OTHER_VALUE = {
-  formatBlock: (/** @type {string} */ value) => (value ? `Block: ${value}` : "Text"),
-  fontSize: (/** @type {string} */ value) => (value ? `Size ${value}` : "Sizes"),
+  formatBlock: (value) => (value ? `Block: ${value}` : "Text"),
+  fontSize: (value) => (value ? `Size ${value}` : "Sizes"),
 };
 
-/** How long after a change the words are counted and the draft is kept, in milliseconds. */
-const PAUSE = 300;
+/** How long after a change the words are counted, the source is shown and the draft is kept, in milliseconds. */
+const PAUSE = 250;
 
-/** How long typing has to rest before a screen reader says how many words there are. */
+/** How long typing has to rest before a screen reader is told how many words there are. */
 const SPOKEN_PAUSE = 2500;
 
-/** How long it is said that something couldn't be done. */
+/** How long a remark on what was done stays. */
 const SAID_PAUSE = 4000;
 
 /**
@@ -70,7 +77,25 @@ const SAID_PAUSE = 4000;
 const part = (id) => document.getElementById(id);
 
 /**
- * A call that is made once things rest for a while after it was asked for.
+ * A call that is made a while after it was asked for, once for all who ask meanwhile.
+ * @param {() => void} call
+ * @param {number} pause
+ */
+function gathered(call, pause) {
+  let isWaiting = false;
+  return () => {
+    if (!isWaiting) {
+      isWaiting = true;
+      setTimeout(() => {
+        isWaiting = false;
+        call();
+      }, pause);
+    }
+  };
+}
+
+/**
+ * A call that is made once nobody has asked for it for a while.
  * @param {() => void} call
  * @param {number} pause
  */
@@ -95,9 +120,9 @@ function unmarkSelected() {
 }
 
 /**
- * Puts the colours to choose from into a menu.
+ * Puts the colours to choose from into a menu, which shows the name of the one that is pointed at.
  * @param {HTMLElement} menu
- * @param {readonly string[][]} colours
+ * @param {readonly (readonly [string, string])[]} colours
  */
 function fillPalette(menu, colours) {
   for (const [name, value] of colours) {
@@ -107,7 +132,36 @@ function fillPalette(menu, colours) {
     item.setAttribute("role", "menuitemradio");
     item.setAttribute("aria-label", name);
     item.style.setProperty("--swatch", value === "#000000" ? "currentColor" : value);
+    for (const kind of ["focus", "pointerenter"]) {
+      item.addEventListener(kind, () => {
+        menu.dataset.name = name;
+      });
+    }
     menu.append(item);
+  }
+}
+
+/**
+ * The first or the last point of a message that isn't in a locked part.
+ * @param {import("./hedit.js").Editor} editor
+ * @param {boolean} isLast
+ * @returns {import("./hedit.js").Point}
+ */
+function edge(editor, isLast) {
+  const isOpen = (/** @type {number} */ label) =>
+    editor.attributes(label).get("contenteditable") !== "false";
+  let label = editor.labelAt([0]);
+  for (;;) {
+    const children = [...editor.children(label)];
+    const child = isLast ? children.findLast(isOpen) : children.find(isOpen);
+    if (child === undefined) {
+      return { label, offset: isLast ? editor.node(label).length : 0 };
+    }
+    const inner = editor.node(child);
+    if (inner.kind === NodeKind.ELEMENT && inner.length === 0) {
+      return { label, offset: children.indexOf(child) + Number(isLast) };
+    }
+    label = child;
   }
 }
 
@@ -115,7 +169,6 @@ function fillPalette(menu, colours) {
 class Composer {
   #engine;
 
-  /** @type {Region} */
   #region;
 
   #toolbar = new Toolbar(part("toolbar"));
@@ -126,17 +179,11 @@ class Composer {
   /** Whether the controls are to be refreshed with the next frame. */
   #isStale = false;
 
-  /**
-   * The link around the caret when the panel for links was opened.
-   * @type {Element | null}
-   */
-  #linked = null;
+  #countSoon = gathered(() => this.#count(), PAUSE);
 
-  #countSoon = rested(() => this.#count(), PAUSE);
+  #keepSoon = gathered(() => this.#keep(), PAUSE);
 
-  #keepSoon = rested(() => this.#keep(), PAUSE);
-
-  #showSourceSoon = rested(() => this.#showSource(), PAUSE);
+  #showSourceSoon = gathered(() => this.#showSource(), PAUSE);
 
   #sayCountSoon = rested(() => {
     part("spoken").textContent = part("count").textContent;
@@ -149,55 +196,62 @@ class Composer {
   /** @param {Awaited<ReturnType<typeof load>>} engine */
   constructor(engine) {
     this.#engine = engine;
+    const draft = keptDraft();
+    this.#region = this.#open(draft?.html ?? NEW_MESSAGE);
     this.#startToolbar();
     this.#startMenus();
     this.#startLink();
     this.#startImage();
     this.#startKeys();
+    this.#startMessage();
     this.#startFrame();
     this.#startSource();
-    showTips(part("tip"), ".tool[aria-label], .palette > button");
-    const draft = keptDraft();
-    this.#fill(draft?.to ?? "", draft?.subject ?? "", draft?.html ?? NEW_MESSAGE);
+    showTips(part("tip"), ".tool[aria-label]");
+    this.#address(draft?.to ?? "", draft?.subject ?? "");
     (draft ? this.#region : part("to")).focus();
   }
 
   // The message.
 
   /**
-   * @param {string} to
-   * @param {string} subject
+   * The region with a message in it, or with a new one where that is refused, as a draft that doesn't read back.
    * @param {string} html
+   * @returns {Region}
    */
-  #fill(to, subject, html) {
-    part("to").value = to;
-    part("subject").value = subject;
-    this.#region?.close();
-    this.#region = this.#opened(html);
-    this.#region.addEventListener("statechange", () => this.#refreshSoon());
-    this.#region.addEventListener("change", () => this.#changed());
-    this.#region.addEventListener("error", (/** @type {ErrorEvent} */ event) => {
-      this.#say(`That wasn’t done: ${event.message}`);
-    });
-    this.#showSubject();
-    this.#count();
-    this.#refreshSoon();
-  }
-
-  /**
-   * The region with a message, or with a new one where it is none, as a draft that doesn't read back.
-   * @param {string} html
-   */
-  #opened(html) {
+  #open(html) {
     try {
-      return new Region(this.#engine, part("message"), { html });
+      const region = new Region(this.#engine, part("message"), { html });
+      this.#listen(region);
+      return region;
     } catch (error) {
       if (!(error instanceof HeditError) || html === NEW_MESSAGE) {
         throw error;
       }
       this.#say("The draft couldn’t be read");
-      return this.#opened(NEW_MESSAGE);
+      return this.#open(NEW_MESSAGE);
     }
+  }
+
+  /** @param {Region} region */
+  #listen(region) {
+    region.addEventListener("statechange", () => this.#refreshSoon());
+    region.addEventListener("change", () => this.#changed());
+    region.addEventListener("error", ({ message }) => this.#say(`That wasn’t done: ${message}`));
+    region.select({ label: region.editor.labelAt([0, 0]), offset: 0 });
+  }
+
+  /**
+   * Shows to whom the message goes and what it is on, and all that is shown of the message.
+   * @param {string} to
+   * @param {string} subject
+   */
+  #address(to, subject) {
+    part("to").value = to;
+    part("subject").value = subject;
+    this.#showSubject();
+    this.#count();
+    this.#refresh();
+    this.#showSource();
   }
 
   #changed() {
@@ -228,8 +282,18 @@ class Composer {
       }
       this.#say(`That wasn’t done: ${error.message}`);
     }
-    if (this.#toolbar.has(focused)) {
-      focused.focus();
+    this.#return(focused);
+  }
+
+  /**
+   * Puts the focus where it was before a menu or a panel had it: in the toolbar, or else in the message, with
+   * what is selected there.
+   * @param {Element | null} before
+   */
+  #return(before) {
+    unmarkSelected();
+    if (before instanceof HTMLElement && this.#toolbar.has(before)) {
+      before.focus();
     } else {
       this.#region.focus();
     }
@@ -283,7 +347,9 @@ class Composer {
 
   /** @param {Region} region */
   #quote(region) {
-    return this.#around("blockquote") ? region.exec("outdent") : region.exec("formatBlock", "blockquote");
+    return this.#around("blockquote") === null
+      ? region.exec("formatBlock", "blockquote")
+      : region.exec("outdent");
   }
 
   #startMenus() {
@@ -294,9 +360,10 @@ class Composer {
         fillPalette(menu, PALETTES[command]);
       }
       const button = document.querySelector(`[popovertarget="${menu.id}"]`);
-      const choices = new Menu(menu, ({ dataset }) => {
+      const choose = (/** @type {HTMLElement} */ { dataset }) => {
         this.#act((region) => region.exec(command, dataset.value));
-      });
+      };
+      const choices = new Menu(menu, choose, (before) => this.#return(before));
       this.#menus.set(command, { choices, button });
     }
   }
@@ -344,7 +411,8 @@ class Composer {
       const chosen = choices.show(({ dataset }) => dataset.value === value);
       const words = chosen?.textContent ?? OTHER_VALUE[command](value);
       const isMixed = this.#region.indeterm(command);
-      button.querySelector(".chosen").textContent = isMixed ? "Mixed" : words;
+      const shown = /** @type {Element} */ (button.querySelector(".chosen"));
+      shown.textContent = isMixed ? "Mixed" : words;
     }
   }
 
@@ -355,28 +423,29 @@ class Composer {
     setEnabled(part("link-button"), isEnabled);
     setEnabled(part("image-button"), isEnabled);
     setEnabled(part("unlink-button"), isEnabled && (isLink || this.#region.indeterm("createLink")));
-    setEnabled(part("quote-button"), isEnabled && !this.#around("li"));
+    setEnabled(part("quote-button"), isEnabled && this.#around("li") === null);
     setPressed(part("link-button"), isLink);
-    setPressed(part("quote-button"), Boolean(this.#around("blockquote")));
+    setPressed(part("quote-button"), this.#around("blockquote") !== null);
   }
 
   /**
-   * The element of a kind around the caret, in the message.
-   * @param {string} selector
-   * @returns {Element | null}
+   * The label of the innermost element of a name around the caret; null where there is none.
+   * @param {string} name
    */
-  #around(selector) {
-    const { anchorNode } = /** @type {Selection} */ (document.getSelection());
-    const element = anchorNode instanceof Element ? anchorNode : anchorNode?.parentElement;
-    const found = element?.closest(selector);
-    return found && part("message").contains(found) ? found : null;
+  #around(name) {
+    const { editor } = this.#region;
+    let label = editor.selection()?.focus.label ?? null;
+    while (label !== null && editor.nodeName(label) !== name) {
+      label = editor.node(label).parent;
+    }
+    return label;
   }
 
   // Links and images.
 
   #startLink() {
     const panel = part("link-panel");
-    onPopup(panel, () => this.#askForLink(), unmarkSelected);
+    onPopup(panel, () => this.#askForLink(), (before) => this.#return(before));
     panel.addEventListener("submit", (/** @type {Event} */ event) => {
       event.preventDefault();
       const [text, address] = [part("link-text").value, addressOf(part("link-address").value)];
@@ -401,36 +470,45 @@ class Composer {
     part("link-text").value = "";
     part("link-address").value = address;
     part("link-remove").hidden = address === "";
-    this.#linked = this.#around("a[href]");
     part(asksText ? "link-text" : "link-address").select();
   }
 
-  #isCaret() {
+  /** The end of the selection that moves. There is one wherever a command is enabled. */
+  #caret() {
     const selection = this.#region.editor.selection();
-    const { anchor, focus } = selection ?? {};
+    return /** @type {import("./hedit.js").Selection} */ (selection).focus;
+  }
+
+  #isCaret() {
+    const { anchor, focus } = this.#region.editor.selection() ?? {};
     return anchor?.label === focus?.label && anchor?.offset === focus?.offset;
   }
 
   /**
-   * Makes a link of what is selected, or of the link around the caret, or else of a text that it
-   * inserts.
+   * Makes a link of what is selected. At a caret it changes the link that is there, or else inserts a text.
    * @param {Region} region
    * @param {string} text
    * @param {string} address
    */
   #link(region, text, address) {
-    if (this.#isCaret()) {
-      if (!this.#linked && !region.exec("insertText", text)) {
-        return false;
-      }
-      const { focusNode, focusOffset } = document.getSelection();
-      if (this.#linked) {
-        document.getSelection().selectAllChildren(this.#linked);
-      } else {
-        document.getSelection().setBaseAndExtent(focusNode, focusOffset - text.length, focusNode, focusOffset);
-      }
+    if (!this.#isCaret()) {
+      return region.exec("createLink", address);
     }
-    return region.exec("createLink", address);
+    // What was typed before stays a step of its own.
+    region.select(this.#caret());
+    return region.step(() => {
+      const link = this.#around("a");
+      if (link !== null) {
+        const { length } = region.editor.node(link);
+        region.select({ label: link, offset: 0 }, { label: link, offset: length });
+      } else if (region.exec("insertText", text)) {
+        const { label, offset } = this.#caret();
+        region.select({ label, offset: offset - [...text].length }, { label, offset });
+      }
+      const isDone = region.exec("createLink", address);
+      region.select(this.#caret());
+      return isDone;
+    });
   }
 
   #startImage() {
@@ -440,11 +518,12 @@ class Composer {
       panel.hidePopover();
       this.#act((region) => region.exec("insertImage", address));
     };
-    onPopup(panel, () => {
+    const ask = () => {
       markSelected();
       panel.reset();
       part("image-address").focus();
-    }, unmarkSelected);
+    };
+    onPopup(panel, ask, (before) => this.#return(before));
     panel.addEventListener("submit", (/** @type {Event} */ event) => {
       event.preventDefault();
       insert(addressOf(part("image-address").value));
@@ -462,8 +541,7 @@ class Composer {
   #startKeys() {
     const shortcuts = new Shortcuts(
       (control, target) =>
-        !isDisabled(control) &&
-        (control.closest(".bar") !== null || target.closest("#message, #toolbar") !== null),
+        control.closest(".bar") !== null || target.closest("#message, #toolbar") !== null,
     );
     document.addEventListener("keydown", (event) => {
       if (event.altKey && event.key === "F10") {
@@ -481,9 +559,11 @@ class Composer {
     part("discard").addEventListener("click", () => question.showModal());
     question.addEventListener("close", () => {
       if (question.returnValue === "discard") {
-        dropDraft();
-        this.#fill("", "", NEW_MESSAGE);
+        this.#region.close();
+        this.#region = this.#open(NEW_MESSAGE);
+        this.#address("", "");
         part("saved").textContent = "";
+        dropDraft();
       }
     });
     part("save").addEventListener("click", () => this.#save());
@@ -499,7 +579,33 @@ class Composer {
         }
       });
     }
-    part("message").addEventListener("compositionstart", () => {
+  }
+
+  #startMessage() {
+    const message = part("message");
+    let isTabbing = false;
+    document.addEventListener("keydown", ({ key }) => {
+      isTabbing = key === "Tab";
+    });
+    document.addEventListener("pointerdown", () => {
+      isTabbing = false;
+    });
+    // The Tab key leads to the start of the message, and on from there to what was selected.
+    message.addEventListener("focus", () => {
+      const selected = isTabbing && this.#region.editor.selection();
+      if (selected) {
+        setTimeout(() => this.#region.select(selected.anchor, selected.focus));
+      }
+    });
+    // Chromium selects nothing where the message ends in a locked part.
+    message.addEventListener("keydown", (/** @type {KeyboardEvent} */ event) => {
+      if (keysOf(event) === "Control+A") {
+        event.preventDefault();
+        const { editor } = this.#region;
+        this.#region.select(edge(editor, false), edge(editor, true));
+      }
+    });
+    message.addEventListener("compositionstart", () => {
       part("paper").classList.remove("is-empty");
     });
   }
@@ -561,7 +667,7 @@ async function start() {
   try {
     new Composer(await load());
   } catch (error) {
-    part("trouble").textContent = `The engine can’t run here: ${error.message}`;
+    part("trouble").textContent = `The engine can’t run here: ${/** @type {Error} */ (error).message}`;
     part("trouble").hidden = false;
     throw error;
   }

@@ -6,7 +6,10 @@
 /** Whether the primary modifier is the command key, as on a Mac. */
 const IS_APPLE = /^(Mac|iPhone|iPad)/.test(navigator.platform);
 
-/** How keys are shown, where that isn't by their names. */
+/**
+ * How keys are shown, where that isn't by their names.
+ * @type {Readonly<Record<string, string>>}
+ */
 const SHOWN_KEYS = IS_APPLE
   ? { Control: "⌘", Alt: "⌥", Shift: "⇧" }
   : { Control: "Ctrl" };
@@ -18,16 +21,17 @@ const MARGIN = 8;
 const REST = 450;
 
 /**
- * What was pressed, as `data-keys` has it. Digits are those of the keyboard, also with Shift.
+ * What was pressed, as `data-keys` has it. Shift makes other characters of the digits, and Alt may of the letters
+ * too: these keys go by what stands on them.
  * @param {KeyboardEvent} event
  */
-function keysOf(event) {
-  const digit = /^Digit(\d)$/.exec(event.code)?.[1];
+export function keysOf(event) {
+  const [, digit, letter] = /^(?:Digit(\d)|Key([A-Z]))$/.exec(event.code) ?? [];
   return [
     (IS_APPLE ? event.metaKey : event.ctrlKey) && "Control",
     event.altKey && "Alt",
     event.shiftKey && "Shift",
-    digit ?? event.key.toUpperCase(),
+    digit ?? ((event.altKey && letter) || event.key.toUpperCase()),
   ]
     .filter(Boolean)
     .join("+");
@@ -46,7 +50,7 @@ function shownKeys(keys) {
  * @param {HTMLElement} control
  */
 function nameOf(control) {
-  return control.getAttribute("aria-label") ?? control.textContent.trim();
+  return control.getAttribute("aria-label") ?? control.textContent?.trim() ?? "";
 }
 
 /** @param {HTMLElement} control */
@@ -79,9 +83,9 @@ export function setPressed(control, pressed) {
  * @param {number} columns
  */
 function moved(key, at, count, columns = 1) {
-  const steps = { ArrowRight: 1, ArrowLeft: -1, ArrowDown: columns, ArrowUp: -columns };
-  const ends = { Home: 0, End: count - 1 };
-  return key in steps ? (at + steps[key] + count) % count : ends[key];
+  const step = { ArrowRight: 1, ArrowLeft: -1, ArrowDown: columns, ArrowUp: -columns }[key];
+  const end = { Home: 0, End: count - 1 }[key];
+  return step === undefined ? end : (at + step + count) % count;
 }
 
 /** A toolbar: the Tab key stops at it once, and the arrow keys lead through it. */
@@ -148,24 +152,33 @@ function place(popup) {
 }
 
 /**
- * Calls `opened` each time that a menu or a panel opens, once it stands in its place.
+ * Calls `opened` each time that a menu or a panel opens, once it stands in its place, and `closes` before it closes
+ * with the focus in it. What had the focus before is where `closes` may put it.
  * @param {HTMLElement} popup
  * @param {() => void} opened
- * @param {() => void} closed
+ * @param {(before: Element | null) => void} closes
  */
-export function onPopup(popup, opened, closed = () => {}) {
+export function onPopup(popup, opened, closes) {
   const button = /** @type {Element} */ (document.querySelector(`[popovertarget="${popup.id}"]`));
-  popup.addEventListener("toggle", (event) => {
-    const isOpen = /** @type {ToggleEvent} */ (event).newState === "open";
-    button.setAttribute("aria-expanded", String(isOpen));
-    if (isOpen) {
+  /** @type {Element | null} */
+  let before = null;
+  button.setAttribute("aria-expanded", "false");
+  popup.addEventListener("beforetoggle", (event) => {
+    const isOpening = /** @type {ToggleEvent} */ (event).newState === "open";
+    button.setAttribute("aria-expanded", String(isOpening));
+    if (isOpening) {
+      before = document.activeElement;
       place(popup);
-      opened();
-    } else {
-      closed();
+    } else if (popup.contains(document.activeElement)) {
+      closes(before);
     }
   });
-  button.setAttribute("aria-expanded", "false");
+  popup.addEventListener("toggle", (event) => {
+    if (/** @type {ToggleEvent} */ (event).newState === "open") {
+      place(popup);
+      opened();
+    }
+  });
 }
 
 /** A menu of values of which one is chosen, in one column or in several. */
@@ -178,10 +191,11 @@ export class Menu {
   /**
    * @param {HTMLElement} element
    * @param {(item: HTMLElement) => void} choose
+   * @param {(before: Element | null) => void} closes what `onPopup` calls
    */
-  constructor(element, choose) {
+  constructor(element, choose, closes) {
     this.#element = element;
-    this.#items = [...element.querySelectorAll('[role="menuitemradio"]')];
+    this.#items = [...element.querySelectorAll("button")];
     for (const item of this.#items) {
       item.tabIndex = -1;
       item.addEventListener("click", () => {
@@ -190,7 +204,7 @@ export class Menu {
       });
     }
     element.addEventListener("keydown", (event) => this.#move(event));
-    onPopup(element, () => (this.#chosen() ?? this.#items[0]).focus());
+    onPopup(element, () => (this.#chosen() ?? this.#items[0]).focus(), closes);
   }
 
   /**
@@ -218,7 +232,7 @@ export class Menu {
         : moved(event.key, at, this.#items.length, columns);
     if (event.key === "Tab") {
       this.#element.hidePopover();
-    } else if (next !== undefined && next >= 0) {
+    } else if (next !== undefined) {
       this.#items[next].focus();
     } else {
       return;
@@ -227,15 +241,15 @@ export class Menu {
   }
 
   /**
-   * The next item whose name begins with a letter.
+   * The place of the next item whose name begins with a letter; undefined where there is none.
    * @param {string} letter
    * @param {number} at
    */
   #startingWith(letter, at) {
-    const after = [...this.#items.slice(at + 1), ...this.#items.slice(0, at + 1)];
-    const begins = (/** @type {HTMLElement} */ item) =>
-      nameOf(item).toLowerCase().startsWith(letter.toLowerCase());
-    return letter === " " ? undefined : this.#items.indexOf(/** @type {any} */ (after.find(begins)));
+    const places = this.#items.map((_, step) => (at + 1 + step) % this.#items.length);
+    const begins = (/** @type {number} */ place) =>
+      nameOf(this.#items[place]).toLowerCase().startsWith(letter.toLowerCase());
+    return places.find(begins);
   }
 }
 
@@ -249,18 +263,21 @@ export class Shortcuts {
    *   mean it where they were pressed
    */
   constructor(applies) {
-    for (const control of document.querySelectorAll("[data-keys]")) {
-      const { keys } = /** @type {HTMLElement} */ (control).dataset;
-      this.#controls.set(keys, /** @type {HTMLElement} */ (control));
+    for (const element of document.querySelectorAll("[data-keys]")) {
+      const control = /** @type {HTMLElement} */ (element);
+      const { keys = "" } = control.dataset;
+      this.#controls.set(keys, control);
       control.setAttribute("aria-keyshortcuts", IS_APPLE ? keys.replace("Control", "Meta") : keys);
     }
     document.addEventListener("keydown", (event) => {
       const control = this.#controls.get(keysOf(event));
       // With AltGr a letter is typed that the keyboard has no key for.
       const isTyped = event.isComposing || event.getModifierState("AltGraph");
-      if (control && !isTyped && !event.defaultPrevented && applies(control, event.target)) {
+      if (control && !isTyped && !event.defaultPrevented && applies(control, /** @type {Element} */ (event.target))) {
         event.preventDefault();
-        control.click();
+        if (!isDisabled(control)) {
+          control.click();
+        }
       }
     });
   }
@@ -299,6 +316,10 @@ export function showTips(tip, selector) {
     clearTimeout(waiting);
     tip.hidePopover();
   };
+  const showAfter = (/** @type {HTMLElement} */ control, /** @type {number} */ pause) => {
+    clearTimeout(waiting);
+    waiting = setTimeout(show, pause, control);
+  };
   const show = (/** @type {HTMLElement} */ control) => {
     const { keys } = control.dataset;
     const shown = document.createElement("kbd");
@@ -314,12 +335,15 @@ export function showTips(tip, selector) {
   };
   for (const control of /** @type {NodeListOf<HTMLElement>} */ (document.querySelectorAll(selector))) {
     control.addEventListener("pointerenter", (event) => {
-      clearTimeout(waiting);
       if (event.pointerType === "mouse") {
-        waiting = setTimeout(() => show(control), REST);
+        showAfter(control, REST);
       }
     });
-    control.addEventListener("focus", () => control.matches(":focus-visible") && show(control));
+    control.addEventListener("focus", () => {
+      if (control.matches(":focus-visible")) {
+        showAfter(control, 0);
+      }
+    });
     for (const end of ["pointerleave", "pointerdown", "blur", "keydown", "click"]) {
       control.addEventListener(end, hide);
     }
