@@ -2,7 +2,7 @@
  * A mail composer over the engine: index.html has its controls, region.js is the editor behind the message, and this file
  * joins them.
  */
-import { HeditError, load } from "./hedit.js";
+import { HeditError, NodeKind, load } from "./hedit.js";
 import { Region } from "./region.js";
 import { dropDraft, fileName, keepDraft, keptDraft, messageOf } from "./composer_draft.js";
 import { addressOf, coloured, countWords, counted, hexOf } from "./composer_text.js";
@@ -12,6 +12,7 @@ import {
   Shortcuts,
   Toolbar,
   isDisabled,
+  keysOf,
   onPopup,
   setEnabled,
   setPressed,
@@ -137,6 +138,30 @@ function fillPalette(menu, colours) {
       });
     }
     menu.append(item);
+  }
+}
+
+/**
+ * The first or the last point of a message that isn't in a locked part.
+ * @param {import("./hedit.js").Editor} editor
+ * @param {boolean} isLast
+ * @returns {import("./hedit.js").Point}
+ */
+function edge(editor, isLast) {
+  const isOpen = (/** @type {number} */ label) =>
+    editor.attributes(label).get("contenteditable") !== "false";
+  let label = editor.labelAt([0]);
+  for (;;) {
+    const children = [...editor.children(label)];
+    const child = isLast ? children.findLast(isOpen) : children.find(isOpen);
+    if (child === undefined) {
+      return { label, offset: isLast ? editor.node(label).length : 0 };
+    }
+    const inner = editor.node(child);
+    if (inner.kind === NodeKind.ELEMENT && inner.length === 0) {
+      return { label, offset: children.indexOf(child) + Number(isLast) };
+    }
+    label = child;
   }
 }
 
@@ -469,6 +494,8 @@ class Composer {
     if (!this.#isCaret()) {
       return region.exec("createLink", address);
     }
+    // What was typed before stays a step of its own.
+    region.select(this.#caret());
     return region.step(() => {
       const link = this.#around("a");
       if (link !== null) {
@@ -568,6 +595,14 @@ class Composer {
       const selected = isTabbing && this.#region.editor.selection();
       if (selected) {
         setTimeout(() => this.#region.select(selected.anchor, selected.focus));
+      }
+    });
+    // Chromium selects nothing where the message ends in a locked part.
+    message.addEventListener("keydown", (/** @type {KeyboardEvent} */ event) => {
+      if (keysOf(event) === "Control+A") {
+        event.preventDefault();
+        const { editor } = this.#region;
+        this.#region.select(edge(editor, false), edge(editor, true));
       }
     });
     message.addEventListener("compositionstart", () => {

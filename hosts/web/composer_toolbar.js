@@ -25,7 +25,7 @@ const REST = 450;
  * too: these keys go by what stands on them.
  * @param {KeyboardEvent} event
  */
-function keysOf(event) {
+export function keysOf(event) {
   const [, digit, letter] = /^(?:Digit(\d)|Key([A-Z]))$/.exec(event.code) ?? [];
   return [
     (IS_APPLE ? event.metaKey : event.ctrlKey) && "Control",

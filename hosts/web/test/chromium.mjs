@@ -10,7 +10,7 @@ import { setTimeout as sleep } from "node:timers/promises";
 const PROGRAM = "chromium";
 
 /** How long a page has to show what is waited for, in milliseconds. */
-const PATIENCE = 10_000;
+const PATIENCE = 30_000;
 
 const MODIFIERS = { Alt: 1, Control: 2, Meta: 4, Shift: 8 };
 

@@ -249,6 +249,9 @@ describe("the composer", { skip: missing() }, () => {
     await page.press("Tab");
     await page.type("https://example.org/plan\n");
     await writes('<p>See <a href="https://example.org/plan">the plan</a></p>');
+    await page.press("Control+Z");
+    await writes("<p>See&nbsp;</p>");
+    await page.press("Control+Y");
     await page.press("End");
     await page.press("Enter");
     await page.click(button("Image"));
@@ -257,7 +260,7 @@ describe("the composer", { skip: missing() }, () => {
     await page.click(button("Horizontal rule"));
     await writes(
       '<p>See <a href="https://example.org/plan">the plan</a></p>' +
-        '<p><img src="data:image/gif;base64,R0lGODlhAQABAAAAACw="></p><hr>',
+        '<p><img src="data:image/gif;base64,R0lGODlhAQABAAAAACw="></p><hr><p><br></p>',
     );
   });
 
@@ -291,25 +294,29 @@ describe("the composer", { skip: missing() }, () => {
   });
 
   it("keeps the signature as it is", async () => {
+    const rest = () => page.evaluate(() => new Promise((resolve) => setTimeout(resolve, 400)));
     await compose("Call Ann");
-    const at = await page.middle(".signature b");
-    await page.clickAt(at, 2);
+    await page.clickAt(await page.middle(".signature b"), 2);
     await page.type("x");
-    await page.press("Backspace");
-    await page.press("Control+B");
-    await page.press("Enter");
-    await page.evaluate(() => new Promise((resolve) => setTimeout(resolve, 500)));
-    const html = await text("#source-code");
-    assert.ok(html.endsWith(SIGNATURE), html);
+    for (const keys of ["Backspace", "Delete", "Control+B", "Control+Shift+7", "Enter", "Control+Shift+L"]) {
+      await page.press(keys);
+    }
+    assert.equal(await disabled("Bold"), "true");
+    await rest();
+    await writes("<p>Call Ann</p>");
     await page.click("#message > p");
-    await page.press("Control+End");
-    await page.press("Backspace");
+    for (const keys of ["End", "Delete", "Control+End", "Backspace", "Control+Home", "Control+Shift+End", "Control+I"]) {
+      await page.press(keys);
+      await rest();
+      const html = await text("#source-code");
+      assert.ok(html.endsWith(SIGNATURE), `${keys}: ${html}`);
+    }
     await page.press("Control+A");
     await page.press("Delete");
     await page.type("Bob");
-    await page.evaluate(() => new Promise((resolve) => setTimeout(resolve, 500)));
-    assert.match(await text("#source-code"), /Bob/);
-    assert.ok((await text("#source-code")).endsWith(SIGNATURE), await text("#source-code"));
+    await rest();
+    assert.match(await text("#source-code"), /^<p>.*Bob.*<\/p><div class="signature"/);
+    assert.ok((await text("#source-code")).endsWith(SIGNATURE));
   });
 
   it("counts the words that are written, and says so", async () => {
@@ -353,6 +360,7 @@ describe("the composer", { skip: missing() }, () => {
   it("saves the mail for a mail program", async () => {
     const folder = await mkdtemp(join(tmpdir(), "hedit-"));
     await compose("Call Ann");
+    await page.click(button("Align centre"));
     const target = { browserContextId: page.context, behavior: "allow", downloadPath: folder };
     await browser.send("Browser.setDownloadBehavior", target);
     await page.click("#to");
@@ -370,7 +378,18 @@ describe("the composer", { skip: missing() }, () => {
     assert.match(headers, /^To: =\?UTF-8\?B\?Wm\/Dqw==\?= <zoe@example\.org>\r$/m);
     assert.match(headers, /^Subject: =\?UTF-8\?B\?R3LDvMOfZQ==\?=\r$/m);
     const body = Buffer.from(letters, "base64").toString();
-    assert.match(body, /<p>Call Ann<\/p><div class="signature"><p><b>Ada Lovelace/);
+    assert.match(body, /<div style="text-align: center;"><p>Call Ann<\/p><\/div><div class="signature"><p><b>Ada/);
+  });
+
+  it("takes nothing from elsewhere", async () => {
+    await compose("Call Ann");
+    const origins = await page.evaluate(() =>
+      performance.getEntriesByType("resource").map(({ name }) => new URL(name).origin),
+    );
+    assert.deepEqual([...new Set(origins)], [new URL(address).origin]);
+    const isRefused = await page.evaluate(() => fetch("https://example.org/").catch(() => "refused"));
+    assert.equal(isRefused, "refused");
+    assert.match(browser.complaints.splice(0).join(), /Content Security Policy/);
   });
 
   it("names each control", async () => {
