@@ -786,6 +786,50 @@ describe("a region", { skip: missing() }, () => {
       assert.deepEqual(same, [0, 1, 2]);
     });
 
+    it("changes where the command did, and nowhere else", async () => {
+      await open('<p>ab</p><p>Call <b class="x">Zoë 😀</b> now</p><p>cd</p>');
+      await page.evaluate(() => {
+        const { element } = window.region;
+        const blockOf = (target) => [...element.children].findIndex((child) => child.contains(target));
+        const told = ({ type, target }) => `${type} ${blockOf(target)}`;
+        const note = (records) => window.told.push(...records.map(told));
+        window.told = [];
+        const options = { attributes: true, characterData: true, childList: true, subtree: true };
+        new MutationObserver(note).observe(element, options);
+      });
+      const told = () => page.evaluate(() => [...new Set(window.told.splice(0))].sort());
+      await click([1, 1, 0], 4);
+      await type("x");
+      await shows('<p>ab</p><p>Call <b class="x">Zoë x😀</b> now</p><p>cd</p>');
+      assert.deepEqual(await told(), ["characterData 1"]);
+      await press("Backspace");
+      assert.deepEqual(await told(), ["characterData 1"]);
+      await page.press("Shift+End");
+      assert.deepEqual(await told(), []);
+      await press("Control+i");
+      assert.deepEqual([...new Set((await told()).map((each) => each.at(-1)))], ["1"]);
+      await press("Control+z");
+      assert.deepEqual([...new Set((await told()).map((each) => each.at(-1)))], ["1"]);
+      await press("Control+z", 2);
+      await shows('<p>ab</p><p>Call <b class="x">Zoë 😀</b> now</p><p>cd</p>');
+      assert.deepEqual(await told(), ["characterData 1"]);
+    });
+
+    it("follows several calls by comparing", async () => {
+      await open("<p>ab</p>");
+      await page.evaluate(() => {
+        const { editor } = window.region;
+        const text = editor.labelAt([0, 0, 0]);
+        editor.select({ label: text, offset: 0 }, { label: text, offset: 1 });
+        editor.exec("italic");
+        editor.exec("insertText", "x");
+        window.region.exec("bold");
+      });
+      await agrees();
+      await press("Control+z", 2);
+      await shows("<p>ab</p>");
+    });
+
     it("refuses a page by the place in its markup", async () => {
       const refusal = await page.evaluate(() => {
         try {
