@@ -600,9 +600,9 @@ export class Region extends EventTarget {
     const [old, now] = [this.#editor.nodeValue(label), text.data];
     const selection = this.#element.ownerDocument.getSelection();
     const isThere = selection?.isCollapsed && selection.focusNode === text;
-    const caret = isThere ? selection.focusOffset : null;
-    const change = difference(old, now, caret === null ? undefined : now.length - caret);
-    return old === now ? null : () => this.#commands.replace(text, change, caret);
+    const change = difference(old, now, isThere ? now.length - selection.focusOffset : undefined);
+    const shown = this.#pageSelection();
+    return old === now ? null : () => this.#commands.replace(text, change, shown);
   }
 
   /**
@@ -619,7 +619,15 @@ export class Region extends EventTarget {
       return null;
     }
     const { data } = text;
-    return () => this.#commands.type(data);
+    const isThere = this.#element.ownerDocument.getSelection()?.focusNode === text;
+    const shown = isThere ? null : this.#pageSelection();
+    return () => {
+      const isDone = this.#commands.type(data);
+      if (shown) {
+        this.#commands.selectAgain(shown);
+      }
+      return isDone;
+    };
   }
 
   // What comes of it.
@@ -678,8 +686,8 @@ export class Region extends EventTarget {
   #turn(take) {
     return this.#act(() => {
       const selection = take();
-      if (selection && !isSame(selection, this.#editor.selection())) {
-        this.#commands.select(selection);
+      if (selection) {
+        this.#commands.selectAgain(selection);
       }
       return selection !== undefined;
     });

@@ -2,8 +2,8 @@
  * What the user of a region does, as commands of the engine, for region.js. Here are the habits: what
  * a region does beside what a command does, so that users of browsers find what they know.
  */
-import { HeditError, toCharacters } from "./hedit.js";
-import { isBlock, isCaret, isCharacters, isText } from "./region_view.js";
+import { BadPlace, toCharacters } from "./hedit.js";
+import { isBlock, isCaret, isCharacters, isSame, isText } from "./region_view.js";
 
 /** @typedef {import("./hedit.js").Counts} Counts */
 /** @typedef {import("./hedit.js").Editor} Editor */
@@ -258,6 +258,23 @@ export class Commands {
   }
 
   /**
+   * Selects what was selected before, unless it is, or isn't there any more.
+   * @param {Selection} selection
+   */
+  selectAgain(selection) {
+    if (isSame(selection, this.#editor.selection())) {
+      return;
+    }
+    try {
+      this.select(selection);
+    } catch (error) {
+      if (!(error instanceof BadPlace)) {
+        throw error;
+      }
+    }
+  }
+
+  /**
    * Takes steps of the history, and shows what they did: how many there were, up to a number.
    * @param {number} most
    * @param {() => boolean} call
@@ -418,24 +435,20 @@ export class Commands {
   /** @param {Selection} before */
   #leaveLocked(before) {
     const part = lockedPart(/** @type {NodePlace} */ (this.#focus()).node, this.#view.element);
-    try {
-      this.select(before);
-    } catch (error) {
-      if (!(error instanceof HeditError) || !part) {
-        throw error;
-      }
+    this.selectAgain(before);
+    if (part && !this.#editor.enabled("delete")) {
       this.#put(/** @type {Node} */ (part.parentNode), indexOf(part));
     }
   }
 
   /**
-   * Puts a text in place of a part of a text, as the browser did by itself, and the caret where that
-   * has it.
+   * Puts a text in place of a part of a text, as the browser did by itself, and selects what is
+   * selected there.
    * @param {Text} text
    * @param {{ start: number, end: number, put: string }} change
-   * @param {number | null} caret in the new text
+   * @param {Selection | null} shown what the page selects, as points in the new text
    */
-  replace(text, { start, end, put }, caret) {
+  replace(text, { start, end, put }, shown) {
     const whole = text.data.slice(0, start) + put + text.data.slice(end);
     const [anchor, focus] = [this.#view.point(text, start), this.#view.point(text, end)];
     if (!anchor || !focus) {
@@ -445,9 +458,8 @@ export class Commands {
       this.select({ anchor, focus });
     }
     const isDone = put === "" ? this.exec("delete") : this.exec("insertText", plain(put));
-    const now = this.#focus();
-    if (caret !== null && text.data === whole && !(now?.node === text && now.offset === caret)) {
-      this.#put(text, caret);
+    if (shown && text.data === whole) {
+      this.selectAgain(shown);
     }
     return isDone;
   }

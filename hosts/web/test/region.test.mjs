@@ -652,6 +652,23 @@ describe("a region", { skip: missing() }, () => {
       await shows("<p>axb</p>");
     });
 
+    it("compose over a word, and end where the mouse clicks", async () => {
+      await open("<p>one two</p><p>x</p>");
+      await click([0, 0], 7);
+      const replaced = { replacementStart: 4, replacementEnd: 7 };
+      const zwei = { text: "zwei", selectionStart: 4, selectionEnd: 4 };
+      await page.send("Input.imeSetComposition", { ...zwei, ...replaced });
+      await insert("zwei");
+      await shows("<p>one zwei</p><p>x</p>");
+      await press("Control+z");
+      await shows("<p>one two</p><p>x</p>");
+      await click([0, 0], 3);
+      await compose("に");
+      await page.clickAt(await at([1, 0], 0));
+      await type("y");
+      await shows("<p>oneに two</p><p>yx</p>");
+    });
+
     it("put emoji in", async () => {
       await open("<p>ab</p>");
       await click([0, 0], 1);
@@ -742,6 +759,17 @@ describe("a region", { skip: missing() }, () => {
       await shows("<p>the cat</p>");
       await press("Control+z");
       await shows("<p>teh cat</p>");
+    });
+
+    it("leaves the caret where it is", async () => {
+      await open("<p>teh cat</p><p>ab</p>");
+      await click([1, 0], 1);
+      await page.evaluate(() => {
+        window.region.element.firstChild.firstChild.data = "the cat";
+      });
+      await agrees();
+      await type("x");
+      await shows("<p>the cat</p><p>axb</p>");
     });
 
     it("is undone elsewhere", async () => {
