@@ -1,6 +1,6 @@
 /* The smallest host of the editor in C. It opens a mail, formats a part of it, asks what a
- * toolbar would show, undoes, and prints the mail as HTML after each step, as crates/mail_host
- * does. */
+ * toolbar would show, undoes, and prints the mail as HTML whenever it is another one, as
+ * crates/mail_host does. follow.c is a host that doesn't read the whole mail again. */
 #include <hedit.h>
 
 #include <stdio.h>
@@ -42,10 +42,6 @@ static const char *told(uint32_t status) {
     }
 }
 
-static uint32_t exec(hedit_editor *editor, const char *name, const char *value) {
-    return hedit_exec(editor, bytes_of(name), strlen(name), bytes_of(value), strlen(value));
-}
-
 static int is_on(hedit_editor *editor, const char *button) {
     uint32_t flag;
     uint8_t none[1];
@@ -84,6 +80,21 @@ static void show(hedit_editor *editor) {
     putchar('\n');
 }
 
+static uint64_t revision_of(hedit_editor *editor) {
+    uint64_t revision;
+    want(hedit_revision(editor, &revision), "revision");
+    return revision;
+}
+
+/* Executes a command without a value, and shows the mail where that has changed it. */
+static void exec(hedit_editor *editor, const char *name) {
+    uint64_t before = revision_of(editor);
+    puts(told(hedit_exec(editor, bytes_of(name), strlen(name), bytes_of(""), 0)));
+    if (revision_of(editor) != before) {
+        show(editor);
+    }
+}
+
 /* Selects the name: the characters 5 to 8 of the paragraph's text. */
 static void select_name(hedit_editor *editor) {
     static const uint32_t text[] = {0, 1, 0};
@@ -98,11 +109,9 @@ int main(void) {
     want(status, "open");
     show(&editor);
     select_name(&editor);
-    puts(told(exec(&editor, "bold", "")));
-    show(&editor);
-    puts(told(exec(&editor, "insertUnorderedList", "")));
-    show(&editor);
-    puts(told(exec(&editor, "createLink", "")));
+    exec(&editor, "bold");
+    exec(&editor, "insertUnorderedList");
+    exec(&editor, "createLink");
     want(hedit_undo(&editor), "undo");
     show(&editor);
     hedit_close(&editor);

@@ -1,6 +1,6 @@
 /* The smallest host of the editor in C++. It opens a mail, formats a part of it, asks what a
- * toolbar would show, undoes, and prints the mail as HTML after each step, as crates/mail_host
- * does. */
+ * toolbar would show, undoes, and prints the mail as HTML whenever it is another one, as
+ * crates/mail_host does. */
 #include <hedit.hpp>
 
 #include <iostream>
@@ -28,16 +28,23 @@ static void show(hedit::Editor &editor) {
     std::cout << '\n';
 }
 
+/* Executes a command, and shows the mail where that has changed it. */
+static void exec(hedit::Editor &editor, std::string_view name) {
+    std::uint64_t before = editor.revision();
+    std::cout << told(editor, name) << '\n';
+    if (editor.revision() != before) {
+        show(editor);
+    }
+}
+
 int main() {
     hedit::Editor editor(MAIL);
     show(editor);
     /* The name: the characters 5 to 8 of the paragraph's text. */
     editor.select({{0, 1, 0}, 5}, {{0, 1, 0}, 8});
-    std::cout << told(editor, "bold") << '\n';
-    show(editor);
-    std::cout << told(editor, "insertUnorderedList") << '\n';
-    show(editor);
-    std::cout << told(editor, "createLink") << '\n';
+    exec(editor, "bold");
+    exec(editor, "insertUnorderedList");
+    exec(editor, "createLink");
     editor.undo();
     show(editor);
 }

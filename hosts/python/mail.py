@@ -1,5 +1,6 @@
 """The smallest host of the editor in Python. It opens a mail, formats a part of it, asks what a
-toolbar would show, undoes, and prints the mail as HTML after each step, as mail_host does."""
+toolbar would show, undoes, and prints the mail as HTML whenever it is another one, as mail_host
+does. follow.py is a host that doesn't read the whole mail again."""
 from hedit import Editor, HeditError
 
 MAIL = '<div contenteditable="true"><h1>Plan</h1><p>Call Ann &amp; Bob.</p></div>'
@@ -21,16 +22,22 @@ def show(editor: Editor) -> None:
     print("toolbar:", *(f"[{button}]" if editor.state(button) else button for button in BUTTONS))
 
 
+def execute(editor: Editor, name: str) -> None:
+    """Executes a command, and shows the mail where that has changed it."""
+    before = editor.revision()
+    print(told(editor, name))
+    if editor.revision() != before:
+        show(editor)
+
+
 def main() -> None:
     with Editor(MAIL) as editor:
         show(editor)
         # the name: the characters 5 to 8 of the paragraph's text
         editor.select(((0, 1, 0), 5), ((0, 1, 0), 8))
-        print(told(editor, "bold"))
-        show(editor)
-        print(told(editor, "insertUnorderedList"))
-        show(editor)
-        print(told(editor, "createLink"))
+        execute(editor, "bold")
+        execute(editor, "insertUnorderedList")
+        execute(editor, "createLink")
         editor.undo()
         show(editor)
 

@@ -1,6 +1,7 @@
 /**
  * The smallest host of the editor in JavaScript. It opens a mail, formats a part of it, asks what a
- * toolbar would show, undoes, and prints the mail as HTML after each step, as mail_host does.
+ * toolbar would show, undoes, and prints the mail as HTML whenever it is another one, as mail_host
+ * does. follow.mjs is a host that doesn't read the whole mail again.
  *
  *     node mail.mjs PATH_OF_HEDIT_WASM
  */
@@ -33,14 +34,21 @@ function show() {
   stdout.write(`${editor.html()}toolbar: ${buttons.join(" ")}\n`);
 }
 
+/** Executes a command, and shows the mail where that has changed it. */
+function exec(name) {
+  const before = editor.revision();
+  tell(name);
+  if (editor.revision() !== before) {
+    show();
+  }
+}
+
 show();
 // the name: the characters 5 to 8 of the paragraph's text
 editor.select({ path: [0, 1, 0], offset: 5 }, { path: [0, 1, 0], offset: 8 });
-tell("bold");
-show();
-tell("insertUnorderedList");
-show();
-tell("createLink");
+exec("bold");
+exec("insertUnorderedList");
+exec("createLink");
 editor.undo();
 show();
 editor.close();

@@ -16,6 +16,8 @@ export interface Habits {
   readonly hiliteAtCaret: boolean;
   /** `indent` takes the lists in an item along. */
   readonly indentSublists: boolean;
+  /** `outdent` and Backspace take a quoted block with formats in it out of its quotation as it is. */
+  readonly outdentWhole: boolean;
   /** Backspace behind a link takes its last character, and not the link. */
   readonly deleteIntoLinks: boolean;
   /** Backspace at the start of an item joins it with the one before at once. */

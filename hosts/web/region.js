@@ -29,13 +29,14 @@
  * - `error`, an ErrorEvent: the engine refused what the user did, and `error` says why. What the
  *   methods do throws it.
  *
- * These of what differs from browsers stay as the engine has them: `outdent` takes a quoted paragraph
- * with formats apart, `formatBlock` drops classes and other attributes of the block, and the elements
- * for a style are the engine's.
+ * These of what differs from browsers stay as the engine has them: `formatBlock` drops classes and other
+ * attributes of the block, `unlink` at a caret takes the link around it away, `outdent` of several
+ * quoted blocks takes those with formats apart, and the elements for a style are the engine's.
  */
 import { BadArgument, HeditError, PageRefused } from "./hedit.js";
 import { Commands, HABITS, lockedPart } from "./region_commands.js";
 import { historyKey, isOfBrowser, meaningOf } from "./region_input.js";
+import { Steps } from "./region_steps.js";
 import { View, difference, isCaret, isSame, isText } from "./region_view.js";
 
 export { HABITS };
@@ -145,18 +146,7 @@ export class Region extends EventTarget {
    */
   #selected = null;
 
-  /**
-   * How many entries of the engine's history each step has, the last one at the end. Steps that
-   * aren't there any more have one each.
-   * @type {number[]}
-   */
-  #steps = [];
-
-  /**
-   * The same of what redo would take.
-   * @type {number[]}
-   */
-  #undone = [];
+  #steps = new Steps();
 
   /**
    * What the browser changed while an input method composes, and how many steps there were before.
@@ -258,18 +248,20 @@ export class Region extends EventTarget {
     try {
       return call();
     } finally {
-      this.#join(steps);
+      this.#steps.join(steps);
     }
   }
 
   /** Takes a step back. False where there is none. */
   undo() {
-    return this.#act(() => this.#turn(this.#steps, this.#undone, () => this.#editor.undo()));
+    const undo = () => this.#editor.undo();
+    return this.#turn(() => this.#steps.undo((most) => this.#commands.turn(most, undo)));
   }
 
   /** Takes a step forth again. False where there is none. */
   redo() {
-    return this.#act(() => this.#turn(this.#undone, this.#steps, () => this.#editor.redo()));
+    const redo = () => this.#editor.redo();
+    return this.#turn(() => this.#steps.redo((most) => this.#commands.turn(most, redo)));
   }
 
   /**
@@ -443,7 +435,7 @@ export class Region extends EventTarget {
       default:
     }
     if (event.inputType === "insertFromDrop") {
-      this.#join(this.#dragged ?? steps);
+      this.#steps.join(this.#dragged ?? steps);
     }
     this.#dragged = event.inputType === "deleteByDrag" ? steps : null;
     this.#view.reveal();
@@ -564,7 +556,7 @@ export class Region extends EventTarget {
     const { records, steps } = this.#composing;
     this.#composing = null;
     this.#mend([...records, ...this.#observer.takeRecords()], true);
-    this.#join(steps);
+    this.#steps.join(steps);
   }
 
   /**
@@ -608,9 +600,9 @@ export class Region extends EventTarget {
     const [old, now] = [this.#editor.nodeValue(label), text.data];
     const selection = this.#element.ownerDocument.getSelection();
     const isThere = selection?.isCollapsed && selection.focusNode === text;
-    const caret = isThere ? selection.focusOffset : null;
-    const change = difference(old, now, caret === null ? undefined : now.length - caret);
-    return old === now ? null : () => this.#commands.replace(text, change, caret);
+    const change = difference(old, now, isThere ? now.length - selection.focusOffset : undefined);
+    const shown = this.#pageSelection();
+    return old === now ? null : () => this.#commands.replace(text, change, shown);
   }
 
   /**
@@ -627,7 +619,15 @@ export class Region extends EventTarget {
       return null;
     }
     const { data } = text;
-    return () => this.#commands.type(data);
+    const isThere = this.#element.ownerDocument.getSelection()?.focusNode === text;
+    const shown = isThere ? null : this.#pageSelection();
+    return () => {
+      const isDone = this.#commands.type(data);
+      if (shown) {
+        this.#commands.selectAgain(shown);
+      }
+      return isDone;
+    };
   }
 
   // What comes of it.
@@ -659,11 +659,9 @@ export class Region extends EventTarget {
       this.#observer.takeRecords();
       this.#show();
       const { entries, isChanged } = this.#commands.take();
-      if (entries > 0) {
-        this.#steps.push(entries);
-        this.#undone = [];
-      }
-      this.#tell(isChanged, !isSame(before, this.#editor.selection()));
+      const after = this.#editor.selection();
+      this.#steps.note({ entries, before, after }, isChanged);
+      this.#tell(isChanged, !isSame(before, after));
     }
   }
 
@@ -682,28 +680,17 @@ export class Region extends EventTarget {
   }
 
   /**
-   * Takes the last step of some, and puts it to the others.
-   * @param {number[]} steps
-   * @param {number[]} others
-   * @param {() => boolean} call
+   * Takes a step back or forth, and selects what was selected there.
+   * @param {() => Selection | null | undefined} take
    */
-  #turn(steps, others, call) {
-    const turned = this.#commands.turn(steps.pop() ?? 1, call);
-    if (turned > 0) {
-      others.push(turned);
-    }
-    return turned > 0;
-  }
-
-  /**
-   * Makes one step of the steps from one on.
-   * @param {number} from
-   */
-  #join(from) {
-    const joined = this.#steps.splice(from);
-    if (joined.length > 0) {
-      this.#steps.push(joined.reduce((sum, entries) => sum + entries));
-    }
+  #turn(take) {
+    return this.#act(() => {
+      const selection = take();
+      if (selection) {
+        this.#commands.selectAgain(selection);
+      }
+      return selection !== undefined;
+    });
   }
 
   /**

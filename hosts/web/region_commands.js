@@ -2,8 +2,8 @@
  * What the user of a region does, as commands of the engine, for region.js. Here are the habits: what
  * a region does beside what a command does, so that users of browsers find what they know.
  */
-import { HeditError, toCharacters } from "./hedit.js";
-import { isBlock, isCaret, isCharacters, isText } from "./region_view.js";
+import { BadPlace, toCharacters } from "./hedit.js";
+import { isBlock, isCaret, isCharacters, isSame, isText } from "./region_view.js";
 
 /** @typedef {import("./hedit.js").Counts} Counts */
 /** @typedef {import("./hedit.js").Editor} Editor */
@@ -23,6 +23,8 @@ import { isBlock, isCaret, isCharacters, isText } from "./region_view.js";
  * @property {boolean} hiliteAtCaret `backColor` at a caret colours what is typed, as `hiliteColor`
  *   does
  * @property {boolean} indentSublists `indent` takes the lists in an item along
+ * @property {boolean} outdentWhole `outdent` and Backspace take a quoted block with formats in it out
+ *   of its quotation as it is
  * @property {boolean} deleteIntoLinks Backspace behind a link takes its last character, and not the
  *   link
  * @property {boolean} joinItems Backspace at the start of an item joins it with the one before at
@@ -43,6 +45,7 @@ export const HABITS = Object.freeze({
   quoteByIndent: true,
   hiliteAtCaret: true,
   indentSublists: true,
+  outdentWhole: true,
   deleteIntoLinks: true,
   joinItems: true,
   leaveLinks: true,
@@ -255,6 +258,23 @@ export class Commands {
   }
 
   /**
+   * Selects what was selected before, unless it is, or isn't there any more.
+   * @param {Selection} selection
+   */
+  selectAgain(selection) {
+    if (isSame(selection, this.#editor.selection())) {
+      return;
+    }
+    try {
+      this.select(selection);
+    } catch (error) {
+      if (!(error instanceof BadPlace)) {
+        throw error;
+      }
+    }
+  }
+
+  /**
    * Takes steps of the history, and shows what they did: how many there were, up to a number.
    * @param {number} most
    * @param {() => boolean} call
@@ -287,6 +307,8 @@ export class Commands {
         return this.#formatBlock(value);
       case "indent":
         return this.#indent();
+      case "outdent":
+        return this.#outdent();
       case "backcolor":
         return this.exec(this.#habits.hiliteAtCaret && this.#isCaret() ? "hiliteColor" : name, value);
       default:
@@ -372,7 +394,9 @@ export class Commands {
     const ends = this.#isCaret() ? null : this.#ends();
     const blocks = ends?.map(({ node }) => this.#view.blockOf(node).nodeName);
     if (blocks && blocks[0] !== blocks[1] && this.exec("delete")) {
-      this.select(/** @type {Selection} */ (this.#editor.selection()));
+      const selection = /** @type {Selection} */ (this.#editor.selection());
+      this.#editor.unselect();
+      this.select(selection);
     }
   }
 
@@ -411,24 +435,20 @@ export class Commands {
   /** @param {Selection} before */
   #leaveLocked(before) {
     const part = lockedPart(/** @type {NodePlace} */ (this.#focus()).node, this.#view.element);
-    try {
-      this.select(before);
-    } catch (error) {
-      if (!(error instanceof HeditError) || !part) {
-        throw error;
-      }
+    this.selectAgain(before);
+    if (part && !this.#editor.enabled("delete")) {
       this.#put(/** @type {Node} */ (part.parentNode), indexOf(part));
     }
   }
 
   /**
-   * Puts a text in place of a part of a text, as the browser did by itself, and the caret where that
-   * has it.
+   * Puts a text in place of a part of a text, as the browser did by itself, and selects what is
+   * selected there.
    * @param {Text} text
    * @param {{ start: number, end: number, put: string }} change
-   * @param {number | null} caret in the new text
+   * @param {Selection | null} shown what the page selects, as points in the new text
    */
-  replace(text, { start, end, put }, caret) {
+  replace(text, { start, end, put }, shown) {
     const whole = text.data.slice(0, start) + put + text.data.slice(end);
     const [anchor, focus] = [this.#view.point(text, start), this.#view.point(text, end)];
     if (!anchor || !focus) {
@@ -438,9 +458,8 @@ export class Commands {
       this.select({ anchor, focus });
     }
     const isDone = put === "" ? this.exec("delete") : this.exec("insertText", plain(put));
-    const now = this.#focus();
-    if (caret !== null && text.data === whole && !(now?.node === text && now.offset === caret)) {
-      this.#put(text, caret);
+    if (shown && text.data === whole) {
+      this.selectAgain(shown);
     }
     return isDone;
   }
@@ -553,6 +572,9 @@ export class Commands {
     if (this.#habits.wholeClusters && this.#selectClusterBefore()) {
       return this.deleteSelection();
     }
+    if (this.#quotedBlock() && this.#startedAtCaret((node) => node === this.#quotedBlock())) {
+      return this.#outdent();
+    }
     const item = this.#habits.joinItems ? this.#itemToJoin() : null;
     const isDone = this.deleteSelection();
     if (isDone && item && this.#view.label(item) === undefined && this.#isCaret()) {
@@ -629,19 +651,28 @@ export class Commands {
   }
 
   /**
-   * The item that the caret is at the start of, where it follows another one without a list in it.
+   * The innermost node of a kind that the caret is at the start of.
+   * @param {(node: Node) => boolean} isWanted
    */
-  #itemToJoin() {
+  #startedAtCaret(isWanted) {
     let { node, offset } = /** @type {NodePlace} */ (this.#focus());
     while (isStart({ node, offset }) && node !== this.#view.element) {
-      if (node instanceof HTMLLIElement) {
-        const before = node.previousElementSibling;
-        return before instanceof HTMLLIElement && !before.querySelector("ul, ol") ? node : null;
+      if (isWanted(node)) {
+        return elementOf(node);
       }
       offset = indexOf(node);
       node = /** @type {Node} */ (node.parentNode);
     }
     return null;
+  }
+
+  /**
+   * The item that the caret is at the start of, where it follows another one without a list in it.
+   */
+  #itemToJoin() {
+    const item = this.#startedAtCaret((node) => node instanceof HTMLLIElement);
+    const before = item?.previousElementSibling;
+    return before instanceof HTMLLIElement && !before.querySelector("ul, ol") ? item : null;
   }
 
   /** Selects what a user sees as one character behind a caret in a text. */
@@ -695,5 +726,28 @@ export class Commands {
     const isDone = this.exec("indent");
     this.select(selection);
     return isDone;
+  }
+
+  /** A quoted block is made an item, which stays whole, of a list that is then taken out. */
+  #outdent() {
+    if (!this.#quotedBlock()) {
+      return this.exec("outdent");
+    }
+    return [1, 2, 3].every(() => this.exec("insertUnorderedList"));
+  }
+
+  /**
+   * The one selected block, where it stands in one quotation and `outdent` would take it apart; null
+   * elsewhere, or without the habit.
+   */
+  #quotedBlock() {
+    const ends = this.#habits.outdentWhole ? this.#ends() : null;
+    const [first, last] = ends?.map(({ node }) => this.#view.blockOf(node)) ?? [];
+    const quote = first?.parentNode;
+    if (!(first instanceof HTMLElement) || first !== last || !(quote instanceof HTMLQuoteElement)) {
+      return null;
+    }
+    const around = elementOf(/** @type {Node} */ (quote.parentNode)).closest("blockquote, li, dd, dt");
+    return first.querySelector(":not(br)") && !around ? first : null;
   }
 }

@@ -1,0 +1,93 @@
+/**
+ * The steps of a region's undo, for region.js. What a user does may take several commands, and the
+ * engine's history has an entry for each.
+ */
+
+/** @typedef {import("./hedit.js").Selection} Selection */
+
+/**
+ * A step: how many entries of the engine's history it has, and what was selected before and after it.
+ * @typedef {{ entries: number, before: Selection | null, after: Selection | null }} Step
+ */
+
+/**
+ * A step that isn't known, as one from before the region.
+ * @type {Readonly<Step>}
+ */
+const ONE_ENTRY = Object.freeze({ entries: 1, before: null, after: null });
+
+/** The steps that undo and redo would take. */
+export class Steps {
+  /**
+   * The one that undo takes next at the end.
+   * @type {Step[]}
+   */
+  #done = [];
+
+  /**
+   * The one that redo takes next at the end.
+   * @type {Step[]}
+   */
+  #undone = [];
+
+  /** How many steps there are to undo, for `join`. */
+  get length() {
+    return this.#done.length;
+  }
+
+  /**
+   * Notes what was done. What made no entry and changed something went on with the last step.
+   * @param {Step} step
+   * @param {boolean} isChanged
+   */
+  note(step, isChanged) {
+    const last = this.#done.at(-1);
+    if (step.entries > 0) {
+      this.#done.push(step);
+      this.#undone = [];
+    } else if (isChanged && last) {
+      last.after = step.after;
+    }
+  }
+
+  /**
+   * Makes one step of those from one on.
+   * @param {number} from
+   */
+  join(from) {
+    const [first, ...others] = this.#done.splice(from);
+    if (first) {
+      const entries = others.reduce((sum, step) => sum + step.entries, first.entries);
+      this.#done.push({ entries, before: first.before, after: (others.at(-1) ?? first).after });
+    }
+  }
+
+  /**
+   * Takes a step back, by what takes up to a number of entries back and says how many. It gives what
+   * was selected before the step, and undefined where there was none.
+   * @param {(entries: number) => number} take
+   */
+  undo(take) {
+    const step = this.#done.pop() ?? ONE_ENTRY;
+    const entries = take(step.entries);
+    if (entries === 0) {
+      return undefined;
+    }
+    this.#undone.push({ ...step, entries });
+    return entries === step.entries ? step.before : null;
+  }
+
+  /**
+   * Takes a step forth again, and gives what was selected after it.
+   * @param {(entries: number) => number} take
+   */
+  redo(take) {
+    const step = this.#undone.pop() ?? ONE_ENTRY;
+    const entries = take(step.entries);
+    if (entries === 0) {
+      return undefined;
+    }
+    this.#done.push({ ...step, entries });
+    return entries === step.entries ? step.after : null;
+  }
+}
