@@ -149,14 +149,14 @@ leaves_paragraph : LeavesRefused insert_paragraph
 unfolding insert_paragraph
 leaves_paragraph = leaves_two (erase true true false) insert_paragraph_inside
 
-abbrev toggled : Bool → State → Run (Unit {0})
-toggled ordered s = if is_list_state ordered (list_state s s.host) then toggle_off ordered else toggle_on ordered
+abbrev lists_toggled : Bool → State → Run (Unit {0})
+lists_toggled ordered s = if is_list_state ordered (list_state s s.host) then toggle_off ordered else toggle_on ordered
 
 leaves_lists : (ordered : Bool) → LeavesRefused (toggle_lists ordered)
 unfolding toggle_lists
-leaves_lists ordered = leaves_look (λ s. normalize_range >> (keep_range >> (toggled ordered s >> answer true))) λ s.
-    let range = toggled ordered s >> answer true in
-    leaves_taken (normalize_range >> (keep_range >> range)) (true_after normalize_range (keep_range >> range) (true_after keep_range range (true_last (toggled ordered s))))
+leaves_lists ordered = leaves_look (λ s. normalize_range >> (keep_range >> (lists_toggled ordered s >> answer true))) λ s.
+    let range = lists_toggled ordered s >> answer true in
+    leaves_taken (normalize_range >> (keep_range >> range)) (true_after normalize_range (keep_range >> range) (true_after keep_range range (true_last (lists_toggled ordered s))))
 
 leaves_line_break : LeavesRefused insert_line_break
 leaves_line_break = leaves_taken insert_line_break line_break_answers_true
