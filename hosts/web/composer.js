@@ -1,6 +1,6 @@
 /**
- * A mail composer over the engine: index.html has its controls, region.js is the editor behind the message, and this file
- * joins them.
+ * A mail composer over the engine: index.html has its controls, region.js is the editor behind the
+ * message, and this file joins them.
  */
 import { HeditError, NodeKind, load } from "./hedit.js";
 import { Region } from "./region.js";
@@ -25,7 +25,8 @@ const NEW_MESSAGE =
   "Analytical Engines, 12 St James’s Square, London</p></div>";
 
 /**
- * The colours to choose from, by command. A mail is read on light and on dark: text can be read on both.
+ * The colours to choose from, by command. A mail is read on light and on dark: text can be read on
+ * both.
  * @type {Readonly<Record<string, readonly (readonly [string, string])[]>>}
  */
 const PALETTES = {
@@ -60,7 +61,7 @@ const OTHER_VALUE = {
   fontSize: (value) => (value ? `Size ${value}` : "Sizes"),
 };
 
-/** How long after a change the words are counted, the source is shown and the draft is kept, in milliseconds. */
+/** After how many milliseconds the words are counted, the source is shown and the draft is kept. */
 const PAUSE = 250;
 
 /** How long typing has to rest before a screen reader is told how many words there are. */
@@ -214,7 +215,8 @@ class Composer {
   // The message.
 
   /**
-   * The region with a message in it, or with a new one where that is refused, as a draft that doesn't read back.
+   * The region with a message in it, or with a new one where that is refused, as a draft that
+   * doesn't read back.
    * @param {string} html
    * @returns {Region}
    */
@@ -266,8 +268,8 @@ class Composer {
   }
 
   /**
-   * Lets the region act, and says where it can't. Then the focus is in the message again, but for one
-   * who goes through the toolbar with the keyboard.
+   * Lets the region act, and says where it can't. Then the focus is in the message again, but for
+   * one who goes through the toolbar with the keyboard.
    * @param {(region: Region) => boolean} act
    */
   #act(act) {
@@ -286,8 +288,8 @@ class Composer {
   }
 
   /**
-   * Puts the focus where it was before a menu or a panel had it: in the toolbar, or else in the message, with
-   * what is selected there.
+   * Puts the focus where it was before a menu or a panel had it: in the toolbar, or else in the
+   * message, with what is selected there.
    * @param {Element | null} before
    */
   #return(before) {
@@ -485,7 +487,8 @@ class Composer {
   }
 
   /**
-   * Makes a link of what is selected. At a caret it changes the link that is there, or else inserts a text.
+   * Makes a link of what is selected. At a caret it changes the link that is there, or else inserts
+   * a text.
    * @param {Region} region
    * @param {string} text
    * @param {string} address
@@ -629,7 +632,9 @@ class Composer {
     }
   }
 
-  /** Saves the mail as a message that a mail program opens. There its locked parts can be written in. */
+  /**
+   * Saves the mail as a message that a mail program opens. There its locked parts can be written in.
+   */
   #save() {
     const body = part("message").cloneNode(true);
     for (const element of body.querySelectorAll("[contenteditable]")) {
@@ -675,7 +680,8 @@ async function start() {
   try {
     new Composer(await load());
   } catch (error) {
-    part("trouble").textContent = `The engine can’t run here: ${/** @type {Error} */ (error).message}`;
+    const { message } = /** @type {Error} */ (error);
+    part("trouble").textContent = `The engine can’t run here: ${message}`;
     part("trouble").hidden = false;
     throw error;
   }

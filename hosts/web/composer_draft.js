@@ -1,5 +1,6 @@
 /**
- * The draft of a mail: kept in the browser while it is written, and given to a mail program as a message.
+ * The draft of a mail: kept in the browser while it is written, and given to a mail program as a
+ * message.
  */
 
 /** Under which name the browser keeps the draft. */
@@ -33,7 +34,8 @@ export function keptDraft() {
 }
 
 /**
- * Keeps a draft in place of the one before. False where the browser has no room for it, or keeps nothing.
+ * Keeps a draft in place of the one before. False where the browser has no room for it, or keeps
+ * nothing.
  * @param {Draft} draft
  */
 export function keepDraft(draft) {
@@ -77,7 +79,8 @@ function words(text) {
 }
 
 /**
- * A text as the words of a header, on one line. Mail has letters of ASCII only there; others are encoded.
+ * A text as the words of a header, on one line. Mail has letters of ASCII only there; others are
+ * encoded.
  * @param {string} text
  */
 function headerText(text) {
@@ -108,7 +111,8 @@ function headerAddresses(addresses) {
  * @param {string} body the message's HTML
  */
 export function messageOf(to, subject, body) {
-  const page = `<!doctype html>\n<html><head><meta charset="utf-8"></head><body>\n${body}\n</body></html>\n`;
+  const head = '<!doctype html>\n<html><head><meta charset="utf-8"></head><body>\n';
+  const page = `${head}${body}\n</body></html>\n`;
   const letters = base64(ENCODER.encode(page));
   const lines = letters.match(new RegExp(`.{1,${LINE_LETTERS}}`, "g")) ?? [];
   const headers = [

@@ -51,7 +51,8 @@ export function addressOf(text) {
 }
 
 /**
- * HTML with a span around each tag, each value of an attribute, and each reference, where it isn't long. The text stays.
+ * HTML with a span around each tag, each value of an attribute, and each reference, where it isn't
+ * long. The text stays.
  * @param {string} html
  */
 export function coloured(html) {

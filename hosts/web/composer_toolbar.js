@@ -1,6 +1,7 @@
 /**
- * What the composer's controls have in common: a toolbar that is one stop of the Tab key, menus and panels that open below
- * their buttons, shortcuts, and labels that show on hover and on focus. What a control does is the composer's matter.
+ * What the composer's controls have in common: a toolbar that is one stop of the Tab key, menus and
+ * panels that open below their buttons, shortcuts, and labels that show on hover and on focus. What
+ * a control does is the composer's matter.
  */
 
 /** Whether the primary modifier is the command key, as on a Mac. */
@@ -21,8 +22,8 @@ const MARGIN = 8;
 const REST = 450;
 
 /**
- * What was pressed, as `data-keys` has it. Shift makes other characters of the digits, and Alt may of the letters
- * too: these keys go by what stands on them.
+ * What was pressed, as `data-keys` has it. Shift makes other characters of the digits, and Alt may
+ * of the letters too: these keys go by what stands on them.
  * @param {KeyboardEvent} event
  */
 export function keysOf(event) {
@@ -152,8 +153,8 @@ function place(popup) {
 }
 
 /**
- * Calls `opened` each time that a menu or a panel opens, once it stands in its place, and `closes` before it closes
- * with the focus in it. What had the focus before is where `closes` may put it.
+ * Calls `opened` each time that a menu or a panel opens, once it stands in its place, and `closes`
+ * before it closes with the focus in it. What had the focus before is where `closes` may put it.
  * @param {HTMLElement} popup
  * @param {() => void} opened
  * @param {(before: Element | null) => void} closes
@@ -273,7 +274,8 @@ export class Shortcuts {
       const control = this.#controls.get(keysOf(event));
       // With AltGr a letter is typed that the keyboard has no key for.
       const isTyped = event.isComposing || event.getModifierState("AltGraph");
-      if (control && !isTyped && !event.defaultPrevented && applies(control, /** @type {Element} */ (event.target))) {
+      const target = /** @type {Element} */ (event.target);
+      if (control && !isTyped && !event.defaultPrevented && applies(control, target)) {
         event.preventDefault();
         if (!isDisabled(control)) {
           control.click();
@@ -305,8 +307,8 @@ export class Shortcuts {
 }
 
 /**
- * Shows the name and the keys of each control of a kind while the pointer rests on it, and while the
- * keyboard has led to it.
+ * Shows the name and the keys of each control of a kind while the pointer rests on it, and while
+ * the keyboard has led to it.
  * @param {HTMLElement} tip
  * @param {string} selector
  */
@@ -333,7 +335,8 @@ export function showTips(tip, selector) {
     tip.style.left = `${Math.max(MARGIN, Math.min(middle, innerWidth - tip.offsetWidth - MARGIN))}px`;
     tip.style.top = `${fits ? below : top - tip.offsetHeight - MARGIN}px`;
   };
-  for (const control of /** @type {NodeListOf<HTMLElement>} */ (document.querySelectorAll(selector))) {
+  for (const element of document.querySelectorAll(selector)) {
+    const control = /** @type {HTMLElement} */ (element);
     control.addEventListener("pointerenter", (event) => {
       if (event.pointerType === "mouse") {
         showAfter(control, REST);

@@ -1,4 +1,4 @@
-/** Chromium, driven by the DevTools protocol over a pipe: its pages, with the input of a real mouse and keyboard. */
+/** Chromium, driven by the DevTools protocol over a pipe, with the input of a mouse and a keyboard. */
 import { execFileSync, spawn } from "node:child_process";
 import { once } from "node:events";
 import { mkdtemp, rm } from "node:fs/promises";
@@ -161,7 +161,8 @@ export class Browser {
    */
   async open(address, { width = 1280, height = 800, mobile = false, scheme = "light" } = {}) {
     const { browserContextId } = await this.send("Target.createBrowserContext");
-    const { targetId } = await this.send("Target.createTarget", { url: "about:blank", browserContextId });
+    const blank = { url: "about:blank", browserContextId };
+    const { targetId } = await this.send("Target.createTarget", blank);
     const attach = { targetId, flatten: true };
     const { sessionId } = await this.send("Target.attachToTarget", attach);
     const page = new Page(this, sessionId, browserContextId);
@@ -169,8 +170,8 @@ export class Browser {
     await page.send("Log.enable");
     await page.send("Page.enable");
     await page.send("Emulation.setFocusEmulationEnabled", { enabled: true });
-    const deviceScaleFactor = mobile ? 2 : 1;
-    await page.send("Emulation.setDeviceMetricsOverride", { width, height, deviceScaleFactor, mobile });
+    const metrics = { width, height, deviceScaleFactor: mobile ? 2 : 1, mobile };
+    await page.send("Emulation.setDeviceMetricsOverride", metrics);
     await page.send("Emulation.setTouchEmulationEnabled", { enabled: mobile });
     await page.setScheme(scheme);
     await page.send("Page.navigate", { url: address });
@@ -247,7 +248,8 @@ export class Page {
 
   /** @param {"light" | "dark"} value */
   async setScheme(value) {
-    await this.send("Emulation.setEmulatedMedia", { features: [{ name: "prefers-color-scheme", value }] });
+    const features = [{ name: "prefers-color-scheme", value }];
+    await this.send("Emulation.setEmulatedMedia", { features });
   }
 
   /** The middle of an element, once it stands in the window. */
