@@ -1045,6 +1045,15 @@ describe("a region", { skip: missing() }, () => {
           const found = [await ask("check"), browser.complaints.splice(0)];
           assert.deepEqual(found, [null, []], JSON.stringify(said.slice(-8)));
         }
+        const [last, again] = await page.evaluate(() => {
+          while (window.region.redo());
+          const html = window.region.html();
+          while (window.region.undo());
+          while (window.region.redo());
+          return [html, window.region.html()];
+        });
+        assert.equal(again, last);
+        assert.equal(await ask("check"), null);
       });
     }
   });
