@@ -1,7 +1,8 @@
 /* A program for bench/follow.sh: follow NODES TEXT RUN
  *
- * It opens a page of so many nodes with a text of so many characters in its middle, types as many as RUN
- * says into the middle of that, and then one more by `typed`, of which `asked` asks what it changed. */
+ * It opens a page of so many nodes with a text of so many characters in its middle, types as many as
+ * RUN says into the middle of that, and then one more by `typed`, of which `asked` asks what it
+ * changed. */
 #include <hedit.h>
 
 #include <stdio.h>

@@ -1,6 +1,7 @@
 #!/usr/bin/env bash
 # What a host pays that types a character and asks what that changed, by callgrind's instructions, and what it grows with.
-# Usage: bench/follow.sh [LIBRARY]   (valgrind, cc and rt are needed; LIBRARY is crates/hedit_c/out/libhedit_c.a unless given)
+# Usage: bench/follow.sh [LIBRARY]   (valgrind, cc and rt are needed; LIBRARY is crates/hedit_c/out/libhedit_c.a unless
+# given)
 # The figures are those of the last character of a run that is typed into the middle of a text. They should not grow with
 # the page. With the text they do: each step of undo keeps all its characters, and what changed is found by comparing them
 # with those before. It ends with status 1 where an aim is missed.

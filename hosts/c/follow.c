@@ -51,9 +51,11 @@ static void act(hedit_editor *editor, struct tree *tree) {
 static int show(hedit_editor *editor, const struct tree *tree) {
     struct text html = tree_html(tree);
     uint8_t *own = (uint8_t *)malloc(html.length);
-    size_t length;
-    want(own == NULL ? HEDIT_MEMORY : hedit_view(editor, HEDIT_HTML, own, html.length, &length));
-    int is_same = length == html.length && memcmp(own, html.bytes, length) == 0;
+    size_t length = 0;
+    want(own == NULL ? HEDIT_MEMORY : HEDIT_DONE);
+    uint32_t status = hedit_view(editor, HEDIT_HTML, own, html.length, &length);
+    int is_same = status == HEDIT_DONE && length == html.length &&
+                  memcmp(own, html.bytes, length) == 0;
     fwrite(html.bytes, 1, html.length, stdout);
     free(own);
     free(html.bytes);

@@ -438,12 +438,11 @@ static void labels(void) {
 static size_t pack(const char *words, uint8_t *bytes) {
     size_t length = 0;
     while (*words != '\0') {
-        const char *end = *words == '\'' ? strchr(words + 1, '\'') + 1 : words + strcspn(words, " ");
-        size_t quoted = *words == '\'' ? (size_t)(end - words) - 2 : 0;
-        uint64_t number = *words == '\''  ? quoted
-                          : *words == '-' ? HEDIT_NO_NODE
-                                          : strtoul(words, NULL, 10);
-        int i;
+        int is_text = *words == '\'', i;
+        const char *end = is_text ? strchr(words + 1, '\'') + 1 : words + strcspn(words, " ");
+        size_t quoted = is_text ? (size_t)(end - words) - 2 : 0;
+        uint64_t number = *words == '-' ? HEDIT_NO_NODE : strtoul(words, NULL, 10);
+        number = is_text ? quoted : number;
         for (i = 0; i < 8; i++)
             bytes[length++] = (uint8_t)(number >> 8 * i);
         memcpy(bytes + length, words + 1, quoted);
@@ -470,9 +469,14 @@ static int tells(hedit_editor *editor, uint64_t wanted_revision, const char *wor
            memcmp(buffer, wanted, room) == 0 && buffer[room] == '.';
 }
 
-static void select_text(hedit_editor *editor, uint32_t anchor, uint32_t anchor_offset, uint32_t focus,
-                        uint32_t focus_offset) {
+static void select_text(hedit_editor *editor, uint32_t anchor, uint32_t anchor_offset,
+                        uint32_t focus, uint32_t focus_offset) {
     CHECK(hedit_select_points(editor, anchor, anchor_offset, focus, focus_offset) == HEDIT_DONE);
+}
+
+static uint32_t exec(hedit_editor *editor, const char *name, const char *value) {
+    return hedit_exec(editor, (const uint8_t *)name, strlen(name), (const uint8_t *)value,
+                      strlen(value));
 }
 
 /* What changes nothing tells the changes before it. */
@@ -486,16 +490,16 @@ static void revisions(void) {
     select_text(&editor, 2, 0, 2, 2);
     CHECK(mark_in(&editor, "m", 2, 1) == HEDIT_DONE);
     CHECK(bold(&editor, "bold") == HEDIT_NO && bold(&editor, ",") == HEDIT_BAD_ARGUMENT);
-    CHECK(hedit_exec(&editor, TEXT("createLink"), TEXT("")) == HEDIT_NO);
+    CHECK(exec(&editor, "createLink", "") == HEDIT_NO);
     CHECK(hedit_undo(&editor) == HEDIT_NO && tells(&editor, 0, ""));
     CHECK(bold(&editor, "") == HEDIT_DONE && tells(&editor, 1, came));
     CHECK(hedit_redo(&editor) == HEDIT_NO && tells(&editor, 1, came));
     CHECK(hedit_undo(&editor) == HEDIT_DONE && tells(&editor, 2, went));
     CHECK(hedit_undo(&editor) == HEDIT_NO && tells(&editor, 2, went));
     CHECK(hedit_redo(&editor) == HEDIT_DONE && tells(&editor, 3, came));
-    CHECK(hedit_exec(&editor, TEXT("styleWithCSS"), TEXT("true")) == HEDIT_DONE);
+    CHECK(exec(&editor, "styleWithCSS", "true") == HEDIT_DONE);
     select_text(&editor, 2, 1, 2, 1);
-    CHECK(hedit_exec(&editor, TEXT("insertText"), TEXT("")) == HEDIT_DONE && tells(&editor, 3, came));
+    CHECK(exec(&editor, "insertText", "") == HEDIT_DONE && tells(&editor, 3, came));
     CHECK(hedit_open(&editor, TEXT(PAGE), 99, 9, &refusal) == HEDIT_DONE && tells(&editor, 0, ""));
     hedit_close(&editor);
     CHECK(hedit_revision(&editor, &revision) == HEDIT_CLOSED && revision == 7);
@@ -507,7 +511,7 @@ static void changes(void) {
     hedit_editor editor = opened("<p contenteditable>a<b lang><!--n-->\xc3\xa9</b>c</p>");
     CHECK(label_at(&editor, 0, 0, 9) == 2 && label_at(&editor, 0, 1, 1) == 5);
     select_text(&editor, 2, 0, 6, 1);
-    CHECK(hedit_exec(&editor, TEXT("delete"), TEXT("")) == HEDIT_DONE);
+    CHECK(exec(&editor, "delete", "") == HEDIT_DONE);
     CHECK(tells(&editor, 1, "1 2 1 3 1 6 2 1 - 1 0 7 1 'br' 0"));
     CHECK(hedit_undo(&editor) == HEDIT_DONE);
     CHECK(tells(&editor, 2,
@@ -516,19 +520,19 @@ static void changes(void) {
     hedit_close(&editor);
     editor = opened("<p contenteditable>\xc3\xa9</p>");
     select_text(&editor, 2, 1, 2, 1);
-    CHECK(hedit_exec(&editor, TEXT("insertText"), TEXT("\xf0\x9f\x98\x80")) == HEDIT_DONE);
+    CHECK(exec(&editor, "insertText", "\xf0\x9f\x98\x80") == HEDIT_DONE);
     CHECK(tells(&editor, 1, "4 2 1 0 '\xf0\x9f\x98\x80'"));
-    CHECK(hedit_exec(&editor, TEXT("insertText"), TEXT("ab")) == HEDIT_DONE);
+    CHECK(exec(&editor, "insertText", "ab") == HEDIT_DONE);
     CHECK(tells(&editor, 2, "4 2 2 0 'a' 4 2 3 0 'b'"));
     CHECK(hedit_undo(&editor) == HEDIT_DONE);
     CHECK(tells(&editor, 3, "4 2 3 1 '' 4 2 2 1 '' 4 2 1 1 ''"));
     select_text(&editor, 2, 1, 2, 1);
-    CHECK(hedit_exec(&editor, TEXT("insertParagraph"), TEXT("")) == HEDIT_DONE);
+    CHECK(exec(&editor, "insertParagraph", "") == HEDIT_DONE);
     CHECK(tells(&editor, 4,
                 "2 1 2 1 0 3 1 'div' 0 3 2 3 - 2 1 - 1 0 4 1 'div' 0 2 4 - 1 0 5 1 'br' 0"));
-    CHECK(hedit_exec(&editor, TEXT("styleWithCSS"), TEXT("true")) == HEDIT_DONE);
+    CHECK(exec(&editor, "styleWithCSS", "true") == HEDIT_DONE);
     select_text(&editor, 2, 0, 2, 1);
-    CHECK(hedit_exec(&editor, TEXT("foreColor"), TEXT("red")) == HEDIT_DONE);
+    CHECK(exec(&editor, "foreColor", "red") == HEDIT_DONE);
     CHECK(tells(&editor, 5, "2 3 2 1 0 6 1 'span' 0 5 6 1 'style' 'color: red;' 3 2 6 -"));
     hedit_close(&editor);
 }

@@ -72,7 +72,8 @@ static struct node *made(struct tree *tree, uint32_t label, uint32_t kind) {
     node->label = label;
     node->kind = kind;
     for (; label >= tree->room; tree->room++) {
-        tree->nodes = (struct node **)resized(tree->nodes, (tree->room + 1) * sizeof tree->nodes[0]);
+        size_t length = (tree->room + 1) * sizeof tree->nodes[0];
+        tree->nodes = (struct node **)resized(tree->nodes, length);
         tree->nodes[tree->room] = NULL;
     }
     return tree->nodes[label] = node;

@@ -31,7 +31,7 @@ void want(uint32_t status);
 /* The tree of an editor's page, read by the calls on nodes. */
 struct tree tree_of(hedit_editor *editor);
 
-/* Does what the last call changed that changed something. Before that call the tree was the page. */
+/* Does what the last call changed that changed something. The tree was the page before it. */
 void tree_follow(struct tree *tree, hedit_editor *editor);
 
 /* The HTML of the tree as the editor prints it. The caller frees its bytes. */

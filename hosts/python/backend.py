@@ -14,7 +14,7 @@ from collections.abc import Mapping
 from pathlib import Path
 
 HERE = Path(__file__).resolve().parent
-PACKAGE = ("__init__.py", "_editor.py", "_errors.py", "_library.py", "_nodes.py", "py.typed")
+PACKAGE = (*sorted(path.name for path in (HERE / "hedit").glob("*.py")), "py.typed")
 LICENSE = next(it for it in (HERE / "LICENSE", HERE.parent.parent / "LICENSE") if it.is_file())
 
 
@@ -107,7 +107,7 @@ def build_wheel(
 def build_sdist(sdist_directory: str, config_settings: object = None) -> str:
     """A source distribution: the package, a host, the tests, and this file."""
     files: dict[str, bytes | str] = {**package_files(), "PKG-INFO": metadata()}
-    for name in ("README.md", "backend.py", "mail.py", "pyproject.toml", "test_hedit.py"):
+    for name in ("README.md", "backend.py", "follow.py", "mail.py", "pyproject.toml", "test_hedit.py"):
         files[name] = (HERE / name).read_bytes()
     files["LICENSE"] = LICENSE.read_bytes()
     folder = f"hedit-{version()}"

@@ -46,7 +46,8 @@ class Tree:
 
     def _read(self, editor: Editor, label: int) -> Item:
         node = editor.node(label)
-        item = Item(label, node.kind, editor.node_name(label), editor.attributes(label), editor.node_value(label))
+        name, value = editor.node_name(label), editor.node_value(label)
+        item = Item(label, node.kind, name, editor.attributes(label), value)
         self.items[label] = item
         for child in editor.children(label):
             self._put(self._read(editor, child), item, None)
