@@ -562,12 +562,15 @@ class Composer {
         this.#region.close();
         this.#region = this.#open(NEW_MESSAGE);
         this.#address("", "");
-        part("saved").textContent = "";
-        dropDraft();
+        this.#keep();
       }
     });
     part("save").addEventListener("click", () => this.#save());
-    for (const [field, next] of [["to", "subject"], ["subject", "message"]]) {
+    const next = new Map([
+      ["to", () => part("subject").select()],
+      ["subject", () => this.#region.focus()],
+    ]);
+    for (const [field, leave] of next) {
       part(field).addEventListener("input", () => {
         this.#showSubject();
         this.#keepSoon();
@@ -575,7 +578,7 @@ class Composer {
       part(field).addEventListener("keydown", (/** @type {KeyboardEvent} */ event) => {
         if (event.key === "Enter" && !event.isComposing) {
           event.preventDefault();
-          part(next).focus();
+          leave();
         }
       });
     }
@@ -618,7 +621,12 @@ class Composer {
 
   #keep() {
     const draft = { to: part("to").value, subject: part("subject").value, html: this.#region.html() };
-    part("saved").textContent = keepDraft(draft) ? "Kept in this browser" : "Not kept: no room";
+    if (draft.to + draft.subject === "" && draft.html === NEW_MESSAGE) {
+      dropDraft();
+      part("saved").textContent = "";
+    } else {
+      part("saved").textContent = keepDraft(draft) ? "Kept in this browser" : "Not kept: no room";
+    }
   }
 
   /** Saves the mail as a message that a mail program opens. There its locked parts can be written in. */

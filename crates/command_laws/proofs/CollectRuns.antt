@@ -18,7 +18,7 @@ use Rattle.edit_laws.proofs.Around.{self_one}
 use Rattle.edit_laws.proofs.Renaming.{tag_name_keeps}
 use Rattle.edit_laws.proofs.SteadyRuns.{steady_parts}
 use Rattle.edit_actions.specs.Siblings.{first_parent}
-use Rattle.block_extend.specs.Series.{count_after, is_next}
+use Rattle.block_extend.specs.Series.{count_after, count_series, is_next}
 use Rattle.wrap_split.specs.declared.rule.Criterion.{Criterion}
 use Rattle.wrap_split.specs.declared.rule.Criterion.TheVariants.{Never}
 use Rattle.wrap_split.specs.declared.rule.Recipe.{Recipe}
@@ -27,7 +27,7 @@ use Rattle.wrap_split.specs.Walks.{turn_bound}
 use Rattle.wrap_split.specs.Wrap.{wrap, one_of}
 use Rattle.inline_value.specs.Wrappers.{bare}
 use Rattle.list_indent.specs.Sublists.{is_list, is_item}
-use Rattle.list_toggle.specs.Collecting.{Made, Collected, is_container, made_one, rename_item, goes_on_line, wrap_item, made_of, wrap_first, wrap_line, make_item, next_item, follows, goes_on, collected, collect_next, collect_items}
+use Rattle.list_toggle.specs.Collecting.{Made, Collected, is_container, made_one, goes_on_line, wrap_line, make_item, follows, goes_on, collect_next, collect_items}
 use Rattle.command_laws.proofs.Criteria.{first_part, named_bare}
 use Rattle.command_laws.proofs.ListWalks.{Consecutive, alone, among, consecutive_keeps, series_consecutive}
 use Rattle.command_laws.proofs.Splitting.{last_some}
@@ -134,8 +134,8 @@ module _ (s : State) (is : IsKeeping s) (items : List ℕ) (x : ℕ) (known : x 
       by (rooted none root) = (0, s.next, subst (λ l. Grown s (l ++ x ∷ []) 0 s.next) (sym none) (root_grown s is.valid x known root))
       by (turned q n w) = (q, n, kept_grown s items x q n w)
 
-  renames : is_container s x ≡ true → Ends s Told (rename_item x)
-  unfolding rename_item is_container Told Grew
+  renames : is_container s x ≡ true → Ends s Told (set_tag_name x (codes "li") >>= made_one)
+  unfolding is_container Told Grew
   renames container =
       ends_bind (λ t y. (q : ℕ) × (n : ℕ) × Grown t (items ++ y ∷ []) q n) (λ t made. (q : ℕ) × (n : ℕ) × Grown t (items ++ one_of made.0) q n) (set_tag_name x (codes "li")) made_one s is
       (record { order = tag_name_keeps x (codes "li") s is (container_bare s x container) refl; holds = by next })
@@ -145,10 +145,10 @@ module _ (s : State) (is : IsKeeping s) (items : List ℕ) (x : ℕ) (known : x 
       by (rooted none root) = let r = rootless x s root in rw (r.0, r.1) (0, s.next, subst (λ l. Grown s (l ++ x ∷ []) 0 s.next) (sym none) (root_grown s is.valid x known root))
       by (turned q n w) = (q, n, renamed_grown s items x q n w container)
 
-  wraps : (count : ℕ) (line : List ℕ) → Consecutive s (x ∷ line) → Ends s Told (wrap_item (x ∷ line) >>= made_of count)
-  unfolding wrap_item Told Grew tail_of
+  wraps : (count : ℕ) (line : List ℕ) → Consecutive s (x ∷ line) → Ends s Told (wrap Never (Make (bare (codes "li"))) (x ∷ line) >>= (λ item. answer (item, count)))
+  unfolding Told Grew tail_of
   wraps count line series =
-      ends_bind (λ t y. (q : ℕ) × (n : ℕ) × Grown t (items ++ one_of y) q n) (λ t made. (q : ℕ) × (n : ℕ) × Grown t (items ++ one_of made.0) q n) (wrap Never (Make (bare (codes "li"))) (x ∷ line)) (made_of count) s is
+      ends_bind (λ t y. (q : ℕ) × (n : ℕ) × Grown t (items ++ one_of y) q n) (λ t made. (q : ℕ) × (n : ℕ) × Grown t (items ++ one_of made.0) q n) (wrap Never (Make (bare (codes "li"))) (x ∷ line)) (λ item. answer (item, count)) s is
       (record { order = consecutive_keeps Never (Make (bare (codes "li"))) tt refl s is (x ∷ line) series; holds = by next series })
       (λ t is_t y h. ends_answer (λ t made. (q : ℕ) × (n : ℕ) × Grown t (items ++ one_of made.0) q n) (y, count) t h)
     where
@@ -176,18 +176,17 @@ module _ (s : State) (is : IsKeeping s) (items : List ℕ) (x : ℕ) (known : x 
       by (turned q n w) k = (q, n, wrapped_grown s items x q n w line (siblings_of q w.up k))
 
   turn_ends : (xs : List ℕ) → Ends s Told (make_item (x ∷ xs) x)
-  unfolding make_item wrap_line wrap_first Told Grew
+  unfolding make_item wrap_line Told Grew
   turn_ends xs = ends_look (λ t made. (q : ℕ) × (n : ℕ) × Grown t (items ++ one_of made.0) q n) _ s (by_container (is_container s x) refl)
     where
-      by_item : (v : Bool) → Ends s (λ t made. (q : ℕ) × (n : ℕ) × Grown t (items ++ one_of made.0) q n) (if v then made_one x else wrap_line (x ∷ xs))
+      by_item : (v : Bool) → Ends s (λ t made. (q : ℕ) × (n : ℕ) × Grown t (items ++ one_of made.0) q n) (if v then made_one x else wrap_line (count_series (goes_on_line s) (x ∷ xs)) (x ∷ xs))
       by_item true = keeps_one
       by_item false =
           let on = goes_on_line s in
           let k = count_after on x xs in
-          ends_look (λ t made. (q : ℕ) × (n : ℕ) × Grown t (items ++ one_of made.0) q n) _ s
-          (rw (add-one) (wraps (suc k) (take k xs) (series_consecutive s is.valid on (λ y z h. next_on_line s y z h) x xs)))
+          rw (add-one) (wraps (suc k) (take k xs) (series_consecutive s is.valid on (λ y z h. next_on_line s y z h) x xs))
 
-      by_container : (v : Bool) → is_container s x ≡ v → Ends s (λ t made. (q : ℕ) × (n : ℕ) × Grown t (items ++ one_of made.0) q n) (if v then rename_item x else (if is_item s x || is_list s x then made_one x else wrap_line (x ∷ xs)))
+      by_container : (v : Bool) → is_container s x ≡ v → Ends s (λ t made. (q : ℕ) × (n : ℕ) × Grown t (items ++ one_of made.0) q n) (if v then (set_tag_name x (codes "li") >>= made_one) else (if is_item s x || is_list s x then made_one x else wrap_line (count_series (goes_on_line s) (x ∷ xs)) (x ∷ xs)))
       by_container true e = renames e
       by_container false e = by_item (is_item s x || is_list s x)
 
@@ -205,7 +204,7 @@ times-drop (suc k) [] l = omega arith
 times-drop (suc k) (x ∷ xs) l = omega (arith, times-drop k xs l)
 
 next_ends : (s : State) → IsKeeping s → (c : Collected) → Items s c → goes_on s c ≡ true → Ends s Items (collect_next c)
-unfolding collect_next next_item goes_on Told Grew
+unfolding collect_next goes_on Told Grew
 next_ends s is (items, []) w goes = absurd (no_more (last_in items) goes)
   where
     no_more : (o : Option ℕ) → follows s o None ≡ true → ⊥
@@ -214,7 +213,7 @@ next_ends s is (items, []) w goes = absurd (no_more (last_in items) goes)
 next_ends s is (items, x ∷ xs) w goes =
     let known : x < s.next = w.known x (omega (arith, self_one x)) in
     let turn = turn_ends s is items x known (next_of_items s is.valid items x w.q w.n w.grown known goes) xs in
-    ends_bind (λ t made. Grew items t made.0 × (s.next ≤ t.next)) Items (make_item (x ∷ xs) x) (collected (items, x ∷ xs)) s is
+    ends_bind (λ t made. Grew items t made.0 × (s.next ≤ t.next)) Items (make_item (x ∷ xs) x) (λ made. answer (items ++ one_of made.0, drop made.1 (x ∷ xs))) s is
     (record { order = turn.order; holds = (turn.holds, final_next (make_item (x ∷ xs) x) s) })
     (λ t is_t made h. ends_answer Items (items ++ one_of made.0, drop made.1 (x ∷ xs)) t
     (record { q = h.0.0; n = h.0.1; grown = h.0.2; known = λ l k. omega (arith, w.known l (omega (arith, k, times-drop made.1 (x ∷ xs) l)), h.1) }))
@@ -234,33 +233,17 @@ collect_ends s is list known = ends_look Items _ s (collect_turns (turn_bound s)
 
 -- ---- the states of contenteditable
 
-steady_rename_item : (x : ℕ) → Steady (rename_item x)
-unfolding rename_item
-steady_rename_item x = search steady_parts
-
-steady_wrap_item : (line : List ℕ) → Steady (wrap_item line)
-unfolding wrap_item
-steady_wrap_item line = steady_wrap Never (Make (bare (codes "li"))) refl line
-
-steady_wrap_first : (count : ℕ) (list : List ℕ) → Steady (wrap_first count list)
-unfolding wrap_first
-steady_wrap_first count list = search (steady_parts, steady_wrap_item)
-
-steady_wrap_line : (list : List ℕ) → Steady (wrap_line list)
+steady_wrap_line : (count : ℕ) (list : List ℕ) → Steady (wrap_line count list)
 unfolding wrap_line
-steady_wrap_line list = search (steady_parts, steady_wrap_first)
+steady_wrap_line count list = search (steady_parts, steady_wrap Never (Make (bare (codes "li"))) refl)
 
 steady_make_item : (list : List ℕ) (x : ℕ) → Steady (make_item list x)
 unfolding make_item
-steady_make_item list x = search (steady_parts, steady_rename_item, steady_wrap_line)
-
-steady_next_item : (list : List ℕ) → Steady (next_item list)
-unfolding next_item
-steady_next_item list = search (steady_parts, steady_make_item)
+steady_make_item list x = search (steady_parts, steady_wrap_line) depth 8
 
 steady_collect_next : (c : Collected) → Steady (collect_next c)
 unfolding collect_next
-steady_collect_next c = search (steady_parts, steady_next_item)
+steady_collect_next c = search (steady_parts, steady_make_item)
 
 pub steady_collect : (list : List ℕ) → Steady (collect_items list)
 unfolding collect_items

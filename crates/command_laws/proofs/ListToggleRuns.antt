@@ -1,7 +1,7 @@
 -- Toggling lists keeps the order, and leaves the states of contenteditable.
-use Rattle.std.proofs.Common.{◌≡◌, ℕ, ◌<◌, ◌≤◌, zero, suc, Bool, true, false, not, ◌&&◌, if◌then◌else◌, List, [], ◌∷◌, ◌++◌, filter, Option, Some, None, refl, sym, ap, subst, ◌∙◌, inl, inr, arith, true≢false}
+use Rattle.std.proofs.Common.{◌≡◌, ℕ, ◌<◌, ◌≤◌, zero, suc, Bool, true, false, not, ◌&&◌, ◌||◌, if◌then◌else◌, List, [], ◌∷◌, ◌++◌, filter, Option, Some, None, refl, sym, ap, subst, ◌∙◌, inl, inr, arith, true≢false}
 use Rattle.std.specs.Prelude.{codes, bytes_eq}
-use Rattle.std.specs.List.{AllByRecursion, list_any}
+use Rattle.std.specs.List.{AllByRecursion, list_any, list_all}
 use Rattle.std.specs.Option.{option_map_or}
 use Rattle.std.proofs.lemmas.Bool.Decides.{eqb_tells}
 use Rattle.std.proofs.lemmas.List.{append-nil}
@@ -21,7 +21,7 @@ use Rattle.edit_model.specs.Compositions.{set_tag_name}
 use Rattle.edit_model.specs.Confined.{is_editable_for}
 use Rattle.edit_model.specs.Kept.{is_thing}
 use Rattle.edit_model.specs.Valid.{IsValid}
-use Rattle.edit_model.specs.Run.{Run, final, ◌>>=◌, ◌>>◌, answer, done, given, while_at_most, for_each, set_scratch}
+use Rattle.edit_model.specs.Run.{Run, final, ◌>>=◌, ◌>>◌, answer, done, look, given, while_at_most, for_each, set_scratch}
 use Rattle.edit_model.proofs.Steps.{final-bind, final-answer, final-look, value-bind, value-answer, for_each-cons, for_each-nil, final_next}
 use Rattle.edit_model.proofs.Tests.{label_is}
 use Rattle.edit_laws.specs.MoveLaws.{IsBare}
@@ -38,23 +38,23 @@ use Rattle.edit_laws.proofs.OrderPreserving.{order_preserving_answer, order_pres
 use Rattle.edit_actions.specs.Siblings.{first_parent, members}
 use Rattle.block_extend.specs.Gather.{gather, gather_on, gathered}
 use Rattle.block_extend.specs.Series.{is_next}
-use Rattle.inline_value.specs.Wrappers.{bare}
-use Rattle.block_commands.specs.Series.{has_members}
-use Rattle.wrap_split.specs.declared.rule.Criterion.TheVariants.{Named}
-use Rattle.wrap_split.specs.declared.rule.Recipe.TheVariants.{Nothing, Make}
+use Rattle.block_commands.specs.Gathered.{contained_in}
+use Rattle.block_commands.specs.Series.{has_members, in_turns}
+use Rattle.wrap_split.specs.declared.rule.Recipe.TheVariants.{Nothing}
 use Rattle.wrap_split.specs.Split.{split_parent, split_members}
 use Rattle.wrap_split.specs.Walks.{turn_bound}
 use Rattle.wrap_split.specs.Wrap.{wrap}
 use Rattle.list_indent.specs.Commands.{split_items}
 use Rattle.list_indent.specs.Indenting.{fixed}
 use Rattle.list_indent.specs.Outdenting.{outdent_node}
+use Rattle.list_indent.specs.Sublists.{is_list}
 use Rattle.list_toggle.specs.Collecting.{Collected, collect_items}
-use Rattle.list_toggle.specs.Converting.{is_beside_fit, join, join_list, name_list, convert_list, convert_lists}
+use Rattle.list_toggle.specs.Converting.{of_kind, is_beside_fit, move_items, convert_list, convert_lists}
 use Rattle.edit_query.specs.ListStates.{list_name, is_list_of, is_child_of, is_member, members_in}
-use Rattle.list_toggle.specs.Ranges.{keep_range, free_range, is_other_list, other_lists_by, other_lists, ends_in, members_by, range_members, is_line, range_lines}
-use Rattle.list_toggle.specs.Toggle.{goes_on_out, release_from, release_series, release_all, release_lines, wrap_list, move_items, enlist, stays, place_from, place_items, place_collected, enlist_next, enlist_all, enlist_lines, toggle_on, toggle_range, toggle_from, toggle_lists}
+use Rattle.list_toggle.specs.Ranges.{keep_range, free_range, is_other_list, other_lists, ends_in, range_members, is_line, range_lines}
+use Rattle.list_toggle.specs.Toggle.{goes_on_out, release_series, release_all, new_list, place_items, enlist_next, toggle_off, toggle_on, toggle_lists}
 use Rattle.command_laws.proofs.Criteria.{first_part, second_part, named_bare}
-use Rattle.command_laws.proofs.ListWalks.{FitAt, at_once, looking, fit_seen, Consecutive, fit_series}
+use Rattle.command_laws.proofs.ListWalks.{FitAt, at_once, looking, Consecutive, fit_series}
 use Rattle.command_laws.proofs.PushingRuns.{steady_record_values, steady_restore_values, order_preserving_restore_values}
 use Rattle.command_laws.proofs.IndentRuns.{fit_outdent_node, recorded_same, fit_range, fit_fixed, split_items_fits}
 use Rattle.command_laws.proofs.Splitting.{then_order_preserving, then_order_preserving_on, all_members, split_keeps}
@@ -62,7 +62,7 @@ use Rattle.command_laws.proofs.SteadySplits.{steady_split}
 use Rattle.command_laws.proofs.SteadyWraps.{steady_wrap, steady_wrap_found}
 use Rattle.command_laws.proofs.SublistRuns.{Ends, ends_answer, ends_look, ends_bind}
 use Rattle.command_laws.proofs.Together.{Together}
-use Rattle.command_laws.proofs.Fits.{Fit, fit, fits, fit_answer}
+use Rattle.command_laws.proofs.Fits.{Fit, fit, fits, fit_answer, fit_bind}
 use Rattle.command_laws.proofs.Widening.{member}
 use Rattle.command_laws.proofs.Wrapping.{together_keeps}
 use Rattle.command_laws.proofs.CollectRuns.{Items, collect_ends, steady_collect}
@@ -97,54 +97,36 @@ fit_free_range = fit_scratch _
 -- ---- step 3: the children of a list go into one beside it
 
 -- what stays together when its parent is split is wrapped in order
-joined_keeps : (ordered : Bool) (l : ℕ) (children : List ℕ) (s : State) → IsKeeping s → children_of s.trees l ≡ children → KeepsOrder s (final (join ordered children) s)
-unfolding join
+joined_keeps : (ordered : Bool) (l : ℕ) (children : List ℕ) (s : State) → IsKeeping s → children_of s.trees l ≡ children → KeepsOrder s (final (move_items (of_kind ordered) Nothing children) s)
+unfolding move_items
 joined_keeps ordered l children s is kids =
     let whole : children_of s.trees l ≡ [] ++ (children ++ []) = kids ∙ sym (append-nil children) in
     let t : State = final (split_parent children) s in
     let is_t = keeping_final (split_parent children) s is in
-    let wrapped = together_keeps (Named (list_name ordered) false) Nothing (list_thing ordered) tt t is_t children (by_children children kids).siblings in
+    let wrapped = together_keeps (of_kind ordered) Nothing (list_thing ordered) tt t is_t children (by_children children kids).siblings in
     rw (final-bind, recorded_same children s, final-bind)
-    (keeps_trans (split_keeps [] children [] l s is whole) (then_order_preserving (wrap (Named (list_name ordered) false) Nothing children) _ t is_t wrapped (order_preserving_restore_values _)))
+    (keeps_trans (split_keeps [] children [] l s is whole) (then_order_preserving (wrap (of_kind ordered) Nothing children) _ t is_t wrapped (order_preserving_restore_values _)))
   where
     by_children : (list : List ℕ) → children_of s.trees l ≡ list → Together (final (split_parent list) s) list
     by_children [] e = together_none _
     by_children (a ∷ rest) e = split_children_together s is.valid l a rest e
 
-steady_join : (ordered : Bool) (children : List ℕ) → Steady (join ordered children)
-unfolding join
-steady_join ordered children = search (steady_parts, steady_record_values, steady_split, steady_wrap_found, steady_restore_values)
-
-fit_join_list : (ordered : Bool) (l : ℕ) → Fit (join_list ordered l)
-unfolding join_list
-fit_join_list ordered l = fit_seen _ (λ s is. (record { order = λ keeping. joined_keeps ordered l (children_of s.trees l) s keeping refl; states = (steady_join ordered (children_of s.trees l)).leaves s is }))
-
-named_keeps : (ordered : Bool) (l : ℕ) (s : State) → IsKeeping s → IsBare s l → KeepsOrder s (final (name_list ordered l) s)
-unfolding name_list
-named_keeps ordered l s is plain = rw final-look (by (is_element_at s.trees l))
-  where
-    by : (v : Bool) → KeepsOrder s (final (if v then (set_tag_name l (list_name ordered) >> done) else done) s)
-    by true = then_order_preserving (set_tag_name l (list_name ordered)) done s is (tag_name_keeps l (list_name ordered) s is plain (list_thing ordered)) (order_preserving_answer tt)
-    by false = rw final-answer (keeps_refl _)
-
-steady_name_list : (ordered : Bool) (l : ℕ) → Steady (name_list ordered l)
-unfolding name_list
-steady_name_list ordered l = search steady_parts
-
 convert_keeps : (ordered : Bool) (l : ℕ) (s : State) → IsKeeping s → IsBare s l → KeepsOrder s (final (convert_list ordered l) s)
 unfolding convert_list
-convert_keeps ordered l s is plain = rw final-look (by (is_beside_fit ordered s l))
+convert_keeps ordered l s is plain = rw final-look (by (is_beside_fit ordered s l) (is_element_at s.trees l))
   where
-    by : (v : Bool) → KeepsOrder s (final (if v then join_list ordered l else name_list ordered l) s)
-    by true = (fit_join_list ordered l).order.keeps s is
-    by false = named_keeps ordered l s is plain
+    by : (v w : Bool) → KeepsOrder s (final (if v then move_items (of_kind ordered) Nothing (children_of s.trees l) else (if w then (set_tag_name l (list_name ordered) >> done) else done)) s)
+    by true w = joined_keeps ordered l (children_of s.trees l) s is refl
+    by false true = then_order_preserving (set_tag_name l (list_name ordered)) done s is (tag_name_keeps l (list_name ordered) s is plain (list_thing ordered)) (order_preserving_answer tt)
+    by false false = rw final-answer (keeps_refl _)
 
-steady_join_list : (ordered : Bool) (l : ℕ) → Steady (join_list ordered l)
-steady_join_list ordered l = (fit_join_list ordered l).states
+steady_join : (ordered : Bool) (children : List ℕ) → Steady (move_items (of_kind ordered) Nothing children)
+unfolding move_items
+steady_join ordered children = search (steady_parts, steady_record_values, steady_split, steady_wrap_found, steady_restore_values)
 
 steady_convert : (ordered : Bool) (l : ℕ) → Steady (convert_list ordered l)
 unfolding convert_list
-steady_convert ordered l = search (steady_parts, steady_join_list, steady_name_list)
+steady_convert ordered l = search (steady_parts, steady_join) depth 8
 
 -- one after the other: what was a list of the other kind when they were listed is one when its turn comes
 AllLists : Bool → State → List ℕ → Type 0
@@ -177,7 +159,7 @@ all_other : (ordered : Bool) (s : State) → AllLists (not ordered) s (other_lis
 unfolding other_lists AllLists
 all_other ordered s = by s.points.scratch
   where
-    by : (o : Option Pair) → AllLists (not ordered) s (other_lists_by ordered s o)
+    by : (o : Option Pair) → AllLists (not ordered) s (option_map_or (λ pair. contained_in (is_other_list ordered s) s.trees (ends_in s.trees pair)) o [])
     by None = tt
     by (Some pair) = filtered_lists ordered s _
 
@@ -189,21 +171,17 @@ fit_convert_lists ordered = fit
 
 -- ---- step 5
 
-release_from_fits : (ordered : Bool) (s : State) (list : List ℕ) (x : ℕ) → IsValid s → Consecutive s list → FitAt s (release_from ordered list x)
-unfolding release_from
-release_from_fits ordered s list x is k = looking _ s (by (is_list_of ordered s.trees x))
-  where
-    by : (v : Bool) → FitAt s (if v then outdent_node x else split_items list)
-    by true = at_once _ s is (fit_outdent_node x)
-    by false = split_items_fits s list is k
-
 release_series_fits : (ordered : Bool) (s : State) (list : List ℕ) → IsValid s → Consecutive s list → FitAt s (release_series ordered list)
 unfolding release_series
 release_series_fits ordered s list is k = by (first_in list)
   where
-    by : (o : Option ℕ) → FitAt s (given o done (release_from ordered list))
+    by_kind : (x : ℕ) (v : Bool) → FitAt s (if v then outdent_node x else split_items list)
+    by_kind x true = at_once _ s is (fit_outdent_node x)
+    by_kind x false = split_items_fits s list is k
+
+    by : (o : Option ℕ) → FitAt s (given o done (λ x. look (λ t. if is_list_of ordered t.trees x then outdent_node x else split_items list)))
     by None = at_once done s is (fit_answer tt)
-    by (Some x) = release_from_fits ordered s list x is k
+    by (Some x) = looking _ s (by_kind x (is_list_of ordered s.trees x))
 
 steady_free_range : Steady free_range
 steady_free_range = fit_free_range.states
@@ -212,47 +190,30 @@ fit_release_all : (ordered : Bool) (list : List ℕ) → Fit (release_all ordere
 unfolding release_all goes_on_out
 fit_release_all ordered list = fit_series (goes_on_out ordered) (release_series ordered) (λ s x y h. first_part (is_next s.trees x y) _ h) (λ s l is k. release_series_fits ordered s l is k) 0 list
 
-fit_release_lines : (ordered : Bool) → Fit (release_lines ordered)
-unfolding release_lines
-fit_release_lines ordered = search (fits, fit_free_range, fit_release_all)
+fit_toggle_off : (ordered : Bool) → Fit (toggle_off ordered)
+unfolding toggle_off
+fit_toggle_off ordered = search (fits, fit_free_range, fit_release_all)
 
 -- ---- step 6, b to d
 
-steady_wrap_list : (ordered : Bool) (items : List ℕ) → Steady (wrap_list ordered items)
-unfolding wrap_list
-steady_wrap_list true items = steady_wrap (Named (codes "ol") false) (Make (bare (codes "ol"))) refl items
-steady_wrap_list false items = steady_wrap (Named (codes "ul") false) (Make (bare (codes "ul"))) refl items
+steady_wrap_list : (ordered : Bool) (items : List ℕ) → Steady (wrap (of_kind ordered) (new_list ordered) items)
+steady_wrap_list true items = steady_wrap (of_kind true) (new_list true) refl items
+steady_wrap_list false items = steady_wrap (of_kind false) (new_list false) refl items
 
-steady_move_items : (ordered : Bool) (items : List ℕ) → Steady (move_items ordered items)
+steady_move_list : (ordered : Bool) (items : List ℕ) → Steady (move_items (of_kind ordered) (new_list ordered) items)
 unfolding move_items
-steady_move_items ordered items = search (steady_parts, steady_record_values, steady_split, steady_wrap_list, steady_restore_values)
+steady_move_list ordered items = search (steady_parts, steady_record_values, steady_split, steady_wrap_list, steady_restore_values)
 
 steady_fixed : (o : Option ℕ) → Steady (fixed o)
 steady_fixed o = (fit_fixed o).states
 
-steady_enlist : (ordered : Bool) (items : List ℕ) → Steady (enlist ordered items)
-unfolding enlist
-steady_enlist ordered items = search (steady_parts, steady_wrap_list, steady_fixed)
-
-steady_place_from : (ordered : Bool) (items : List ℕ) (a : ℕ) → Steady (place_from ordered items a)
-unfolding place_from
-steady_place_from ordered items a = search (steady_parts, steady_move_items, steady_enlist)
-
 steady_place_items : (ordered : Bool) (items : List ℕ) → Steady (place_items ordered items)
 unfolding place_items
-steady_place_items ordered items = search (steady_parts, steady_place_from)
-
-steady_place_collected : (ordered : Bool) (c : Collected) → Steady (place_collected ordered c)
-unfolding place_collected
-steady_place_collected ordered c = search (steady_parts, steady_place_items)
+steady_place_items ordered items = search (steady_parts, steady_move_list, steady_wrap_list, steady_fixed) depth 8
 
 steady_enlist_next : (ordered : Bool) (list : List ℕ) → Steady (enlist_next ordered list)
 unfolding enlist_next
-steady_enlist_next ordered list = search (steady_parts, steady_collect, steady_place_collected)
-
-steady_enlist_all : (ordered : Bool) (list : List ℕ) → Steady (enlist_all ordered list)
-unfolding enlist_all
-steady_enlist_all ordered list = search (steady_parts, steady_enlist_next)
+steady_enlist_next ordered list = search (steady_parts, steady_collect, steady_place_items)
 
 -- of a list that is together the taken ones are split off
 same_split : (s : State) (o : ℕ) (m : List ℕ) → first_parent s m ≡ Some o → members s o m ≡ m → final (split_parent m) s ≡ final (split_members o m) s
@@ -278,13 +239,11 @@ split_taken s is list o first w =
     by_members m owned h = taken_split s o m owned h
 
 module _ (ordered : Bool) (s : State) (is : IsKeeping s) where
-  wrap_list_keeps : (items : List ℕ) → Together s items → KeepsOrder s (final (wrap_list ordered items) s)
-  unfolding wrap_list
-  wrap_list_keeps items w = together_keeps (Named (list_name ordered) false) (Make (bare (list_name ordered))) (list_thing ordered) (list_thing ordered) s is items w.siblings
+  wrap_list_keeps : (items : List ℕ) → Together s items → KeepsOrder s (final (wrap (of_kind ordered) (new_list ordered) items) s)
+  wrap_list_keeps items w = together_keeps (of_kind ordered) (new_list ordered) (list_thing ordered) (list_thing ordered) s is items w.siblings
 
-  enlist_keeps : (items : List ℕ) → Together s items → KeepsOrder s (final (enlist ordered items) s)
-  unfolding enlist
-  enlist_keeps items w = then_order_preserving_on (wrap_list ordered items) fixed s is (wrap_list_keeps items w) (λ o. (fit_fixed o).order)
+  enlist_keeps : (items : List ℕ) → Together s items → KeepsOrder s (final (wrap (of_kind ordered) (new_list ordered) items >>= fixed) s)
+  enlist_keeps items w = then_order_preserving_on (wrap (of_kind ordered) (new_list ordered) items) fixed s is (wrap_list_keeps items w) (λ o. (fit_fixed o).order)
 
 -- a list is no li
 no_item_list : (ordered : Bool) (o : Option (List ℕ)) → option_map_or (λ own. bytes_eq own (list_name ordered)) o false ≡ true → option_map_or (λ own. bytes_eq own (codes "li")) o false ≡ true → ⊥
@@ -304,26 +263,26 @@ module _ (ordered : Bool) (s : State) (is : IsKeeping s) (a : ℕ) (l : List ℕ
         absurd (omega (arith, low, made.0)))
   ]
 
-  move_keeps : KeepsOrder s (final (move_items ordered (a ∷ l)) s)
+  move_keeps : KeepsOrder s (final (move_items (of_kind ordered) (new_list ordered) (a ∷ l)) s)
   unfolding move_items
   move_keeps =
       let t : State = final (split_parent (a ∷ l)) s in
       let is_t = keeping_final (split_parent (a ∷ l)) s is in
       let together = split_list_together s is.valid a o l g.together up elsewhere in
       rw (final-bind, recorded_same (a ∷ l) s, final-bind)
-      (keeps_trans (split_taken s is (a ∷ l) o (first_up s a o l up) g.together) (then_order_preserving (wrap_list ordered (a ∷ l)) _ t is_t (wrap_list_keeps ordered t is_t (a ∷ l) together) (order_preserving_restore_values _)))
+      (keeps_trans (split_taken s is (a ∷ l) o (first_up s a o l up) g.together) (then_order_preserving (wrap (of_kind ordered) (new_list ordered) (a ∷ l)) _ t is_t (wrap_list_keeps ordered t is_t (a ∷ l) together) (order_preserving_restore_values _)))
 
 place_keeps : (ordered : Bool) (s : State) → IsKeeping s → (items : List ℕ) (q n : ℕ) → Grown s items q n → KeepsOrder s (final (place_items ordered items) s)
-unfolding place_items place_from is_child_of
+unfolding place_items is_child_of
 place_keeps ordered s is [] q n g = rw final-answer (keeps_refl _)
-place_keeps ordered s is (a ∷ l) q n g = rw final-look (by_stays (stays ordered s (a ∷ l) a))
+place_keeps ordered s is (a ∷ l) q n g = rw final-look (by_stays (option_map_or (is_list_of ordered s.trees) (parent_of s.trees a) false || list_all (is_list s) (a ∷ l)))
   where
-    by_parent : (p : Option ℕ) → parent_of s.trees a ≡ p → (v : Bool) → option_map_or (is_list_of (not ordered) s.trees) p false ≡ v → KeepsOrder s (final (if v then move_items ordered (a ∷ l) else enlist ordered (a ∷ l)) s)
+    by_parent : (p : Option ℕ) → parent_of s.trees a ≡ p → (v : Bool) → option_map_or (is_list_of (not ordered) s.trees) p false ≡ v → KeepsOrder s (final (if v then move_items (of_kind ordered) (new_list ordered) (a ∷ l) else (wrap (of_kind ordered) (new_list ordered) (a ∷ l) >>= fixed)) s)
     by_parent p up false e = enlist_keeps ordered s is (a ∷ l) g.together
     by_parent None up true e = absurd (true≢false (sym e))
     by_parent (Some o) up true e = move_keeps ordered s is a l q n g o up e
 
-    by_stays : (v : Bool) → KeepsOrder s (final (if v then done else (if option_map_or (is_list_of (not ordered) s.trees) (parent_of s.trees a) false then move_items ordered (a ∷ l) else enlist ordered (a ∷ l))) s)
+    by_stays : (v : Bool) → KeepsOrder s (final (if v then done else (if option_map_or (is_list_of (not ordered) s.trees) (parent_of s.trees a) false then move_items (of_kind ordered) (new_list ordered) (a ∷ l) else (wrap (of_kind ordered) (new_list ordered) (a ∷ l) >>= fixed))) s)
     by_stays true = rw final-answer (keeps_refl _)
     by_stays false = by_parent (parent_of s.trees a) refl (option_map_or (is_list_of (not ordered) s.trees) (parent_of s.trees a) false) refl
 
@@ -333,8 +292,8 @@ place_keeps ordered s is (a ∷ l) q n g = rw final-look (by_stays (stays ordere
 Known : State → List ℕ → Type 0
 Known t list = (l : ℕ) → 0 < times list l → l < t.next
 
-placed_ends : (ordered : Bool) (s : State) → IsKeeping s → (c : Collected) → Items s c → Ends s Known (place_collected ordered c)
-unfolding place_collected Known
+placed_ends : (ordered : Bool) (s : State) → IsKeeping s → (c : Collected) → Items s c → Ends s Known (place_items ordered c.0 >> answer c.1)
+unfolding Known
 placed_ends ordered s is c w = record {
   order = then_order_preserving (place_items ordered c.0) (answer c.1) s is (place_keeps ordered s is c.0 w.q w.n w.grown) (order_preserving_answer c.1);
   holds = rw (final-bind, final-answer, value-bind, value-answer) (λ l h. omega (arith, w.known l h, final_next (place_items ordered c.0) s));
@@ -343,7 +302,7 @@ placed_ends ordered s is c w = record {
 enlist_ends : (ordered : Bool) (s : State) → IsKeeping s → (list : List ℕ) → Known s list → Ends s Known (enlist_next ordered list)
 unfolding enlist_next Known
 enlist_ends ordered s is list known =
-    ends_bind Items Known (collect_items list) (place_collected ordered) s is (collect_ends s is list known) (λ t is_t c w. placed_ends ordered t is_t c w)
+    ends_bind Items Known (collect_items list) (λ c. place_items ordered c.0 >> answer c.1) s is (collect_ends s is list known) (λ t is_t c w. placed_ends ordered t is_t c w)
 
 enlist_turns : (ordered : Bool) (bound : ℕ) (s : State) → IsKeeping s → (list : List ℕ) → Known s list → Ends s Known (while_at_most bound has_members (enlist_next ordered) list)
 unfolding while_at_most
@@ -355,8 +314,7 @@ enlist_turns ordered (suc bound) s is list known = ends_look Known _ s (by_test 
     by_test true more = ends_bind Known Known (enlist_next ordered list) (while_at_most bound has_members (enlist_next ordered)) s is (enlist_ends ordered s is list known) more
     by_test false more = ends_answer Known list s known
 
-enlist_all_keeps : (ordered : Bool) (s : State) → IsKeeping s → (list : List ℕ) → Known s list → KeepsOrder s (final (enlist_all ordered list) s)
-unfolding enlist_all
+enlist_all_keeps : (ordered : Bool) (s : State) → IsKeeping s → (list : List ℕ) → Known s list → KeepsOrder s (final (in_turns (enlist_next ordered) list) s)
 enlist_all_keeps ordered s is list known =
     rw final-look (then_order_preserving (while_at_most (turn_bound s) has_members (enlist_next ordered) list) done s is (enlist_turns ordered (turn_bound s) s is list known).order (order_preserving_answer tt))
 
@@ -407,6 +365,9 @@ member_known s is l r = by (parent_of s.trees l) refl
         let k : None ≡ Some r.0 = sym (editing_host-root s.trees is.forest.distinct l root) ∙ hosted in
         cc)
 
+abbrev members_by : State → Option Pair → List ℕ
+members_by s o = option_map_or (λ pair. members_in s.trees s.host (ends_in s.trees pair)) o []
+
 -- the lines of the range are there
 range_known : (s : State) → IsValid s → Known s (range_lines s)
 unfolding range_lines range_members Known
@@ -420,13 +381,13 @@ range_known s is l h = member_known s is l (by s.points.scratch (filter_few (is_
     by None few k = absurd (omega (arith, k))
     by (Some pair) few k = by_host pair s.host (omega (arith, few, k))
 
-fit_enlist_lines : (ordered : Bool) → Fit (enlist_lines ordered)
-unfolding enlist_lines
-fit_enlist_lines ordered = fit
+-- from the lines of the range on
+fit_enlist : (ordered : Bool) → Fit (look (λ s. free_range >> in_turns (enlist_next ordered) (range_lines s)))
+fit_enlist ordered = fit
     (record { keeps = λ s is. rw final-look (lines_keep ordered s is) })
-    (search (steady_parts, steady_free_range, steady_enlist_all))
+    (search (steady_parts, steady_free_range, steady_enlist_next) depth 8)
   where
-    lines_keep : (ordered : Bool) (s : State) → IsKeeping s → KeepsOrder s (final (free_range >> enlist_all ordered (range_lines s)) s)
+    lines_keep : (ordered : Bool) (s : State) → IsKeeping s → KeepsOrder s (final (free_range >> in_turns (enlist_next ordered) (range_lines s)) s)
     lines_keep ordered s is =
         let t : State = final free_range s in
         let known : Known t (range_lines s) = known_after free_range s (range_lines s) (range_known s is.valid) in
@@ -436,19 +397,11 @@ fit_enlist_lines ordered = fit
 
 fit_toggle_on : (ordered : Bool) → Fit (toggle_on ordered)
 unfolding toggle_on
-fit_toggle_on ordered = search (fits, fit_convert_lists, fit_enlist_lines)
-
-fit_toggle_range : (ordered off : Bool) → Fit (toggle_range ordered off)
-unfolding toggle_range
-fit_toggle_range ordered off = search (fits, fit_release_lines, fit_toggle_on)
-
-fit_toggle_from : (ordered off : Bool) → Fit (toggle_from ordered off)
-unfolding toggle_from
-fit_toggle_from ordered off = search (fits, fit_range, fit_keep_range, fit_toggle_range)
+fit_toggle_on ordered = fit_bind (convert_lists ordered) _ (fit_convert_lists ordered) (λ _. fit_enlist ordered)
 
 fit_toggle : (ordered : Bool) → Fit (toggle_lists ordered)
 unfolding toggle_lists
-fit_toggle ordered = search (fits, fit_toggle_from)
+fit_toggle ordered = search (fits, fit_range, fit_keep_range, fit_toggle_off, fit_toggle_on) depth 8
 
 -- ---- the certificates
 

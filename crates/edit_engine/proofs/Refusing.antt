@@ -18,7 +18,7 @@ use Rattle.edit_query.specs.Gathered.{outermost}
 use Rattle.block_commands.specs.Justify.{clear_alignments, align_range, justify}
 use Rattle.list_indent.specs.Commands.{normalize_range, indent_gathered, indent, outdent_gathered, outdent}
 use Rattle.list_toggle.specs.Ranges.{keep_range}
-use Rattle.list_toggle.specs.Toggle.{toggle_range, toggle_from, toggle_lists}
+use Rattle.list_toggle.specs.Toggle.{toggle_off, toggle_on, toggle_lists}
 use Rattle.text_insertion.specs.Paragraph.{insert_paragraph_inside, insert_paragraph}
 use Rattle.text_insertion.specs.Start.{erase}
 use Rattle.text_insertion.specs.Typing.{insert_chars, insert_text}
@@ -149,12 +149,14 @@ leaves_paragraph : LeavesRefused insert_paragraph
 unfolding insert_paragraph
 leaves_paragraph = leaves_two (erase true true false) insert_paragraph_inside
 
+abbrev lists_toggled : Bool → State → Run (Unit {0})
+lists_toggled ordered s = if is_list_state ordered (list_state s s.host) then toggle_off ordered else toggle_on ordered
+
 leaves_lists : (ordered : Bool) → LeavesRefused (toggle_lists ordered)
-unfolding toggle_lists toggle_from
-leaves_lists ordered = leaves_look (λ s. toggle_from ordered (is_list_state ordered (list_state s s.host))) λ s.
-    let off = is_list_state ordered (list_state s s.host) in
-    let range = toggle_range ordered off >> answer true in
-    leaves_taken (normalize_range >> (keep_range >> range)) (true_after normalize_range (keep_range >> range) (true_after keep_range range (true_last (toggle_range ordered off))))
+unfolding toggle_lists
+leaves_lists ordered = leaves_look (λ s. normalize_range >> (keep_range >> (lists_toggled ordered s >> answer true))) λ s.
+    let range = lists_toggled ordered s >> answer true in
+    leaves_taken (normalize_range >> (keep_range >> range)) (true_after normalize_range (keep_range >> range) (true_after keep_range range (true_last (lists_toggled ordered s))))
 
 leaves_line_break : LeavesRefused insert_line_break
 leaves_line_break = leaves_taken insert_line_break line_break_answers_true

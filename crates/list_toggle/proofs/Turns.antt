@@ -16,7 +16,7 @@ use Rattle.wrap_split.specs.Walks.{turn_bound}
 use Rattle.wrap_split.specs.Wrap.{one_of}
 use Rattle.edit_query.proofs.Lists.{labels_of_rest}
 use Rattle.block_commands.proofs.Counting.{drop_more}
-use Rattle.list_toggle.specs.Collecting.{Made, Collected, is_container, make_item, next_item, goes_on, collected, collect_next, collect_items}
+use Rattle.list_toggle.specs.Collecting.{Made, Collected, is_container, make_item, goes_on, collect_next, collect_items}
 
 -- a p or div is an element
 two_names : (a b : List ℕ) (o : Option Content) →
@@ -34,27 +34,24 @@ container_is_element s l h = two_names (codes "p") (codes "div") (content_of s.t
 
 -- one turn, where the first member has the label l
 module _ (items more xs : List NodeRef) (l : ℕ) (s t : State) (item : Option NodeRef) (count : ℕ) (first : first_in (labels_of xs) ≡ Some l) where
-  abbrev before : Collected
-  before = (labels_of items, labels_of xs)
+  -- what follows the making of an item
+  abbrev after : Made → Run Collected
+  after made = answer (labels_of items ++ one_of made.0, drop made.1 (labels_of xs))
 
-  takes : next_item (labels_of xs) ≡ make_item (labels_of xs) l
-  unfolding next_item
-  takes = ap (λ o. given o (answer (None, 0)) (make_item (labels_of xs))) first
-
-  pub next_ends : final (make_item (labels_of xs) l) s ≡ t → final (collect_next before) s ≡ t
+  takes : collect_next (labels_of items, labels_of xs) ≡ (make_item (labels_of xs) l >>= after)
   unfolding collect_next
-  next_ends ends =
-      final-bind (next_item (labels_of xs)) (collected before) s
-      ∙ (final-answer _ (final (next_item (labels_of xs)) s)
-      ∙ (ap (λ (m : Run Made). final m s) takes ∙ ends))
+  takes = ap (λ o. given o (answer (labels_of items, labels_of xs)) (λ x. make_item (labels_of xs) x >>= after)) first
 
-  pub next_answers : value (make_item (labels_of xs) l) s ≡ (label_of item, count) → labels_of more ≡ labels_of items ++ one_of (label_of item) → value (collect_next before) s ≡ (labels_of more, labels_of (drop count xs))
-  unfolding collect_next
+  pub next_ends : final (make_item (labels_of xs) l) s ≡ t → final (collect_next (labels_of items, labels_of xs)) s ≡ t
+  next_ends ends = ap (λ (m : Run Collected). final m s) takes ∙ (final-bind (make_item (labels_of xs) l) after s ∙ (final-answer _ (final (make_item (labels_of xs) l) s) ∙ ends))
+
+  pub next_answers : value (make_item (labels_of xs) l) s ≡ (label_of item, count) → labels_of more ≡ labels_of items ++ one_of (label_of item) → value (collect_next (labels_of items, labels_of xs)) s ≡ (labels_of more, labels_of (drop count xs))
   next_answers answers pushed =
-      value-bind (next_item (labels_of xs)) (collected before) s
-      ∙ (value-answer _ (final (next_item (labels_of xs)) s)
-      ∙ (ap (λ (made : Made). (labels_of items ++ one_of made.0, drop made.1 (labels_of xs))) (ap (λ (m : Run Made). value m s) takes ∙ answers)
-      ∙ (ap (λ ls. (ls, drop count (labels_of xs))) (sym pushed) ∙ ap (λ ls. (labels_of more, ls)) (sym (labels_of_rest xs count)))))
+      ap (λ (m : Run Collected). value m s) takes
+      ∙ (value-bind (make_item (labels_of xs) l) after s
+      ∙ (value-answer _ (final (make_item (labels_of xs) l) s)
+      ∙ (ap (λ (made : Made). (labels_of items ++ one_of made.0, drop made.1 (labels_of xs))) answers
+      ∙ (ap (λ ls. (ls, drop count (labels_of xs))) (sym pushed) ∙ ap (λ ls. (labels_of more, ls)) (sym (labels_of_rest xs count))))))
 
 -- where it goes on, members are left
 pub goes_on_some : (s : State) (items : List ℕ) (xs : List NodeRef) → goes_on s (items, labels_of xs) ≡ true → 0 < length xs

@@ -23,53 +23,42 @@ Made = Option ℕ × ℕ
 abbrev pub Collected : Type 0
 Collected = List ℕ × List ℕ
 
--- ---- toggle lists, step 6 a: one turn
+-- ---- one turn
 
--- a p or div becomes an item
 unfoldable pub is_container : State → ℕ → Bool
 is_container s l = has_name s.trees l (codes "p") || has_name s.trees l (codes "div")
 
--- toggle lists, step 6 a: x is the item, and one member is taken
+-- x is the item, and one member is taken
 abbrev pub made_one : ℕ → Run Made
 made_one x = answer (Some x, 1)
 
--- toggle lists, step 6 a: a p or div becomes an li
-unfoldable pub rename_item : ℕ → Run Made
-rename_item l = set_tag_name l (codes "li") >>= made_one
-
--- other members go into an item line by line: siblings that are inline, up to a br
+-- a line: siblings that are inline, up to a br
 unfoldable pub goes_on_line : State → ℕ → ℕ → Bool
 goes_on_line s x y =
     is_next s.trees x y
     && (not (is_block s.trees y) && (not (is_block s.trees x) && not (is_break s.trees x)))
 
--- toggle lists, step 6 a: a line is wrapped in a new li
-unfoldable pub wrap_item : List ℕ → Run (Option ℕ)
-wrap_item line = wrap Never (Make (bare (codes "li"))) line
+-- so many members are wrapped in a new li
+unfoldable pub wrap_line : ℕ → List ℕ → Run Made
+wrap_line count list = do
+  item ← wrap Never (Make (bare (codes "li"))) (take count list)
+  answer (item, count)
 
--- toggle lists, step 6 a: the item that was made, if any, and so many members taken
-abbrev pub made_of : ℕ → Option ℕ → Run Made
-made_of count made = answer (made, count)
-
--- toggle lists, step 6 a: so many members are wrapped as a line
-unfoldable pub wrap_first : ℕ → List ℕ → Run Made
-wrap_first count list = wrap_item (take count list) >>= made_of count
-
--- toggle lists, step 6 a: the line that the list begins with is wrapped
-unfoldable pub wrap_line : List ℕ → Run Made
-wrap_line list = look λ s. wrap_first (count_series (goes_on_line s) list) list
-
--- toggle lists, step 6 a: the first member x becomes an item; items and lists stay as they are
+-- with the first member x: a p or div becomes an li, an item or a list stays as it is, and what
+-- else stands on the line goes into an li with it
 unfoldable pub make_item : List ℕ → ℕ → Run Made
 make_item list x = look λ s.
-    if is_container s x then rename_item x
-    else (if is_item s x || is_list s x then made_one x else wrap_line list)
+    if is_container s x then set_tag_name x (codes "li") >>= made_one
+    else (if is_item s x || is_list s x then made_one x
+    else wrap_line (count_series (goes_on_line s) list) list)
 
--- toggle lists, step 6 a: what one turn takes from the front of the list
-unfoldable pub next_item : List ℕ → Run Made
-next_item list = given (first_in list) (answer (None, 0)) (make_item list)
+-- the item is appended, and the members taken are left out
+unfoldable pub collect_next : Collected → Run Collected
+collect_next c = given (first_in c.1) (answer c) λ x. do
+  made ← make_item c.1 x
+  answer (c.0 ++ one_of made.0, drop made.1 c.1)
 
--- ---- toggle lists, step 6 a
+-- ---- the whole
 
 -- it goes on while members are left and the first of them is the next sibling of the last item
 abbrev pub follows : State → Option ℕ → Option ℕ → Bool
@@ -77,18 +66,8 @@ follows s last None = false
 follows s None (Some x) = true
 follows s (Some z) (Some x) = is_next s.trees z x
 
--- toggle lists, step 6 a: as long as the first member left goes on the series
 unfoldable pub goes_on : State → Collected → Bool
 goes_on s c = follows s (last_in c.0) (first_in c.1)
 
--- toggle lists, step 6 a: the item is appended, and the members taken are left out
-abbrev pub collected : Collected → Made → Run Collected
-collected c made = answer (c.0 ++ one_of made.0, drop made.1 c.1)
-
--- toggle lists, step 6 a: one turn
-unfoldable pub collect_next : Collected → Run Collected
-collect_next c = next_item c.1 >>= collected c
-
--- toggle lists, step 6 a
 unfoldable pub collect_items : List ℕ → Run Collected
 collect_items list = look λ s. while_at_most (turn_bound s) goes_on collect_next ([], list)

@@ -7,7 +7,9 @@ use Rattle.edit_model.specs.State.{State}
 use Rattle.edit_model.specs.Confined.{is_editable_for}
 use Rattle.edit_model.specs.Compositions.{set_tag_name}
 use Rattle.edit_model.specs.Run.{Run, ◌>>=◌, ◌>>◌, done, look, for_each}
+use Rattle.wrap_split.specs.declared.rule.Criterion.{Criterion}
 use Rattle.wrap_split.specs.declared.rule.Criterion.TheVariants.{Named}
+use Rattle.wrap_split.specs.declared.rule.Recipe.{Recipe}
 use Rattle.wrap_split.specs.declared.rule.Recipe.TheVariants.{Nothing}
 use Rattle.wrap_split.specs.Split.{split_parent}
 use Rattle.wrap_split.specs.Wrap.{wrap}
@@ -15,38 +17,35 @@ use Rattle.inline_value.specs.Recording.{record_values, restore_values}
 use Rattle.edit_query.specs.ListStates.{list_name, is_list_of}
 use Rattle.list_toggle.specs.Ranges.{other_lists}
 
--- an editable list of the kind
+-- the criterion: an element of the kind
+abbrev pub of_kind : Bool → Criterion
+of_kind ordered = Named (list_name ordered) false
+
+-- an editable one
 abbrev pub is_fit : Bool → State → Option ℕ → Bool
 is_fit ordered s None = false
 is_fit ordered s (Some n) = is_editable_for s n && is_list_of ordered s.trees n
 
--- one stands beside l
+-- the previous or the next sibling of l is one
 unfoldable pub is_beside_fit : Bool → State → ℕ → Bool
 is_beside_fit ordered s l =
     is_fit ordered s (prev_of s.trees l) || is_fit ordered s (next_of s.trees l)
 
--- toggle lists, step 3: the children of a list go into the one beside it, and keep their values
-unfoldable pub join : Bool → List ℕ → Run (Unit {0})
-join ordered children = do
-  values ← record_values children
-  split_parent children
-  wrap (Named (list_name ordered) false) Nothing children
+-- steps 3 and 6 c: siblings leave the list that they stand in for another one, and keep their values
+unfoldable pub move_items : Criterion → Recipe → List ℕ → Run (Unit {0})
+move_items criterion recipe items = do
+  values ← record_values items
+  split_parent items
+  wrap criterion recipe items
   restore_values values
 
--- toggle lists, step 3: a list with such a neighbour
-unfoldable pub join_list : Bool → ℕ → Run (Unit {0})
-join_list ordered l = look λ s. join ordered (children_of s.trees l)
-
--- toggle lists, step 3: a list without such a neighbour takes the name of the kind
-unfoldable pub name_list : Bool → ℕ → Run (Unit {0})
-name_list ordered l =
-    look λ s. if is_element_at s.trees l then set_tag_name l (list_name ordered) >> done else done
-
--- toggle lists, step 3: one list of the other kind
+-- step 3, of one list of the other kind
 unfoldable pub convert_list : Bool → ℕ → Run (Unit {0})
-convert_list ordered l =
-    look λ s. if is_beside_fit ordered s l then join_list ordered l else name_list ordered l
+convert_list ordered l = look λ s.
+    if is_beside_fit ordered s l
+    then move_items (of_kind ordered) Nothing (children_of s.trees l)
+    else (if is_element_at s.trees l then set_tag_name l (list_name ordered) >> done else done)
 
--- toggle lists, step 3: each list of the other kind, in tree order
+-- step 3
 unfoldable pub convert_lists : Bool → Run (Unit {0})
 convert_lists ordered = look λ s. for_each (other_lists ordered s) (convert_list ordered)

@@ -1,8 +1,7 @@
 //! Toggle lists, step 6 a: siblings of a list become items, series by series.
 
-ghost use Rattle.std.specs.Prelude.{◌≡◌, ◌≤◌, ◌<◌, ◌++◌, IfOk, OnOk, length, drop, true};
-ghost use Rattle.dom_model.specs.Contents.{is_element_at};
-ghost use Rattle.edit_model.specs.Gives.{GivesAs, GivesMaybe, label_of, labels_of};
+ghost use Rattle.std.specs.Prelude.{◌≡◌, ◌≤◌, ◌<◌, ◌++◌, IfOk, OnOk, length, drop};
+ghost use Rattle.edit_model.specs.Gives.{GivesAs, label_of, labels_of};
 ghost use Rattle.edit_doc.specs.Held.{Holds, IfHeld, EachHeld, Keeps};
 ghost use Rattle.edit_doc.specs.Whole.{IsOpen};
 ghost use Rattle.wrap_split.specs.Wrap.{one_of};
@@ -25,27 +24,6 @@ fn is_container(doc: &Doc, node: NodeRef) -> bool
     has_name(doc, node, b"p") || has_name(doc, node, b"div")
 }
 
-// Step 6 a: a p or div becomes an item.
-#[tactic(auto, using(edit_model::proofs::Steps::steps, edit_model::proofs::Steps::exits, crate::proofs::Exits::exit_made), unfolding(crate::specs::Collecting::rename_item))]
-fn rename_item(
-    alloc: Global,
-    doc: &mut Doc,
-    node: NodeRef,
-) -> Result<(Option<NodeRef>, usize), EditFault>
-    requires open { IsOpen doc.old }
-    requires node_held { Holds doc.old node }
-    requires element { is_element_at doc.old.state.trees node.label ≡ true }
-    ensures gives { GivesAs (λ made. (label_of made.0, made.1)) result doc.old.state doc.new.state
-        (collect.rename_item node.label) }
-    ensures held { IfOk result (λ made. IfHeld doc.new made.0) }
-    ensures one { IfOk result (λ made. made.1 ≡ 1) }
-    ensures keeps { Keeps doc.old doc.new }
-{
-    let name = Name::from_slice(alloc, b"li")?;
-    let item = doc.set_tag_name(node, &name)?;
-    Ok((Some(item), 1))
-}
-
 /// Members that go into one item.
 #[derive(Clone, Copy)]
 struct SameLine;
@@ -64,64 +42,9 @@ impl Link<Doc> for SameLine {
     }
 }
 
-// Step 6 a: wraps a line in an item made new.
-#[tactic(auto, using(edit_model::proofs::Steps::steps, edit_model::proofs::Steps::exits), unfolding(crate::specs::Collecting::wrap_item))]
-fn wrap_item(alloc: Global, doc: &mut Doc, line: &[NodeRef]) -> Result<Option<NodeRef>, EditFault>
-    requires open { IsOpen doc.old }
-    requires line_held { EachHeld doc.old line.now }
-    ensures gives { GivesMaybe result doc.old.state doc.new.state
-        (collect.wrap_item (labels_of line.now)) }
-    ensures held { IfOk result (λ made. IfHeld doc.new made) }
-    ensures keeps { Keeps doc.old doc.new }
-{
-    let blank = bare(alloc, b"li")?;
-    let list = NodeList::from_slice(alloc, line)?;
-    let rule = WrapRule::new(NoSibling, CopyMade { blank });
-    wrap(alloc, doc, list, &rule)
-}
-
-// Step 6 a: wraps the first members of a list, so many.
-#[tactic(auto, using(edit_model::proofs::Steps::steps, edit_model::proofs::Steps::exits, crate::proofs::Exits::exit_made, edit_query::proofs::Lists::labels_of_front), unfolding(crate::specs::Collecting::wrap_first))]
-fn wrap_first(
-    alloc: Global,
-    doc: &mut Doc,
-    list: &[NodeRef],
-    count: usize,
-) -> Result<(Option<NodeRef>, usize), EditFault>
-    requires open { IsOpen doc.old }
-    requires list_held { EachHeld doc.old list.now }
-    requires within { count ≤ length list.now }
-    ensures gives { GivesAs (λ made. (label_of made.0, made.1)) result doc.old.state doc.new.state
-        (collect.wrap_first count (labels_of list.now)) }
-    ensures held { IfOk result (λ made. IfHeld doc.new made.0) }
-    ensures same { IfOk result (λ made. made.1 ≡ count) }
-    ensures keeps { Keeps doc.old doc.new }
-{
-    let item = wrap_item(alloc, doc, &list[..count])?;
-    Ok((item, count))
-}
-
-// Step 6 a: wraps the line that a list begins with.
-#[tactic(auto, using(edit_model::proofs::Steps::steps, edit_model::proofs::Steps::exits), unfolding(crate::specs::Collecting::wrap_line))]
-fn wrap_line(
-    alloc: Global,
-    doc: &mut Doc,
-    list: &[NodeRef],
-) -> Result<(Option<NodeRef>, usize), EditFault>
-    requires open { IsOpen doc.old }
-    requires list_held { EachHeld doc.old list.now }
-    ensures gives { GivesAs (λ made. (label_of made.0, made.1)) result doc.old.state doc.new.state
-        (collect.wrap_line (labels_of list.now)) }
-    ensures held { IfOk result (λ made. IfHeld doc.new made.0) }
-    ensures within { IfOk result (λ made. made.1 ≤ length list.now) }
-    ensures keeps { Keeps doc.old doc.new }
-{
-    let count = count_series(doc, list, &SameLine);
-    wrap_first(alloc, doc, list, count)
-}
-
-// Step 6 a, with the first member: the item that is made, and how many members it takes.
-#[tactic(auto, using(edit_model::proofs::Steps::steps, edit_model::proofs::Steps::exits, crate::proofs::Turns::container_is_element), unfolding(crate::specs::Collecting::make_item))]
+// Step 6 a, with the first member: the item that it becomes or goes into, and how many members that
+// takes.
+#[tactic(auto, using(edit_model::proofs::Steps::steps, edit_model::proofs::Steps::exits, crate::proofs::Exits::exit_made, crate::proofs::Turns::container_is_element, edit_query::proofs::Lists::labels_of_front), unfolding(crate::specs::Collecting::wrap_line, crate::specs::Collecting::make_item))]
 fn make_item(
     alloc: Global,
     doc: &mut Doc,
@@ -139,12 +62,23 @@ fn make_item(
     ensures keeps { Keeps doc.old doc.new }
 {
     if is_container(doc, first) {
-        return rename_item(alloc, doc, first);
+        let name = Name::from_slice(alloc, b"li")?;
+        let item = doc.set_tag_name(first, &name)?;
+        return Ok((Some(item), 1));
     }
     if is_item(doc, first) || is_list(doc, first) {
         return Ok((Some(first), 1));
     }
-    wrap_line(alloc, doc, list)
+    let count = count_series(doc, list, &SameLine);
+    let line = NodeList::from_slice(alloc, &list[..count])?;
+    let blank = bare(alloc, b"li")?;
+    let item = wrap(
+        alloc,
+        doc,
+        line,
+        &WrapRule::new(NoSibling, CopyMade { blank }),
+    )?;
+    Ok((item, count))
 }
 
 // Whether the first of the members that are left is the next sibling of the last item.
@@ -179,7 +113,7 @@ fn push_made(doc: &Doc, items: &mut Vec<NodeRef>, made: Option<NodeRef>) -> Resu
 }
 
 // Step 6 a, one turn: how many members are done with. Their item is appended.
-#[tactic(auto, using(edit_model::proofs::Steps::steps, edit_model::proofs::Steps::exits, edit_model::proofs::Steps::ends), unfolding(crate::specs::Collecting::collect_next, crate::specs::Collecting::next_item))]
+#[tactic(auto, using(edit_model::proofs::Steps::steps, edit_model::proofs::Steps::exits, edit_model::proofs::Steps::ends), unfolding(crate::specs::Collecting::collect_next))]
 fn collect_next(
     alloc: Global,
     doc: &mut Doc,

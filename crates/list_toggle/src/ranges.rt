@@ -1,74 +1,51 @@
 //! Toggle lists, steps 2 to 4: the block-extended active range, and the lists and list members that
 //! it contains.
 
-ghost use Rattle.std.specs.Prelude.{◌≡◌, Some, IfOk};
-ghost use Rattle.edit_model.specs.Action.{Scratch, acted};
-ghost use Rattle.edit_model.specs.Gives.{Gives, labels_of};
-ghost use Rattle.edit_model.specs.Valid.{IsPlacedPair};
+ghost use Rattle.std.specs.Prelude.{◌≡◌, IfOk};
+ghost use Rattle.edit_model.specs.Gives.{labels_of};
+ghost use Rattle.edit_model.specs.Run.{final};
 ghost use Rattle.edit_doc.specs.Held.{EachHeld, Keeps};
-ghost use Rattle.edit_doc.specs.Whole.{IsOpen, with_state};
-ghost use Rattle.list_toggle.specs.Ranges.{extended_pair, keep_range, free_range, other_lists_by, other_lists, members_by, range_members, range_lines};
+ghost use Rattle.edit_doc.specs.Whole.{IsOpen};
+ghost use Rattle.list_toggle.specs.Ranges.{keep_range, free_range, other_lists, range_members, range_lines};
 
 use block_commands::{chosen_of, contained_in};
-use block_extend::{Choice, block_extend};
+use block_extend::Choice;
 use edit_actions::ends_of;
-use edit_doc::{Doc, EditFault, NodeList, NodeRef, Pair, Point};
-use edit_query::{is_list_of, list_members};
+use edit_doc::{Doc, NodeList, NodeRef, Pair, Point};
+use edit_query::{extended, is_list_of, list_members};
 use list_indent::{is_in_list, is_list};
 use std::alloc::{AllocError, Global};
 
-// The pair of the ends of the block-extended range of a pair.
-#[tactic(auto, using(edit_actions::proofs::Placed::placed_here))]
-fn extended_pair(doc: &Doc, pair: Pair) -> Pair
-    requires { IsPlacedPair doc.now.state.trees pair }
-    ensures { result ≡ extended_pair doc.now.state.trees pair }
-{
-    let (anchor, focus) = block_extend(doc, ends_of(doc, pair));
-    Pair { anchor, focus }
-}
-
-// Keeps a pair, which goes along with edits.
-fn keep(doc: &mut Doc, pair: Pair)
-    requires open { IsOpen doc.old }
-    ensures kept { doc.new ≡ with_state doc.old (acted (Scratch pair) doc.old.state) }
-    ensures keeps { Keeps doc.old doc.new }
-{
-    doc.set_scratch(pair);
-}
-
-/// Step 2.
+/// Step 2: keeps the block-extended active range, which goes along with edits.
 #[tactic(auto, using(edit_model::proofs::Steps::actions), unfolding(crate::specs::Ranges::keep_range))]
-pub(crate) fn keep_range(doc: &mut Doc) -> Result<(), EditFault>
-    requires open { IsOpen doc.old }
-    ensures gives { Gives result doc.old.state doc.new.state keep_range }
+pub(crate) fn keep_range(doc: &mut Doc)
+    requires { IsOpen doc.old }
+    ensures gives { final keep_range doc.old.state ≡ doc.new.state }
     ensures keeps { Keeps doc.old doc.new }
 {
     doc.valid();
     if let Some(pair) = doc.points().selection() {
-        let range = extended_pair(doc, pair);
-        keep(doc, range);
+        let (anchor, focus) = extended(doc, pair);
+        doc.set_scratch(Pair { anchor, focus });
     }
-    Ok(())
 }
 
 /// Step 4, when the members are listed: the range is let go. Its ends come to the start of the
 /// document, where no edit has to move them.
 #[tactic(auto, using(edit_model::proofs::Steps::actions), unfolding(crate::specs::Ranges::free_range))]
-pub(crate) fn free_range(doc: &mut Doc) -> Result<(), EditFault>
-    requires open { IsOpen doc.old }
-    ensures gives { Gives result doc.old.state doc.new.state free_range }
+pub(crate) fn free_range(doc: &mut Doc)
+    requires { IsOpen doc.old }
+    ensures gives { final free_range doc.old.state ≡ doc.new.state }
     ensures keeps { Keeps doc.old doc.new }
 {
     let start = Point {
         label: 0,
         offset: 0,
     };
-    let pair = Pair {
+    doc.set_scratch(Pair {
         anchor: start,
         focus: start,
-    };
-    keep(doc, pair);
-    Ok(())
+    });
 }
 
 /// Step 3: an editable list of the other kind.
@@ -88,23 +65,8 @@ impl Choice<Doc> for OtherList {
     }
 }
 
-#[tactic(auto, using(edit_actions::proofs::Placed::placed_here))]
-fn other_lists_of(
-    alloc: Global,
-    doc: &Doc,
-    ordered: bool,
-    pair: Pair,
-) -> Result<Vec<NodeRef>, AllocError>
-    requires { IsPlacedPair doc.now.state.trees pair }
-    ensures held { IfOk result (λ list. EachHeld doc.now list.items) }
-    ensures nodes { IfOk result (λ list. labels_of list.items
-        ≡ other_lists_by ordered doc.now.state (Some pair)) }
-{
-    contained_in(alloc, doc, ends_of(doc, pair), &OtherList { ordered })
-}
-
 /// Step 3: the lists of the other kind in the kept range.
-#[tactic(auto, unfolding(crate::specs::Ranges::other_lists))]
+#[tactic(auto, using(edit_actions::proofs::Placed::placed_here), unfolding(crate::specs::Ranges::other_lists))]
 pub(crate) fn other_lists(
     alloc: Global,
     doc: &Doc,
@@ -115,29 +77,20 @@ pub(crate) fn other_lists(
 {
     doc.valid();
     match doc.points().scratch() {
-        Some(pair) => other_lists_of(alloc, doc, ordered, pair),
+        Some(pair) => contained_in(alloc, doc, ends_of(doc, pair), &OtherList { ordered }),
         None => Ok(Vec::new(alloc)),
     }
 }
 
-#[tactic(auto, using(edit_actions::proofs::Placed::placed_here))]
-fn members_of(alloc: Global, doc: &Doc, pair: Pair) -> Result<NodeList, AllocError>
-    requires { IsPlacedPair doc.now.state.trees pair }
-    ensures held { IfOk result (λ list. EachHeld doc.now list) }
-    ensures nodes { IfOk result (λ list. labels_of list ≡ members_by doc.now.state (Some pair)) }
-{
-    list_members(alloc, doc, doc.host(), ends_of(doc, pair))
-}
-
 /// Step 4: the list members of the kept range.
-#[tactic(auto, unfolding(crate::specs::Ranges::range_members))]
+#[tactic(auto, using(edit_actions::proofs::Placed::placed_here), unfolding(crate::specs::Ranges::range_members))]
 pub(crate) fn range_members(alloc: Global, doc: &Doc) -> Result<NodeList, AllocError>
     ensures held { IfOk result (λ list. EachHeld doc.now list) }
     ensures nodes { IfOk result (λ list. labels_of list ≡ range_members doc.now.state) }
 {
     doc.valid();
     match doc.points().scratch() {
-        Some(pair) => members_of(alloc, doc, pair),
+        Some(pair) => list_members(alloc, doc, doc.host(), ends_of(doc, pair)),
         None => NodeList::from_slice(alloc, &[]),
     }
 }
