@@ -1,5 +1,5 @@
 -- The last entry is resumed.
-use Rattle.std.proofs.Common.{◌≡◌, ℕ, ◌<◌, ◌≤◌, true, false, List, [], ◌∷◌, length, take, Option, refl, sym, ap, subst, ◌∙◌, arith}
+use Rattle.std.proofs.Common.{◌≡◌, ℕ, ◌<◌, ◌≤◌, Bool, true, false, List, [], ◌∷◌, length, take, Option, refl, sym, ap, subst, ◌∙◌, arith}
 use Rattle.dom_model.specs.declared.Content.{Content}
 use Rattle.dom_model.specs.Forest.{Forest}
 use Rattle.dom_model.specs.ArenaState.{IsValid as IsArena}
@@ -32,11 +32,10 @@ use Rattle.edit_doc.proofs.Begins.{Opens, rest, take_all, held_host, needed_now,
 record Swapped (c m : Command) : Type 0 where
   start : m.start ≡ c.start
   named : m.named.items ≡ c.named.items
-  keeping : m.keeping ≡ c.keeping
 
 swapped : (us new : List EntrySnapshot) (c m : Command) → SwapsLeft us new c m → Swapped c m
 swapped [] new c m h = absurd h
-swapped (b ∷ bs) new c m h = record { start = ap (λ (x : Command). x.start) h.1; named = ap (λ (x : Command). x.named.items) h.1; keeping = ap (λ (x : Command). x.keeping) h.1 }
+swapped (b ∷ bs) new c m h = record { start = ap (λ (x : Command). x.start) h.1; named = ap (λ (x : Command). x.named.items) h.1 }
 
 swapped_entries : (names : List (List ℕ)) (f : Forest Content) (es : List (List Step)) (us new : List EntrySnapshot) (c m : Command) → SwapsLeft us new c m → undo_entries names f es new ≡ undo_entries names f es us
 swapped_entries names f es [] new c m h = absurd h
@@ -68,9 +67,9 @@ module _ (d : Inside) (law : IsArena d.tree.nodes.arena) (closed : d.history.log
       let n = sides_length d.tree.nodes.arena.held d.tree.points.names d.command Back false (next_first d.command.start d.history.future) d.tree.nodes.arena.trees d.history.log.undo d.history.past r.undo in
       omega (arith, n, h)
 
-  module _ (k : Kept) (host : Option NodeRef) (keeps : IsKept d.tree.points d.tree.overrides d.tree.flags d.tree.nodes.counts k) (us : List EntrySnapshot) (m : Command) (swaps : SwapsLeft d.history.past us d.command m) (n : ℕ) (all : n ≡ length m.detached.items) where
+  module _ (k : Kept) (host : Option NodeRef) (keeping : Bool) (keeps : IsKept d.tree.points d.tree.overrides d.tree.flags d.tree.nodes.counts k) (us : List EntrySnapshot) (m : Command) (swaps : SwapsLeft d.history.past us d.command m) (n : ℕ) (all : n ≡ length m.detached.items) where
     abbrev command : Command
-    command = record m { host = host; resumed = true; detached_before = n; kept = k }
+    command = record m { host = host; keeping = keeping; resumed = true; detached_before = n; kept = k }
 
     opens : Opens d command (resumed_log d.history.log)
     opens =
@@ -99,10 +98,8 @@ module _ (d : Inside) (law : IsArena d.tree.nodes.arena) (closed : d.history.log
         (redo_later d.tree.nodes.arena.held d.tree.points.names d.command command start_le d.tree.nodes.arena.trees d.history.log.redo d.history.future r.redo)
         (needed_now d law closed ok)
 
-    pub resume_is : whole_of (live d.tree) command (trail_of (resumed_log d.history.log) us d.history.future) ≡ opened (label_of host) false true (seen d)
+    pub resume_is : whole_of (live d.tree) command (trail_of (resumed_log d.history.log) us d.history.future) ≡ opened (label_of host) keeping true (seen d)
     resume_is =
-        let r = rest d law closed ok in
-        let s = swapped d.history.past us d.command m swaps in
         opened_is d law closed ok command (resumed_log d.history.log) opens us true (λ t. refl)
         (λ i. record {
           undo = swapped_entries d.tree.points.names d.tree.nodes.arena.trees d.history.log.undo d.history.past us d.command m swaps i;
@@ -110,4 +107,3 @@ module _ (d : Inside) (law : IsArena d.tree.nodes.arena) (closed : d.history.log
           depth = d.history.log.depth;
           dropped = d.history.log.dropped;
         })
-        ∙ ap (λ b. opened (label_of host) b true (seen d)) (s.keeping ∙ r.idle.keeping)

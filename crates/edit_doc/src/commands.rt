@@ -36,15 +36,16 @@ impl Doc {
         Ok(())
     }
 
-    /// Begins a command whose edits join the last entry. False where there is none, and where redo
-    /// would take one.
-    pub fn resume(&mut self, host: Option<NodeRef>) -> Result<bool, AllocError>
+    /// Begins a command, as `begin` does, whose edits join the last entry. False where there is
+    /// none, and where redo would take one.
+    pub fn resume(&mut self, host: Option<NodeRef>, keeping: bool) -> Result<bool, AllocError>
         requires closed { IsClosed self.old }
         requires host_held { IfHeld self.old host }
         ensures answer { IfOk result
             (λ b. IsTrue b ↔ ((0 < length self.old.history.undo) × (self.old.history.redo ≡ []))) }
         ensures begun { IfOk result
-            (λ b. self.new ≡ (if b then opened (label_of host) false true self.old else self.old)) }
+            (λ b. self.new
+            ≡ (if b then opened (label_of host) keeping true self.old else self.old)) }
         ensures err { OnErr result (self.new ≡ self.old) }
     {
         self.tree.nodes.arena.valid();
@@ -56,6 +57,7 @@ impl Doc {
         self.command.detached_before = self.command.detached.len();
         self.command.kept = kept;
         self.command.host = host;
+        self.command.keeping = keeping;
         self.command.resumed = true;
         Ok(true)
     }

@@ -196,7 +196,7 @@ fn open(doc: &mut Doc, joining: bool, keeping: bool) -> Result<(), AllocError>
 {
     let host = affected_host(doc);
     if joining {
-        doc.resume(host)?;
+        doc.resume(host, keeping)?;
         return Ok(());
     }
     doc.begin(host, keeping)

@@ -35,12 +35,12 @@ pub invariant_of-self-2 : goal.invariant_of-self-2
 invariant_of-self-2 c =
     let closed = closed_of c.self.inside _ c.self.view_is c.requires.closed in
     rw (trail c)
-    (resume_ok c.self.inside c.valid.ensures closed c.self.invariant c.in_ok-kept.kept c.args.host c.in_ok-kept.ensures c.swap_detached.new.self.past c.swap_detached.new.command (swaps c) c.len-self-inside.result (all c)
+    (resume_ok c.self.inside c.valid.ensures closed c.self.invariant c.in_ok-kept.kept c.args.host c.args.keeping c.in_ok-kept.ensures c.swap_detached.new.self.past c.swap_detached.new.command (swaps c) c.len-self-inside.result (all c)
     (subst (λ (w : Whole). IfHeld w c.args.host) (sym c.self.view_is) c.requires.host_held))
 
 pub returns-clause-begun : goal.returns-clause-begun
 returns-clause-begun c =
     let closed = closed_of c.self.inside _ c.self.view_is c.requires.closed in
     rw (trail c)
-    (resume_is c.self.inside c.valid.ensures closed c.self.invariant c.in_ok-kept.kept c.args.host c.in_ok-kept.ensures c.swap_detached.new.self.past c.swap_detached.new.command (swaps c) c.len-self-inside.result (all c)
-    ∙ ap (opened (label_of c.args.host) false true) c.self.view_is)
+    (resume_is c.self.inside c.valid.ensures closed c.self.invariant c.in_ok-kept.kept c.args.host c.args.keeping c.in_ok-kept.ensures c.swap_detached.new.self.past c.swap_detached.new.command (swaps c) c.len-self-inside.result (all c)
+    ∙ ap (opened (label_of c.args.host) c.args.keeping true) c.self.view_is)

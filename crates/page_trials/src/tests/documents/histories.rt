@@ -177,7 +177,7 @@ fn open(doc: &mut Doc, resumes: bool) -> Result<(), Fail>
         return Ok(());
     }
     let host = doc.find(1);
-    if doc.resume(host)? {
+    if doc.resume(host, false)? {
         Ok(())
     } else {
         Err("no entry".into())
