@@ -3,35 +3,11 @@
  * page is what the engine has.
  */
 import assert from "node:assert/strict";
-import { once } from "node:events";
 import { readFile } from "node:fs/promises";
-import { createServer } from "node:http";
 import { after, afterEach, before, describe, it } from "node:test";
 import { HABITS, Region } from "../region.js";
 import { Browser, missing } from "./chromium.mjs";
-
-const FILES = {
-  "/": ["region.html", "text/html"],
-  "/hedit.js": ["../hedit.js", "text/javascript"],
-  "/changes.js": ["../changes.js", "text/javascript"],
-  "/region.js": ["../region.js", "text/javascript"],
-  "/region_commands.js": ["../region_commands.js", "text/javascript"],
-  "/region_input.js": ["../region_input.js", "text/javascript"],
-  "/region_steps.js": ["../region_steps.js", "text/javascript"],
-  "/region_view.js": ["../region_view.js", "text/javascript"],
-  "/hedit.wasm": ["../dist/hedit.wasm", "application/wasm"],
-};
-
-async function serve() {
-  const server = createServer(async (request, response) => {
-    const [name, type] = FILES[request.url] ?? [];
-    response.writeHead(name ? 200 : 404, name && { "Content-Type": type });
-    response.end(name && (await readFile(new URL(name, import.meta.url))));
-  });
-  server.listen(0, "127.0.0.1");
-  await once(server, "listening");
-  return server;
-}
+import { serve } from "./server.mjs";
 
 /** Numbers from 0 to 1, the same each time. */
 function* numbers(seed) {
@@ -60,9 +36,9 @@ describe("a region", { skip: missing() }, () => {
   let page;
 
   before(async () => {
-    server = await serve();
+    server = await serve("region.html");
     browser = await Browser.launch();
-    page = await browser.open(`http://127.0.0.1:${server.address().port}/`);
+    page = await browser.open(server.address);
     const permissions = ["clipboardReadWrite", "clipboardSanitizedWrite"];
     await browser.send("Browser.grantPermissions", { permissions, browserContextId: page.context });
     await page.until(() => window.isReady);
@@ -70,7 +46,6 @@ describe("a region", { skip: missing() }, () => {
 
   after(async () => {
     await browser?.close();
-    server?.closeAllConnections();
     server?.close();
   });
 

@@ -1,0 +1,57 @@
+/**
+ * What is asked of the arguments of calls before the engine has them.
+ */
+
+import { BadArgument, BadPlace } from "./hedit_errors.js";
+
+/**
+ * A number of a place: a step of a path, a label or an offset.
+ * @param {number} number
+ */
+export function placeNumber(number) {
+  if (!Number.isInteger(number)) {
+    throw new TypeError(`the numbers of a place are integers, and not ${number}`);
+  }
+  if (number < 0 || number > 0xffff_ffff) {
+    throw new BadPlace();
+  }
+  return number;
+}
+
+/**
+ * @param {string} name
+ * @param {number} value
+ * @param {number} most
+ */
+export function limit(name, value, most) {
+  if (!Number.isInteger(value) || value < 1 || value > most) {
+    throw new BadArgument(`${name} is ${value}, and not an integer from 1 to ${most}`);
+  }
+  return value;
+}
+
+/**
+ * @param {Readonly<Record<string, number>>} enumeration
+ * @param {number} value
+ */
+export function member(enumeration, value) {
+  if (!Object.values(enumeration).includes(value)) {
+    throw new BadArgument();
+  }
+  return value;
+}
+
+/**
+ * Names of commands as a text with a comma between, which without names is empty.
+ * @param {Iterable<string>} names
+ */
+export function listOf(names) {
+  const each = typeof names === "string" ? [] : [...names];
+  if (typeof names === "string" || each.some((name) => typeof name !== "string")) {
+    throw new TypeError("the names are several strings");
+  }
+  if (each.includes("")) {
+    throw new BadArgument("a name of a command is empty");
+  }
+  return each.join(",");
+}

@@ -1,0 +1,135 @@
+/**
+ * Why calls of the engine are refused: an error for each cause.
+ */
+
+import { Status } from "./hedit_constants.js";
+
+/** A call was refused. The editor is as before. */
+export class HeditError extends Error {
+  name = "HeditError";
+
+  /**
+   * The status that the engine answered.
+   * @type {number | undefined}
+   */
+  status = undefined;
+}
+
+/**
+ * The text is no page: what stands before `at` begins one, and `kind` says why no more does. `at`
+ * counts UTF-16 units of a string, and bytes of a Uint8Array.
+ */
+export class PageRefused extends HeditError {
+  name = "PageRefused";
+  status = Status.PAGE_REFUSED;
+
+  /**
+   * @param {number} at
+   * @param {import("./hedit.js").PageKind} kind
+   */
+  constructor(at, kind) {
+    super(`no page: ${kind} at ${at}`);
+    this.at = at;
+    this.kind = kind;
+  }
+}
+
+/** A path or a label names no node, or an offset is past its length or inside a character. */
+export class BadPlace extends HeditError {
+  name = "BadPlace";
+  status = Status.BAD_PLACE;
+
+  constructor(message = "no such place") {
+    super(message);
+  }
+}
+
+/** 16 marks of other names are there. */
+export class TooManyMarks extends HeditError {
+  name = "TooManyMarks";
+  status = Status.TOO_MANY_MARKS;
+
+  constructor(message = "too many marks") {
+    super(message);
+  }
+}
+
+/** The command would have made a node whose number reaches the cap. */
+export class PageFull extends HeditError {
+  name = "PageFull";
+  status = Status.FULL;
+
+  constructor(message = "the page is full") {
+    super(message);
+  }
+}
+
+/** The document is too deep for commands. */
+export class TooDeep extends HeditError {
+  name = "TooDeep";
+  status = Status.DEEP;
+
+  constructor(message = "the page is too deep") {
+    super(message);
+  }
+}
+
+/** There was no memory for the call. */
+export class OutOfMemory extends HeditError {
+  name = "OutOfMemory";
+  status = Status.MEMORY;
+
+  constructor(message = "out of memory") {
+    super(message);
+  }
+}
+
+/** A number is outside its limits, a text isn't Unicode, or a name that is denied is none. */
+export class BadArgument extends HeditError {
+  name = "BadArgument";
+  status = Status.BAD_ARGUMENT;
+
+  constructor(message = "an argument means nothing") {
+    super(message);
+  }
+}
+
+/** The editor is closed. */
+export class EditorClosed extends HeditError {
+  name = "EditorClosed";
+  status = Status.CLOSED;
+
+  constructor(message = "the editor is closed") {
+    super(message);
+  }
+}
+
+/**
+ * An earlier call stopped in the middle, as when JavaScript's stack was full, and its error is the
+ * `cause`. The engine can't go on, with any of its editors: load another one.
+ */
+export class EngineStopped extends HeditError {
+  name = "EngineStopped";
+}
+
+/** @type {Readonly<Record<number, new () => HeditError>>} */
+const REFUSALS = {
+  [Status.MEMORY]: OutOfMemory,
+  [Status.FULL]: PageFull,
+  [Status.DEEP]: TooDeep,
+  [Status.BAD_PLACE]: BadPlace,
+  [Status.TOO_MANY_MARKS]: TooManyMarks,
+  [Status.BAD_ARGUMENT]: BadArgument,
+};
+
+/**
+ * Whether a call was done; where it was refused, this throws why.
+ * @param {number} status
+ */
+export function answer(status) {
+  const Refusal = REFUSALS[status];
+  if (Refusal) {
+    throw new Refusal();
+  }
+  return status === Status.DONE;
+}

@@ -1,0 +1,239 @@
+/**
+ * The calls of the WebAssembly module, and its memory.
+ */
+
+import { placeNumber } from "./hedit_arguments.js";
+import { PageKind, Status } from "./hedit_constants.js";
+import { EngineStopped, OutOfMemory, PageRefused, answer } from "./hedit_errors.js";
+import { bytesOf, unitsInBytes } from "./hedit_text.js";
+
+/** @typedef {import("./hedit_text.js").Text} Text */
+
+/** @typedef {import("./hedit.js").Place} Place */
+
+/** What one call borrows of the module's memory. */
+export class Loan {
+  #library;
+
+  /** @type {bigint[]} */
+  #blocks = [];
+
+  /** @param {Library} library */
+  constructor(library) {
+    this.#library = library;
+  }
+
+  /**
+   * A pointer to so many bytes.
+   * @param {number} size
+   */
+  room(size) {
+    const at = this.#library.allocate(size);
+    this.#blocks.push(at);
+    return at;
+  }
+
+  /**
+   * The pointer and the count of an array that is copied into the memory.
+   * @param {Uint8Array | Uint32Array} array
+   */
+  array(array) {
+    const at = this.room(array.byteLength);
+    const bytes = new Uint8Array(array.buffer, array.byteOffset, array.byteLength);
+    this.#library.bytes(at, bytes.length).set(bytes);
+    return [at, BigInt(array.length)];
+  }
+
+  /**
+   * The pointer and the length of a text.
+   * @param {Text} text
+   */
+  text(text) {
+    return this.array(bytesOf(text));
+  }
+
+  /**
+   * The pointer and the length of a path.
+   * @param {readonly number[]} path
+   */
+  path(path) {
+    return this.array(Uint32Array.from(path, placeNumber));
+  }
+
+  /**
+   * The pointer and the length of a path, and the offset.
+   * @param {Place} place
+   */
+  place({ path, offset }) {
+    return [...this.path(path), placeNumber(offset)];
+  }
+
+  /**
+   * The status of a call that takes a buffer and the items that it wrote, as their bytes. It is
+   * called again where the buffer is too small.
+   * @param {number} capacity
+   * @param {(...buffer: bigint[]) => number} call
+   * @param {number} size that of an item in bytes: the items of a text are bytes
+   */
+  printed(capacity, call, size = 1) {
+    const length = this.room(8);
+    this.#library.view(length, 8).setBigUint64(0, 0n);
+    for (;;) {
+      const buffer = this.room(capacity * size);
+      const status = call(buffer, BigInt(capacity), length);
+      const written = Number(this.#library.view(length, 8).getBigUint64(0, true));
+      if (status !== Status.TOO_SMALL) {
+        return { status, bytes: this.#library.bytes(buffer, written * size) };
+      }
+      capacity = written;
+    }
+  }
+
+  end() {
+    for (const at of this.#blocks) {
+      this.#library.release(at);
+    }
+  }
+}
+
+/**
+ * The calls of the module and its memory. A pointer is a BigInt. Views are taken anew each time,
+ * since a memory that grows detaches them.
+ */
+export class Library {
+  #calls;
+
+  #memory;
+
+  /**
+   * Why the module stopped in the middle of a call.
+   * @type {unknown}
+   */
+  #cause = undefined;
+
+  /** Closes the editors that are collected: it holds their handles. */
+  #collected = new FinalizationRegistry((/** @type {bigint} */ handle) => this.#close(handle));
+
+  /** @param {WebAssembly.Exports} exports */
+  constructor(exports) {
+    this.#calls = /** @type {Record<string, (...words: unknown[]) => any>} */ (exports);
+    this.#memory = /** @type {WebAssembly.Memory} */ (exports.memory);
+  }
+
+  /**
+   * @param {string} name
+   * @param {unknown[]} words
+   */
+  call(name, ...words) {
+    if (this.#cause) {
+      throw new EngineStopped("the engine has stopped", { cause: this.#cause });
+    }
+    try {
+      return this.#calls[name](...words);
+    } catch (cause) {
+      this.#cause = cause;
+      throw cause;
+    }
+  }
+
+  /**
+   * @param {number} size
+   * @returns {bigint}
+   */
+  allocate(size) {
+    const at = this.call("allocate", BigInt(size));
+    if (at === 0n) {
+      throw new OutOfMemory();
+    }
+    return at;
+  }
+
+  /** @param {bigint} at */
+  release(at) {
+    this.call("release", at);
+  }
+
+  /**
+   * @param {bigint} at
+   * @param {number} length
+   */
+  bytes(at, length) {
+    return new Uint8Array(this.#memory.buffer, Number(at), length);
+  }
+
+  /**
+   * @param {bigint} at
+   * @param {number} length
+   */
+  view(at, length) {
+    return new DataView(this.#memory.buffer, Number(at), length);
+  }
+
+  /**
+   * What `use` gives, with memory that is given back when it ends.
+   * @template T
+   * @param {(loan: Loan) => T} use
+   * @returns {T}
+   */
+  borrow(use) {
+    const loan = new Loan(this);
+    try {
+      return use(loan);
+    } finally {
+      if (!this.#cause) {
+        loan.end();
+      }
+    }
+  }
+
+  /**
+   * Opens a page for an editor, and gives its handle: the pointer to a hedit_editor.
+   * @param {object} editor
+   * @param {Text} page
+   * @param {number} labelCap
+   * @param {number} undoDepth
+   */
+  open(editor, page, labelCap, undoDepth) {
+    const handle = this.allocate(8);
+    this.view(handle, 8).setBigUint64(0, 0n);
+    try {
+      this.borrow((loan) => {
+        const bytes = bytesOf(page);
+        const refusal = loan.room(16);
+        const words = [...loan.array(bytes), labelCap, BigInt(undoDepth), refusal];
+        const status = this.call("hedit_open", handle, ...words);
+        if (status === Status.PAGE_REFUSED) {
+          const view = this.view(refusal, 16);
+          const at = Number(view.getBigUint64(0, true));
+          const kind = Object.values(PageKind)[view.getUint32(8, true) - 1];
+          throw new PageRefused(typeof page === "string" ? unitsInBytes(bytes, at) : at, kind);
+        }
+        answer(status);
+      });
+    } catch (error) {
+      if (!this.#cause) {
+        this.release(handle);
+      }
+      throw error;
+    }
+    this.#collected.register(editor, handle, editor);
+    return handle;
+  }
+
+  /**
+   * @param {object} editor
+   * @param {bigint} handle
+   */
+  close(editor, handle) {
+    this.#collected.unregister(editor);
+    this.#close(handle);
+  }
+
+  /** @param {bigint} handle */
+  #close(handle) {
+    if (!this.#cause) {
+      this.call("hedit_close", handle);
+      this.release(handle);
+    }
+  }
+}

@@ -1,0 +1,89 @@
+/**
+ * Texts: the engine has UTF-8 and counts code points, and here is all that counts UTF-16 units.
+ */
+
+import { BadArgument, BadPlace } from "./hedit_errors.js";
+
+/**
+ * A text; bytes are its UTF-8.
+ * @typedef {string | Uint8Array} Text
+ */
+
+const ENCODER = new TextEncoder();
+
+export const DECODER = new TextDecoder("utf-8", { fatal: true, ignoreBOM: true });
+
+/**
+ * @param {Text} text
+ * @returns {Uint8Array}
+ */
+export function bytesOf(text) {
+  if (text instanceof Uint8Array) {
+    return text;
+  }
+  if (typeof text !== "string") {
+    throw new TypeError(`a text is a string or a Uint8Array, and not ${typeof text}`);
+  }
+  if (/\p{Surrogate}/u.test(text)) {
+    throw new BadArgument("the text has half of a surrogate pair");
+  }
+  return ENCODER.encode(text);
+}
+
+/**
+ * The UTF-16 units of the whole characters in the first bytes of a text.
+ * @param {Uint8Array} bytes
+ * @param {number} count
+ */
+export function unitsInBytes(bytes, count) {
+  return new TextDecoder("utf-8", { ignoreBOM: true }).decode(bytes.subarray(0, count), {
+    stream: true,
+  }).length;
+}
+
+/**
+ * The UTF-16 units of the character that begins at a unit of a text.
+ * @param {string} text
+ * @param {number} at
+ */
+function width(text, at) {
+  return /** @type {number} */ (text.codePointAt(at)) > 0xffff ? 2 : 1;
+}
+
+/**
+ * An offset in a text node as the engine counts it, in characters, from the DOM's, in UTF-16 units.
+ * Throws BadPlace where the text has no such offset between two characters.
+ * @param {string} text the text node's text
+ * @param {number} units
+ */
+export function toCharacters(text, units) {
+  let at = 0;
+  let characters = 0;
+  while (at < units && at < text.length) {
+    at += width(text, at);
+    characters += 1;
+  }
+  if (at !== units) {
+    throw new BadPlace();
+  }
+  return characters;
+}
+
+/**
+ * An offset in a text node as the DOM counts it, in UTF-16 units, from the engine's, in characters.
+ * Throws BadPlace where the text has no such offset.
+ * @param {string} text the text node's text
+ * @param {number} characters
+ */
+export function toUnits(text, characters) {
+  let at = 0;
+  let passed = 0;
+  while (passed < characters && at < text.length) {
+    at += width(text, at);
+    passed += 1;
+  }
+  if (passed !== characters) {
+    throw new BadPlace();
+  }
+  return at;
+}

@@ -1,0 +1,54 @@
+/** What serves the pages of the tests on this machine, with the modules of hosts/web. */
+import { once } from "node:events";
+import { readFile } from "node:fs/promises";
+import { createServer } from "node:http";
+import { text } from "node:stream/consumers";
+
+/**
+ * The file of an address: `/` is the page, and the others are modules and the engine.
+ * @param {string} address
+ * @param {string} page
+ * @returns {[string, string] | []}
+ */
+function fileOf(address, page) {
+  if (address === "/") {
+    return [page, "text/html"];
+  }
+  if (address === "/hedit.wasm") {
+    return ["../dist/hedit.wasm", "application/wasm"];
+  }
+  return /^\/\w+\.js$/.test(address) ? [`..${address}`, "text/javascript"] : [];
+}
+
+/** @param {string | undefined} name */
+const read = (name) => name && readFile(new URL(name, import.meta.url)).catch(() => undefined);
+
+/**
+ * Serves a page of this folder, and hears what it tells.
+ * @param {string} page
+ */
+export async function serve(page) {
+  /** @type {(said: string) => void} */
+  let tell;
+  const answer = new Promise((resolve) => {
+    tell = resolve;
+  });
+  const server = createServer(async (request, response) => {
+    if (request.method === "POST") {
+      tell(await text(request));
+      response.end();
+      return;
+    }
+    const [name, type] = fileOf(String(request.url), page);
+    const content = await read(name);
+    response.writeHead(content ? 200 : 404, content && { "Content-Type": type });
+    response.end(content);
+  });
+  server.listen(0, "127.0.0.1");
+  await once(server, "listening");
+  const close = () => {
+    server.closeAllConnections();
+    server.close();
+  };
+  return { answer, close, address: `http://127.0.0.1:${server.address().port}/` };
+}
