@@ -439,7 +439,12 @@ class Points(unittest.TestCase):
 
     def test_counts_are_those_of_the_line(self) -> None:
         self.editor.select(*NAME)
-        for call in (lambda: True, lambda: self.editor.exec("bold"), self.editor.undo):
+        calls: list[Callable[[], bool]] = [
+            lambda: True,
+            lambda: self.editor.exec("bold"),
+            self.editor.undo,
+        ]
+        for call in calls:
             self.assertTrue(call())
             names = ("nodes", "chars", "next", "edits", "undo", "redo")
             counts = self.editor.counts()

@@ -1,4 +1,4 @@
-/** The composer in Chromium, used by mouse and keyboard, as hosts/web/serve serves it. */
+/** The composer in Chromium, used by mouse and keyboard, as hosts/web/serve serves it, or the script that HEDIT_SERVE names. */
 import assert from "node:assert/strict";
 import { spawn } from "node:child_process";
 import { once } from "node:events";
@@ -9,7 +9,7 @@ import { after, afterEach, before, describe, it } from "node:test";
 import { fileURLToPath } from "node:url";
 import { Browser, missing } from "./chromium.mjs";
 
-const SERVE = fileURLToPath(new URL("../serve", import.meta.url));
+const SERVE = process.env.HEDIT_SERVE ?? fileURLToPath(new URL("../serve", import.meta.url));
 
 const SIGNATURE =
   '<div class="signature" contenteditable="false"><p><b>Ada Lovelace</b><br>' +
