@@ -22,13 +22,13 @@ returns-then-not-resume-clause-answer c = resume_answer c.self.inside _ c.self.v
 pub returns-clause-answer : goal.returns-clause-answer
 returns-clause-answer c = resume_answer c.self.inside _ c.self.view_is c.self.invariant true c.if-not-resume.ensures.answer
 
-all : (c : goal.After-self-2-1) → c.len-self-inside.result ≡ length c.swap_detached.new.command.detached.items
+all : (c : goal.After-self-3-1) → c.len-self-inside.result ≡ length c.swap_detached.new.command.detached.items
 all c = let o = c.swap_detached.new.command.detached.ok in let e = c.len-self-inside.ensures in omega (arith, o, e)
 
-trail : (c : goal.After-self-2-1) → c.swap_detached.new.self ≡ trail_of (resumed c.self.inside.history.log) c.swap_detached.new.self.past c.self.inside.history.future
+trail : (c : goal.After-self-3-1) → c.swap_detached.new.self ≡ trail_of (resumed c.self.inside.history.log) c.swap_detached.new.self.past c.self.inside.history.future
 trail c = c.swap_detached.ensures.rest ∙ ap (λ (t : Trail). record t { past = c.swap_detached.new.self.past }) c.if-not-resume.ensures.history
 
-swaps : (c : goal.After-self-2-1) → SwapsLeft c.self.inside.history.past c.swap_detached.new.self.past c.self.inside.command c.swap_detached.new.command
+swaps : (c : goal.After-self-3-1) → SwapsLeft c.self.inside.history.past c.swap_detached.new.self.past c.self.inside.command c.swap_detached.new.command
 swaps c = subst (λ (t : Trail). SwapsLeft t.past c.swap_detached.new.self.past c.self.inside.command c.swap_detached.new.command) c.if-not-resume.ensures.history c.swap_detached.ensures.swapped
 
 pub invariant_of-self-2 : goal.invariant_of-self-2
