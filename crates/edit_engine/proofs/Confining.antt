@@ -234,7 +234,7 @@ module _ (old new : Editing) (at : Option Pair) (joining : Bool) (c : Command) (
       by_joining false is = inl (record { older = own.0; is = rw is own.1 })
       by_joining true is =
           let last = last_there old.history.undo (stands.joinable (joins is)).some in
-          inr (record { goes_on = joins is; last = last.0; older = last.1; was = last.2; is = rw is (theirs ∙ ap (joined_in ended) last.2) })
+          inr (record { joinable = joins is; last = last.0; older = last.1; was = last.2; is = rw is (theirs ∙ ap (joined_in ended) last.2) })
 
   some_edit : (b ended : State) (l : ℕ) → IsTakenOut b ended l → 0 < length ended.edits
   some_edit b ended l out =

@@ -45,7 +45,7 @@ pub record HasEntry (old new : Editing) (ended : State) : Type 0 where
 
 -- these edits have joined those of the last entry, which nothing had come after
 pub record HasJoined (old new : Editing) (ended : State) : Type 0 where
-  pub goes_on : goes_on old.going ≡ true
+  pub joinable : goes_on old.going ≡ true
   pub last : Entry
   pub older : List Entry
   pub was : old.history.undo ≡ last ∷ older
