@@ -23,8 +23,8 @@ VIEWS = ("html", "tree", "points", "stat")
 PART = "part"
 PARTED = "! 2 unknown act\n"
 VOID = {"area", "base", "br", "col", "embed", "hr", "img", "input", "link", "meta", "param", "source", "track", "wbr"}
-MADE_NAMES = {"a", "b", "blockquote", "br", "div", "em", "font", "hr", "i", "img", "li", "ol", "p", "s", "span", "strike",
-              "strong", "sub", "sup", "u", "ul", "address", "dd", "dl", "dt", "h1", "h2", "h3", "h4", "h5", "h6", "pre"}
+MADE_NAMES = {"a", "address", "b", "blockquote", "br", "dd", "div", "dl", "dt", "font", "h1", "h2", "h3", "h4", "h5", "h6", "hr",
+              "i", "img", "li", "ol", "p", "pre", "s", "span", "sub", "sup", "u", "ul"}
 MADE_ATTRIBUTES = {"href", "src", "style", "color", "face", "size"}
 BLANKS = "\t\n\r \u00a0"
 FLAGS = {"stylewithcss", "usecss", "defaultparagraphseparator"}
@@ -191,7 +191,7 @@ def made(program, session, steps):
     for before, step, name, value in commands(steps):
         old, new, given = content(before.html), content(step.html), unescaped(value)
         attributes = {pair for pair in new.attributes - old.attributes if pair[0] not in MADE_ATTRIBUTES}
-        yield not (new.names - old.names - MADE_NAMES - {given.lower().strip("<>")}) and not attributes
+        yield not (new.names - old.names - MADE_NAMES) and not attributes
         yield not (new.chars - old.chars - set(given) - set(" \u00a0") - {char for _, text in new.attributes for char in text or ""})
 
 

@@ -1,0 +1,39 @@
+-- What tame runs bring into a document.
+use Rattle.std.specs.Prelude.{◌≡◌, ℕ, Bool, false, List, Option, None}
+use Rattle.dom_model.specs.AttributeList.{value_of}
+use Rattle.dom_model.specs.declared.Content.{Content}
+use Rattle.dom_model.specs.Forest.{Forest}
+use Rattle.edit_model.specs.State.{State}
+use Rattle.edit_model.specs.Compositions.{attribute_list_of}
+use Rattle.edit_model.specs.History.{begun, rested}
+use Rattle.edit_model.specs.Valid.{IsValid}
+use Rattle.edit_model.specs.Run.{Reaches}
+use Rattle.making_laws.specs.Names.{is_set_name}
+use Rattle.making_laws.specs.Known.{KnowsAll}
+use Rattle.making_laws.specs.Tame.{TameOn}
+
+-- all elements stay known
+abbrev pub KnownStays : Type 0
+KnownStays = (f : Forest Content) (s t : State) (r : Reaches s t) → IsValid s → KnowsAll f s.trees
+    → TameOn f r → KnowsAll f t.trees
+
+-- a document knows its own elements
+abbrev pub OwnAreKnown : Type 0
+OwnAreKnown = (f : Forest Content) → KnowsAll f f
+
+-- so a document after a command has elements that the one before it knows
+abbrev pub CommandsMakeKnown : Type 0
+CommandsMakeKnown =
+    (s t : State) (host : Option ℕ) (keeping : Bool) → IsValid s
+    → (r : Reaches (begun host keeping s) t)
+    → TameOn s.trees r → KnowsAll s.trees (rested t).trees
+
+-- no element has an attribute of the name
+abbrev pub IsWithout : List ℕ → Forest Content → Type 0
+IsWithout name f = (l : ℕ) → value_of (attribute_list_of f l) name ≡ None
+
+-- where no element has an attribute of a name that commands don't set, no element has one in a
+-- document that is known: a page without onclick gets none
+abbrev pub NoneComes : Type 0
+NoneComes = (name : List ℕ) (f g : Forest Content) → is_set_name name ≡ false → KnowsAll f g
+    → IsWithout name f → IsWithout name g
