@@ -1,10 +1,11 @@
 -- That what the forms in memory say of their fields is what a source and a sink owe.
-use Rattle.std.proofs.Common.{◌≡◌, ℕ, ◌+◌, ◌-◌, ◌<◌, ◌≤◌, ◌↔◌, min, List, [], ◌++◌, refl, sym, ap, ◌∙◌, inl, take, drop, length, length-append, arith}
+use Rattle.std.proofs.Common.{◌≡◌, ℕ, ◌+◌, ◌-◌, ◌^◌, ◌<◌, ◌≤◌, ◌↔◌, min, List, [], ◌++◌, refl, sym, ap, ◌∙◌, inl, take, drop, length, length-append, arith}
 use Rattle.std.specs.Prelude.{Some, Result, Ok, Err, IfOk, IfErr, OnOk, OnErr, IsOk, IsErr, IsErrOf, IsTrue}
 use Rattle.std.proofs.lemmas.List.{take_at, drop-drop, drop_all, length-take-le, length-drop, take-append-drop, take_all}
 use Rattle.edit_io.specs.declared.streams.SinkFault.{SinkFault}
 use Rattle.edit_io.specs.declared.streams.SinkFault.TheVariants.{Failed, Memory}
 use Rattle.edit_io.specs.Faults.{Rose, next_call, fails_at, failed_below}
+use Rattle.edit_io.specs.Handed.{handed_more}
 use Rattle.edit_io.specs.Told.{with_front, with_end}
 use Rattle.edit_io.proofs.Told.{with_front-some, with_end-some}
 use Rattle.edit_io.proofs.Faults.{failed_below-rises, failed_below-fails, failed_below-next, next_call-fails}
@@ -47,6 +48,10 @@ counted failing failing' calls calls' s n = rw (s, n) (failed_below-rises failin
 pub source_failed : {E : Type 0} (r : Result ℕ E) (failing failing' : List ℕ) (calls calls' : ℕ) → failing' ≡ failing → calls' ≡ next_call calls → (IsErr r ↔ IsTrue (fails_at failing calls)) → OnErr r (Rose (failed_below failing calls) (failed_below failing' calls'))
 source_failed (Ok n) failing failing' calls calls' s n' f = tt
 source_failed (Err e) failing failing' calls calls' s n f = rw (s, n) (inl (failed_below-fails failing calls (f.0 refl)))
+
+pub source_amount : {E : Type 0} (r : Result ℕ E) (at after : ℕ) → IfOk r (λ n. after ≡ at + n) → after ≤ 2 ^ 64 - 1 → IfOk r (λ n. after ≡ handed_more at n)
+source_amount (Ok n) at after m h = omega arith
+source_amount (Err e) at after m h = tt
 
 pub sink_some : {E : Type 0} (r : Result ℕ E) (most size : ℕ) → 0 < most → 0 < size → IfOk r (λ n. n ≡ min most size) → IfOk r (λ n. 0 < n)
 sink_some (Ok n) most size p q g = omega arith

@@ -1,4 +1,5 @@
 pub mod Told
 pub mod Faults
+pub mod Handed
 mod Held
 mod Untold

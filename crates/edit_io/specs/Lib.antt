@@ -1,3 +1,4 @@
 pub mod Faults
+pub mod Handed
 pub mod Told
 pub mod Real

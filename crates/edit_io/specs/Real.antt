@@ -7,6 +7,10 @@ use Rattle.edit_io.specs.declared.real.WriteSink.{WriteSink}
 abbrev pub read_faults : {R : Type 0} → ReadSource R → ℕ
 read_faults source = source.faults
 
+-- how many bytes were handed out so far, up to the last value of a u64
+abbrev pub read_handed : {R : Type 0} → ReadSource R → ℕ
+read_handed source = source.handed
+
 -- how many writes failed so far, up to the last value of a u64
 abbrev pub write_faults : {W : Type 0} → WriteSink W → ℕ
 write_faults sink = sink.faults

@@ -1,5 +1,5 @@
 // Sources and sinks in memory.
-ghost use Rattle.std.specs.Prelude.{◌≡◌, ℕ, ◌+◌, ◌-◌, ◌<◌, ◌≤◌, ◌↔◌, ◌++◌, true, length, take, drop, min, vec_len, Some, IfOk, IfErr, OnOk, OnErr, IsOk, IsErr, IsErrOf, IsTrue};
+ghost use Rattle.std.specs.Prelude.{◌≡◌, ℕ, ◌+◌, ◌-◌, ◌^◌, ◌<◌, ◌≤◌, ◌↔◌, ◌++◌, true, length, take, drop, min, vec_len, Some, IfOk, IfErr, OnOk, OnErr, IsOk, IsErr, IsErrOf, IsTrue};
 ghost use Rattle.edit_io.specs.Faults.{next_call, fails_at, failed_below};
 
 use crate::streams::{Failed, Sink, SinkFault, Source};
@@ -21,6 +21,8 @@ impl Source for MemorySource {
     ghost left = { λ s. Some (drop s.at s.bytes.items) };
 
     ghost faults = { λ s. failed_below s.failing.items s.calls };
+
+    ghost handed = { λ s. s.at };
 
     fn read(&mut self, buf: &mut [u8]) -> Result<usize, Failed>
         requires { 0 < length buf.old }
@@ -61,6 +63,8 @@ impl<'a> Source for SliceSource<'a> {
 
     ghost faults = { λ _. 0 };
 
+    ghost handed = { λ s. s.at };
+
     fn read(&mut self, buf: &mut [u8]) -> Result<usize, Failed>
         requires { 0 < length buf.old }
         ensures sure { IsOk result }
@@ -70,6 +74,7 @@ impl<'a> Source for SliceSource<'a> {
         ensures written { IfOk result (λ n. buf.new ≡ take n (drop self.old.at self.old.bytes.now)
             ++ drop n buf.old) }
         ensures same { self.new.bytes.now ≡ self.old.bytes.now }
+        ensures fits { self.new.at < 2 ^ 64 }
     {
         let count = hand_out(self.bytes, self.at, buf.len(), buf);
         self.at += count;

@@ -1,7 +1,8 @@
 // The source over a real reader and the sink over a real writer. They tell nothing of the bytes.
 ghost use Rattle.std.specs.Prelude.{◌≡◌, ℕ, ◌<◌, ◌≤◌, length, None, IfOk, IfErr, OnOk, OnErr};
 ghost use Rattle.edit_io.specs.Faults.{Rose, next_call};
-ghost use Rattle.edit_io.specs.Real.{read_faults, write_faults};
+ghost use Rattle.edit_io.specs.Handed.{handed_more};
+ghost use Rattle.edit_io.specs.Real.{read_faults, read_handed, write_faults};
 
 use crate::streams::{Failed, Sink, SinkFault, Source};
 use std::io::{Read, Write};
@@ -11,14 +12,20 @@ use std::io::{Read, Write};
 pub struct ReadSource<R> {
     reader: R,
     faults: u64,
+    handed: u64,
 }
 
 impl<R: Read> ReadSource<R> {
-    /// A source that has met no fault.
+    /// A source that has met no fault and handed out no byte.
     pub fn new(reader: R) -> ReadSource<R>
-        ensures { read_faults result ≡ 0 }
+        ensures faults { read_faults result ≡ 0 }
+        ensures handed { read_handed result ≡ 0 }
     {
-        ReadSource { reader, faults: 0 }
+        ReadSource {
+            reader,
+            faults: 0,
+            handed: 0,
+        }
     }
 }
 
@@ -27,15 +34,23 @@ impl<R: Read> Source for ReadSource<R> {
 
     ghost faults = { read_faults };
 
+    ghost handed = { read_handed };
+
     fn read(&mut self, buf: &mut [u8]) -> Result<usize, Failed>
         requires { 0 < length buf.old }
         ensures bound { IfOk result (λ n. n ≤ length buf.new) }
         ensures same { OnOk result (read_faults self.new ≡ read_faults self.old) }
         ensures raised { OnErr result (read_faults self.new ≡ next_call (read_faults self.old)) }
         ensures failed { OnErr result (Rose (read_faults self.old) (read_faults self.new)) }
+        ensures amount { IfOk result (λ n. read_handed self.new
+            ≡ handed_more (read_handed self.old) n) }
+        ensures same_amount { OnErr result (read_handed self.new ≡ read_handed self.old) }
     {
         match self.reader.read(buf) {
-            Ok(count) => Ok(count),
+            Ok(count) => {
+                self.handed = self.handed.saturating_add(count as u64);
+                Ok(count)
+            }
             Err(_) => {
                 self.faults = self.faults.saturating_add(1);
                 Err(Failed)

@@ -1,6 +1,7 @@
 // What a source and a sink are.
 ghost use Rattle.std.specs.Prelude.{◌≡◌, ℕ, ◌<◌, ◌≤◌, List, Option, length, take, IfOk, IfErr, OnErr};
 ghost use Rattle.edit_io.specs.Faults.{Rose};
+ghost use Rattle.edit_io.specs.Handed.{handed_more};
 ghost use Rattle.edit_io.specs.declared.streams.SinkFault.TheVariants.{Memory};
 ghost use Rattle.edit_io.specs.Told.{with_front, with_end, IsAtEnd};
 
@@ -56,6 +57,9 @@ pub trait Source {
     // how many reads failed so far, up to the last value of a u64
     ghost faults: { Self → ℕ };
 
+    // how many bytes were handed out so far, up to the last value of a u64
+    ghost handed: { Self → ℕ };
+
     /// Reads into the front of the buffer, and answers the number of bytes. 0 is the end.
     fn read(&mut self, buf: &mut [u8]) -> Result<usize, Failed>
         requires { 0 < length buf.old }
@@ -65,7 +69,9 @@ pub trait Source {
         ensures end { IfOk result (λ n. n ≡ 0 → IsAtEnd (left self.new)) }
         ensures kept { OnErr result (left self.new ≡ left self.old) }
         ensures counted { faults self.old ≤ faults self.new }
-        ensures failed { OnErr result (Rose (faults self.old) (faults self.new)) };
+        ensures failed { OnErr result (Rose (faults self.old) (faults self.new)) }
+        ensures amount { IfOk result (λ n. handed self.new ≡ handed_more (handed self.old) n) }
+        ensures same_amount { OnErr result (handed self.new ≡ handed self.old) };
 }
 
 /// Takes bytes, a piece at a time.

@@ -1,6 +1,7 @@
 // Reading all that is left, and writing all of a piece.
 ghost use Rattle.std.specs.Prelude.{◌≡◌, ℕ, ◌+◌, ◌<◌, ◌≤◌, length, take, vec_len, IfOk, IfErr, OnOk, OnErr, IfSome, IsOk, IsErr};
 ghost use Rattle.edit_io.specs.Faults.{Rose};
+ghost use Rattle.edit_io.specs.Handed.{handed_more};
 ghost use Rattle.edit_io.specs.declared.whole.ReadAllFault.TheVariants.{Failed, Memory};
 ghost use Rattle.edit_io.specs.Told.{with_front, with_end, IsAtEnd, TakesPrefix, GivesAtMost, GivesMore};
 
@@ -69,6 +70,13 @@ pub fn read_all<I: Source>(
     ensures long { IfSome (I.left input.old) (λ bytes. limit < length bytes → IsErr result) }
     ensures given { GivesAtMost (I.left input.old) (I.left input.new) (limit + 1) }
     ensures counted { I.faults input.old ≤ I.faults input.new }
+
+    // The same where the source doesn't show its bytes.
+    ensures amount { IfOk result (λ bytes. I.handed input.new
+        ≡ handed_more (I.handed input.old) (vec_len bytes)) }
+    ensures at_most { I.handed input.new ≤ I.handed input.old + (limit + 1) }
+    ensures beyond { IfErr result (λ e. e ≡ ReadAllFault.TooLong → I.handed input.new
+        ≡ handed_more (I.handed input.old) (limit + 1)) }
 {
     let mut store = make_buffer(alloc)?;
     let buffer = store.as_mut_slice();
@@ -108,6 +116,10 @@ fn read_piece<I: Source>(
     ensures too_long { IfErr result (λ e. e ≡ ReadAllFault.TooLong
         → GivesMore (I.left input.old) (I.left input.new) room) }
     ensures counted { I.faults input.old ≤ I.faults input.new }
+    ensures amount { IfOk result (λ n. I.handed input.new ≡ handed_more (I.handed input.old) n) }
+    ensures at_most { I.handed input.new ≤ I.handed input.old + (room + 1) }
+    ensures beyond { IfErr result (λ e. e ≡ ReadAllFault.TooLong → I.handed input.new
+        ≡ handed_more (I.handed input.old) (room + 1)) }
 {
     let wanted = room.min(buffer.len() - 1) + 1;
     let count = input.read(&mut buffer[..wanted])?;

@@ -1,7 +1,8 @@
-use Rattle.std.proofs.Common.{sym, ◌∙◌, ap, arith}
+use Rattle.std.proofs.Common.{sym, ◌∙◌, ap, vec_len, arith}
 use Rattle.std.proofs.lemmas.Result.{err_from_is_err_and}
 use Rattle.std.proofs.lemmas.List.{length-take}
 use Rattle.edit_io.specs.Told.{with_front}
+use Rattle.edit_io.proofs.Handed.{handed_longer, handed_whole}
 use Rattle.edit_io.proofs.Told.{with_front-nil, gives_none, gives_after, gives_beyond, gives_piece, gives_all, read_none, read_more, told_within}
 use Rattle.edit_io.proofs.whole.read_all.Goals as goal
 
@@ -14,6 +15,8 @@ loop-bytes-init g c = record {
   within = let e = c.new-bytes.ensures.len in omega arith;
   given = sym (ap (λ xs. with_front xs (g.I.Source.left c.args.input.now)) c.new-bytes.ensures.items ∙ with_front-nil _);
   counted = omega arith;
+  amount = let e = c.new-bytes.ensures.len in λ more. omega arith;
+  at_most = let e = c.new-bytes.ensures.len in omega arith;
 }
 
 pub returns-in_err-count-clause-too_long : goal.returns-in_err-count-clause-too_long
@@ -46,8 +49,27 @@ loop-bytes-preserved g c = record {
   within = omega (arith, c.loop-bytes.invariant.within, c.len.ensures, c.in_ok-count.ensures.room, c.in_ok-count.ensures.bound, c.in_ok-extend_from_slice.ensures.len, length-take c.in_ok-count.count c.read_piece.new.buffer);
   given = read_more _ _ _ _ _ _ c.loop-bytes.invariant.given c.in_ok-count.ensures.bytes c.in_ok-extend_from_slice.ensures.items;
   counted = omega (arith, c.loop-bytes.invariant.counted, c.in_ok-count.ensures.counted);
+  amount = handed_longer _ _ _ (vec_len c.loop-bytes.bytes) c.in_ok-count.count _ c.loop-bytes.invariant.amount c.in_ok-count.ensures.amount (omega (arith, c.in_ok-count.ensures.bound, c.in_ok-extend_from_slice.ensures.len, length-take c.in_ok-count.count c.read_piece.new.buffer));
+  at_most = omega (arith, c.loop-bytes.invariant.at_most, c.in_ok-count.ensures.amount, c.in_ok-count.ensures.bound, c.in_ok-extend_from_slice.ensures.len, length-take c.in_ok-count.count c.read_piece.new.buffer);
 }
 
 pub returns-in_err-extend_from_slice-clause-given : goal.returns-in_err-extend_from_slice-clause-given
 returns-in_err-extend_from_slice-clause-given g c =
     gives_after _ _ _ c.loop-bytes.bytes.items _ _ c.loop-bytes.invariant.given (omega (arith, c.len.ensures, c.loop-bytes.invariant.within, c.loop-bytes.bytes.ok)) (gives_piece _ _ _ _ _ c.in_ok-count.ensures.bytes c.in_ok-count.ensures.room)
+
+pub returns-in_err-count-clause-at_most : goal.returns-in_err-count-clause-at_most
+returns-in_err-count-clause-at_most g c = omega (arith, c.loop-bytes.invariant.at_most, c.loop-bytes.invariant.within, c.len.ensures, c.loop-bytes.bytes.ok, c.in_err-count.ensures.at_most)
+
+pub returns-in_err-count-clause-beyond : goal.returns-in_err-count-clause-beyond
+returns-in_err-count-clause-beyond g c =
+    let p = err_from_is_err_and c.from_residual-in_err-count.result c.from_residual-in_err-count.ensures.1 in
+    rw p.1 (λ t. handed_whole _ _ _ (vec_len c.loop-bytes.bytes) _ _ c.loop-bytes.invariant.amount (c.in_err-count.ensures.beyond (sym p.2 ∙ t)) (omega (arith, c.loop-bytes.invariant.within, c.len.ensures, c.loop-bytes.bytes.ok)))
+
+pub returns-then-count-eq0-clause-amount : goal.returns-then-count-eq0-clause-amount
+returns-then-count-eq0-clause-amount g c = handed_whole _ _ _ (vec_len c.loop-bytes.bytes) _ _ c.loop-bytes.invariant.amount c.in_ok-count.ensures.amount (omega (arith, c.if-count-eq0.true))
+
+pub returns-then-count-eq0-clause-at_most : goal.returns-then-count-eq0-clause-at_most
+returns-then-count-eq0-clause-at_most g c = omega (arith, c.loop-bytes.invariant.at_most, c.loop-bytes.invariant.within, c.in_ok-count.ensures.amount, c.if-count-eq0.true, c.loop-bytes.bytes.ok)
+
+pub returns-in_err-extend_from_slice-clause-at_most : goal.returns-in_err-extend_from_slice-clause-at_most
+returns-in_err-extend_from_slice-clause-at_most g c = omega (arith, c.loop-bytes.invariant.at_most, c.loop-bytes.invariant.within, c.len.ensures, c.loop-bytes.bytes.ok, c.in_ok-count.ensures.amount, c.in_ok-count.ensures.room)

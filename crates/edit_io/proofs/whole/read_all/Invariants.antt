@@ -1,5 +1,6 @@
-use Rattle.std.proofs.Common.{◌≡◌, ◌<◌, ◌≤◌, ◌-◌, vec_len, length}
+use Rattle.std.proofs.Common.{◌≡◌, ◌+◌, ◌<◌, ◌≤◌, ◌-◌, vec_len, length}
 use Rattle.edit_io.specs.Told.{with_front}
+use Rattle.edit_io.proofs.Handed.{HasHanded}
 use Rattle.edit_io.proofs.whole.read_all.Given as goal
 
 abbrev pub invariant-loop-bytes : goal.invariant-loop-bytes
@@ -8,6 +9,8 @@ invariant-loop-bytes g l = record {
   within : vec_len l.bytes ≤ l.limit;
   given : g.I.Source.left l.initial.input ≡ with_front l.bytes.items (g.I.Source.left l.input);
   counted : g.I.Source.faults l.initial.input ≤ g.I.Source.faults l.input;
+  amount : HasHanded (g.I.Source.handed l.initial.input) (g.I.Source.handed l.input) (vec_len l.bytes);
+  at_most : g.I.Source.handed l.input ≤ g.I.Source.handed l.initial.input + vec_len l.bytes;
 }
 
 abbrev pub decreases-loop-bytes : goal.decreases-loop-bytes

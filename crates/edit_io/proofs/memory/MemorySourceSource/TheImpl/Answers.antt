@@ -1,5 +1,5 @@
 use Rattle.std.proofs.Common.{◌-◌, ap, min, vec_len, length, arith}
-use Rattle.edit_io.proofs.Held.{source_bound, source_bytes, source_end, source_kept, counted, source_failed}
+use Rattle.edit_io.proofs.Held.{source_bound, source_bytes, source_end, source_kept, counted, source_failed, source_amount}
 use Rattle.edit_io.proofs.memory.MemorySourceSource.TheImpl.Goals as goal
 
 pub read-tells : goal.read-tells
@@ -17,4 +17,6 @@ read-tells c =
       kept = source_kept c.result old.bytes.items new.bytes.items old.at new.at bytes c.ensures.stays;
       counted = counted old.failing.items new.failing.items old.calls new.calls failing c.ensures.calls;
       failed = source_failed c.result old.failing.items new.failing.items old.calls new.calls failing c.ensures.calls c.ensures.fails;
+      amount = source_amount c.result old.at new.at c.ensures.moved (omega (arith, new.within, new.bytes.ok));
+      same_amount = c.ensures.stays;
     }

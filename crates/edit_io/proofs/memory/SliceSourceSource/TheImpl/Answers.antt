@@ -1,5 +1,5 @@
 use Rattle.std.proofs.Common.{◌-◌, length, arith}
-use Rattle.edit_io.proofs.Held.{source_bound, source_bytes, source_end, sure}
+use Rattle.edit_io.proofs.Held.{source_bound, source_bytes, source_end, source_amount, sure}
 use Rattle.edit_io.proofs.memory.SliceSourceSource.TheImpl.Goals as goal
 
 pub read-tells : goal.read-tells
@@ -16,4 +16,6 @@ read-tells g c =
       kept = sure c.result _ c.ensures.sure;
       counted = omega arith;
       failed = sure c.result _ c.ensures.sure;
+      amount = source_amount c.result old.at new.at c.ensures.moved (omega (arith, c.ensures.fits));
+      same_amount = sure c.result _ c.ensures.sure;
     }

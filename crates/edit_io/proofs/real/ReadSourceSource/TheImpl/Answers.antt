@@ -9,4 +9,6 @@ read-tells g c = record {
   kept = untold_kept c.result;
   counted = untold_counted c.result _ _ c.ensures.same c.ensures.raised;
   failed = c.ensures.failed;
+  amount = c.ensures.amount;
+  same_amount = c.ensures.same_amount;
 }
