@@ -148,6 +148,25 @@ uint32_t hedit_exec_gated(hedit_editor *editor, const uint8_t *denied, size_t de
                           const uint8_t *name, size_t name_length, const uint8_t *value,
                           size_t value_length);
 
+/* Executes a command as hedit_exec does, as one step of undo with the last one: what it changes
+ * joins that step, so that one hedit_undo takes both back. That is so where the step was made or
+ * made longer by a command and nothing has come between: no hedit_undo, no hedit_redo, no call that
+ * selects or marks, and no command by hedit_exec or hedit_exec_gated that was HEDIT_DONE without a
+ * change. Otherwise it is a step of its own. A command that isn't HEDIT_DONE leaves the last step
+ * as it was, open to be joined. */
+uint32_t hedit_exec_joined(hedit_editor *editor, const uint8_t *name, size_t name_length,
+                           const uint8_t *value, size_t value_length);
+
+/* Puts a text in place of what stands between two points, each the label of a node and an offset in
+ * it: selects it and executes "insertText", as one command. It joins a run of typing, and typing
+ * goes on after it, as after hedit_exec with "insertText". So one hedit_undo takes back what was
+ * typed and put in place in a row. HEDIT_DONE, HEDIT_NO where the points stand in no editing host,
+ * HEDIT_BAD_PLACE, HEDIT_FULL, HEDIT_DEEP, HEDIT_MEMORY, HEDIT_BAD_ARGUMENT, HEDIT_CLOSED. After any
+ * but HEDIT_DONE the selection is as before, too. */
+uint32_t hedit_replace(hedit_editor *editor, uint32_t anchor, uint32_t anchor_offset,
+                       uint32_t focus, uint32_t focus_offset, const uint8_t *text,
+                       size_t text_length);
+
 /* Takes one step back, or forth again. HEDIT_DONE, HEDIT_NO where there is none, HEDIT_CLOSED.
  * They take no memory. */
 uint32_t hedit_undo(hedit_editor *editor);
@@ -330,9 +349,10 @@ typedef struct hedit_number_facts {
 /* Gives the numbers. HEDIT_DONE, HEDIT_CLOSED. */
 uint32_t hedit_numbers(hedit_editor *editor, hedit_number_facts *facts);
 
-/* Gives how many calls of hedit_exec, hedit_exec_gated, hedit_undo and hedit_redo have changed the
- * page since it was opened. Where the number is the one that you saw before a call, the call changed
- * nothing; where it is more than one greater, you missed a change. HEDIT_DONE, HEDIT_CLOSED. */
+/* Gives how many calls of hedit_exec and its kind, hedit_replace, hedit_undo and hedit_redo have
+ * changed the page since it was opened. Where the number is the one that you saw before a call, the
+ * call changed nothing; where it is more than one greater, you missed a change. HEDIT_DONE,
+ * HEDIT_CLOSED. */
 uint32_t hedit_revision(hedit_editor *editor, uint64_t *revision);
 
 /* Gives what the last of these calls changed that changed something: edits by the labels of nodes,

@@ -317,6 +317,20 @@ class Editor {
                                        name.size(), bytes(value), value.size()));
     }
 
+    /* The same as one step of undo with the last one, where a command made that step and nothing
+     * has come between. */
+    bool exec_joined(std::string_view name, std::string_view value = "") {
+        return answer(
+            hedit_exec_joined(&handle_, bytes(name), name.size(), bytes(value), value.size()));
+    }
+
+    /* Puts a text in place of what stands between two points: selects it and inserts the text, as
+     * one command, which goes on with a run of typing. False where there is no editing host. */
+    bool replace(Point anchor, Point focus, std::string_view text) {
+        return answer(hedit_replace(&handle_, anchor.label, anchor.offset, focus.label,
+                                    focus.offset, bytes(text), text.size()));
+    }
+
     /* Takes one step back, or forth again. False where there is none. */
     bool undo() { return answer(hedit_undo(&handle_)); }
     bool redo() { return answer(hedit_redo(&handle_)); }
@@ -394,14 +408,14 @@ class Editor {
         return facts;
     }
 
-    /* How many calls of exec, undo and redo have changed the page. */
+    /* How many calls have changed the page. */
     std::uint64_t revision() {
         std::uint64_t number = 0;
         answer(hedit_revision(&handle_, &number));
         return number;
     }
 
-    /* What the last of them changed that changed something, from the first edit to the last. A tree
+    /* What the last call that changed something changed, from the first edit to the last. A tree
      * that was the page before that call, and follows them, is the page. */
     std::vector<Change> changes() {
         std::optional<std::string> packed = read_text(

@@ -86,10 +86,12 @@ static uint64_t revision_of(hedit_editor *editor) {
     return revision;
 }
 
-/* Executes a command without a value, and shows the mail where that has changed it. */
-static void exec(hedit_editor *editor, const char *name) {
+/* Executes a command without a value, as a step of its own or as one with the last, and shows the
+ * mail where that has changed it. */
+static void exec(hedit_editor *editor, const char *name, int joined) {
     uint64_t before = revision_of(editor);
-    puts(told(hedit_exec(editor, bytes_of(name), strlen(name), bytes_of(""), 0)));
+    puts(told(joined ? hedit_exec_joined(editor, bytes_of(name), strlen(name), bytes_of(""), 0)
+                     : hedit_exec(editor, bytes_of(name), strlen(name), bytes_of(""), 0)));
     if (revision_of(editor) != before) {
         show(editor);
     }
@@ -109,9 +111,9 @@ int main(void) {
     want(status, "open");
     show(&editor);
     select_name(&editor);
-    exec(&editor, "bold");
-    exec(&editor, "insertUnorderedList");
-    exec(&editor, "createLink");
+    exec(&editor, "bold", 0);
+    exec(&editor, "insertUnorderedList", 1);
+    exec(&editor, "createLink", 0);
     want(hedit_undo(&editor), "undo");
     show(&editor);
     hedit_close(&editor);

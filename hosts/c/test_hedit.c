@@ -537,6 +537,58 @@ static void changes(void) {
     hedit_close(&editor);
 }
 
+/* How many steps undo would take. */
+static size_t undo_steps(hedit_editor *editor) {
+    hedit_number_facts numbers;
+    CHECK(hedit_numbers(editor, &numbers) == HEDIT_DONE);
+    return numbers.undo;
+}
+
+static uint32_t joined(hedit_editor *editor, const char *name, const char *value) {
+    return hedit_exec_joined(editor, (const uint8_t *)name, strlen(name), (const uint8_t *)value,
+                             strlen(value));
+}
+
+static void steps(void) {
+    hedit_editor editor = opened(PAGE);
+    uint32_t text = label_at(&editor, 0, 0, 9);
+    CHECK(joined(&editor, "bold", "") == HEDIT_NO && undo_steps(&editor) == 0);
+    CHECK(hedit_select_points(&editor, text, 0, text, 2) == HEDIT_DONE);
+    CHECK(hedit_exec(&editor, TEXT("bold"), TEXT("")) == HEDIT_DONE);
+    CHECK(joined(&editor, "italic", "") == HEDIT_DONE && undo_steps(&editor) == 1);
+    CHECK(joined(&editor, "createLink", "") == HEDIT_NO);
+    CHECK(joined(&editor, "\xff", "") == HEDIT_BAD_ARGUMENT);
+    CHECK(joined(&editor, "underline", "") == HEDIT_DONE && undo_steps(&editor) == 1);
+    CHECK(hedit_undo(&editor) == HEDIT_DONE && counts(&editor, 3, 0, 0, 1));
+    CHECK(hedit_redo(&editor) == HEDIT_DONE && counts(&editor, 6, 1, 1, 0));
+    CHECK(joined(&editor, "strikethrough", "") == HEDIT_DONE && undo_steps(&editor) == 2);
+    CHECK(hedit_select_points(&editor, text, 2, text, 2) == HEDIT_DONE);
+    CHECK(joined(&editor, "insertText", "c") == HEDIT_DONE && undo_steps(&editor) == 3);
+    hedit_close(&editor);
+    CHECK(joined(&editor, "bold", "") == HEDIT_CLOSED);
+}
+
+static void replacements(void) {
+    hedit_editor editor = opened(PAGE);
+    uint32_t text = label_at(&editor, 0, 0, 9);
+    hedit_selection_facts facts;
+    CHECK(hedit_replace(&editor, text, 0, text, 3, TEXT("x")) == HEDIT_BAD_PLACE);
+    CHECK(hedit_replace(&editor, 98, 0, text, 1, TEXT("x")) == HEDIT_BAD_PLACE);
+    CHECK(hedit_replace(&editor, text, 0, text, 1, TEXT("\xff")) == HEDIT_BAD_ARGUMENT);
+    CHECK(hedit_replace(&editor, 0, 0, 0, 0, TEXT("x")) == HEDIT_NO);
+    CHECK(hedit_selection(&editor, &facts) == HEDIT_NO && undo_steps(&editor) == 0);
+    CHECK(hedit_replace(&editor, text, 1, text, 0, TEXT("x")) == HEDIT_DONE);
+    CHECK(undo_steps(&editor) == 1);
+    CHECK(hedit_replace(&editor, text, 1, text, 2, TEXT("yz")) == HEDIT_DONE);
+    CHECK(hedit_exec(&editor, TEXT("insertText"), TEXT("!")) == HEDIT_DONE);
+    CHECK(undo_steps(&editor) == 1);
+    CHECK(hedit_selection(&editor, &facts) == HEDIT_DONE && are_points(&facts, text, 4, text, 4));
+    CHECK(hedit_undo(&editor) == HEDIT_DONE && counts(&editor, 3, 0, 0, 1));
+    CHECK(hedit_selection(&editor, &facts) == HEDIT_NO);
+    hedit_close(&editor);
+    CHECK(hedit_replace(&editor, text, 0, text, 1, TEXT("x")) == HEDIT_CLOSED);
+}
+
 int main(void) {
     versions();
     sessions();
@@ -547,6 +599,8 @@ int main(void) {
     edits();
     mistakes();
     gates();
+    steps();
+    replacements();
     points();
     selected();
     texts();

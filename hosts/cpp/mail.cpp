@@ -10,10 +10,12 @@ static const char MAIL[] =
 
 static const char *const BUTTONS[] = {"bold", "justifyCenter", "insertUnorderedList"};
 
-/* Executes a command, and says what a host tells its user of it. */
-static std::string told(hedit::Editor &editor, std::string_view name) {
+/* Executes a command, as a step of its own or as one with the last, and says what a host tells its
+ * user of it. */
+static std::string told(hedit::Editor &editor, std::string_view name, bool joined) {
     try {
-        return editor.exec(name) ? "done" : "not possible here";
+        bool done = joined ? editor.exec_joined(name) : editor.exec(name);
+        return done ? "done" : "not possible here";
     } catch (const hedit::Error &error) {
         return error.what();
     }
@@ -29,9 +31,9 @@ static void show(hedit::Editor &editor) {
 }
 
 /* Executes a command, and shows the mail where that has changed it. */
-static void exec(hedit::Editor &editor, std::string_view name) {
+static void exec(hedit::Editor &editor, std::string_view name, bool joined = false) {
     std::uint64_t before = editor.revision();
-    std::cout << told(editor, name) << '\n';
+    std::cout << told(editor, name, joined) << '\n';
     if (editor.revision() != before) {
         show(editor);
     }
@@ -43,7 +45,7 @@ int main() {
     /* The name: the characters 5 to 8 of the paragraph's text. */
     editor.select({{0, 1, 0}, 5}, {{0, 1, 0}, 8});
     exec(editor, "bold");
-    exec(editor, "insertUnorderedList");
+    exec(editor, "insertUnorderedList", true);
     exec(editor, "createLink");
     editor.undo();
     show(editor);

@@ -76,6 +76,25 @@ static void gates() {
     refused<hedit::BadArgument>([&] { editor.exec_gated(",", "bold"); }, "what is no list");
 }
 
+static void steps() {
+    hedit::Editor editor(PAGE);
+    hedit::Label text = editor.label_at({0, 0});
+    editor.select_points({text, 0}, {text, 2});
+    check(editor.exec("bold"), "a command is done");
+    check(editor.exec_joined("italic"), "another one joins it");
+    check(!editor.exec_joined("createLink"), "one that is refused changes nothing");
+    check(editor.counts().undo == 1, "both are one step");
+    editor.undo();
+    check(editor.replace({text, 0}, {text, 1}, "x"), "a text is put in place of another");
+    check(editor.replace({text, 1}, {text, 2}, {}), "an empty one too");
+    check(editor.counts().undo == 1, "both are one step of typing");
+    check(editor.html() == "<p contenteditable=\"\">x</p>\n", "the text is there");
+    check(!editor.replace({0, 0}, {0, 0}, "x"), "nothing is replaced outside of the host");
+    refused<hedit::BadPlace>([&] { editor.replace({text, 0}, {text, 9}, "x"); },
+                             "a place past the end");
+    refused<hedit::BadArgument>([&] { editor.exec_joined("\xff"); }, "a name that isn't UTF-8");
+}
+
 /* A line for each node below one: its kind, its name or its characters, and its attributes. */
 static std::string told(hedit::Editor &editor, hedit::Label label) {
     hedit::Node node = editor.node(label);
@@ -244,6 +263,7 @@ int main() {
     causes();
     texts();
     gates();
+    steps();
     labels();
     changes();
     return failed;

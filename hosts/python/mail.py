@@ -8,10 +8,12 @@ MAIL = '<div contenteditable="true"><h1>Plan</h1><p>Call Ann &amp; Bob.</p></div
 BUTTONS = ("bold", "justifyCenter", "insertUnorderedList")
 
 
-def told(editor: Editor, name: str) -> str:
-    """Executes a command, and says what a host tells its user of it."""
+def told(editor: Editor, name: str, joined: bool) -> str:
+    """Executes a command, as a step of its own or as one with the last, and says what a host tells
+    its user of it."""
     try:
-        return "done" if editor.exec(name) else "not possible here"
+        done = editor.exec_joined(name) if joined else editor.exec(name)
+        return "done" if done else "not possible here"
     except HeditError as error:
         return str(error)
 
@@ -22,10 +24,10 @@ def show(editor: Editor) -> None:
     print("toolbar:", *(f"[{button}]" if editor.state(button) else button for button in BUTTONS))
 
 
-def execute(editor: Editor, name: str) -> None:
+def execute(editor: Editor, name: str, joined: bool = False) -> None:
     """Executes a command, and shows the mail where that has changed it."""
     before = editor.revision()
-    print(told(editor, name))
+    print(told(editor, name, joined))
     if editor.revision() != before:
         show(editor)
 
@@ -36,7 +38,7 @@ def main() -> None:
         # the name: the characters 5 to 8 of the paragraph's text
         editor.select(((0, 1, 0), 5), ((0, 1, 0), 8))
         execute(editor, "bold")
-        execute(editor, "insertUnorderedList")
+        execute(editor, "insertUnorderedList", joined=True)
         execute(editor, "createLink")
         editor.undo()
         show(editor)

@@ -227,6 +227,53 @@ class Denials(unittest.TestCase):
                 self.editor.exec("italic", denied=bad)
 
 
+class Steps(unittest.TestCase):
+    """Several commands as one step of undo."""
+
+    def setUp(self) -> None:
+        self.editor = Editor(PAGE)
+        self.addCleanup(self.editor.close)
+        self.text = self.editor.label_at((0, 0))
+
+    def test_a_joined_command_is_one_step_with_the_last(self) -> None:
+        self.editor.select(*NAME)
+        self.assertTrue(self.editor.exec("bold"))
+        self.assertTrue(self.editor.exec_joined("createLink", "tel:1"))
+        self.assertFalse(self.editor.exec_joined("createLink"))
+        self.assertEqual(self.editor.counts().undo, 1)
+        self.assertTrue(self.editor.undo())
+        self.assertEqual(self.editor.html(), '<p contenteditable="">Call Ann</p>\n')
+
+    def test_what_comes_between_parts_them(self) -> None:
+        self.editor.select(*NAME)
+        self.editor.exec("bold")
+        self.editor.select(*NAME)
+        self.editor.exec_joined("italic")
+        self.assertEqual(self.editor.counts().undo, 2)
+
+    def test_a_replacement_goes_on_with_what_is_typed(self) -> None:
+        self.editor.select(Point(self.text, 8))
+        self.editor.exec("insertText", " teh")
+        self.assertTrue(self.editor.replace(Point(self.text, 9), Point(self.text, 12), "the"))
+        self.editor.exec("insertText", " \U0001f600")
+        self.assertEqual(self.editor.html(), '<p contenteditable="">Call Ann the \U0001f600</p>\n')
+        self.assertEqual(self.editor.counts().undo, 1)
+
+    def test_places_are_replaced_too(self) -> None:
+        self.assertTrue(self.editor.replace(*NAME, "Bob"))
+        self.assertEqual(self.editor.html(), '<p contenteditable="">Call Bob</p>\n')
+        self.assertTrue(self.editor.undo())
+        self.assertIsNone(self.editor.selection())
+
+    def test_a_refused_replacement_leaves_the_selection(self) -> None:
+        self.editor.select(*NAME)
+        before = self.editor.selection()
+        self.assertFalse(self.editor.replace(Point(0, 0), Point(0, 0), "x"))
+        with self.assertRaises(hedit.BadPlace):
+            self.editor.replace(Point(self.text, 0), Point(self.text, 9), "x")
+        self.assertEqual(self.editor.selection(), before)
+
+
 class Nodes(unittest.TestCase):
     def setUp(self) -> None:
         self.editor = Editor(NODES)

@@ -201,6 +201,18 @@ export declare class Editor {
   /** Executes a command by its name, in any case. False where it isn't possible here, or is denied. */
   exec(name: Text, value?: Text, denied?: Iterable<string>): boolean;
 
+  /**
+   * Executes a command as `exec` does, as one step of undo with the last one, where a command made that
+   * step and nothing has come between.
+   */
+  execJoined(name: Text, value?: Text): boolean;
+
+  /**
+   * Puts a text in place of what stands between two places or points, as one command, which goes on
+   * with a run of typing. False where there is no editing host.
+   */
+  replace(anchor: Place | Point, focus: Place | Point, text: Text): boolean;
+
   /** Takes a step back. False where there is none. */
   undo(): boolean;
 
@@ -256,11 +268,11 @@ export declare class Editor {
   /** The numbers of the page and of the history. */
   counts(): Counts;
 
-  /** How many calls of exec, undo and redo have changed the page. */
+  /** How many calls have changed the page. */
   revision(): number;
 
   /**
-   * What the last call of exec, undo or redo changed that changed something, from the first edit to
+   * What the last call that changed something changed, from the first edit to
    * the last.
    */
   changes(): Change[];

@@ -231,6 +231,30 @@ export class Editor {
     );
   }
 
+  /**
+   * Executes a command as `exec` does, as one step of undo with the last one, where a command made that
+   * step and nothing has come between.
+   * @param {Text} name
+   * @param {Text} value
+   */
+  execJoined(name, value = "") {
+    return answer(
+      this.#status("hedit_exec_joined", (loan) => [...loan.text(name), ...loan.text(value)]),
+    );
+  }
+
+  /**
+   * Puts a text in place of what stands between two places or points: selects it and inserts the text,
+   * as one command, which goes on with a run of typing. False where there is no editing host.
+   * @param {Place | Point} anchor
+   * @param {Place | Point} focus
+   * @param {Text} text
+   */
+  replace(anchor, focus, text) {
+    const points = [...this.#point(anchor), ...this.#point(focus)];
+    return answer(this.#status("hedit_replace", (loan) => [...points, ...loan.text(text)]));
+  }
+
   /** Takes a step back. False where there is none. */
   undo() {
     return answer(this.#status("hedit_undo"));
@@ -426,7 +450,7 @@ export class Editor {
   }
 
   /**
-   * How many calls of `exec`, `undo` and `redo` have changed the page. Where it is what it was before
+   * How many calls have changed the page. Where it is what it was before
    * a call, the call changed nothing.
    */
   revision() {
@@ -435,7 +459,7 @@ export class Editor {
   }
 
   /**
-   * What the last call of `exec`, `undo` or `redo` changed that changed something, from the first edit
+   * What the last call that changed something changed, from the first edit
    * to the last. A tree that was the page before that call, and follows them, is the page.
    * @returns {import("./changes.js").Change[]}
    */

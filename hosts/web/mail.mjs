@@ -16,10 +16,11 @@ const BUTTONS = ["bold", "justifyCenter", "insertUnorderedList"];
 const engine = await load(await readFile(argv[2]));
 const editor = engine.open(MAIL);
 
-/** Executes a command, and says what a host tells its user of it. */
-function tell(name) {
+/** Executes a command, as a step of its own or as one with the last, and says what a host tells its user of it. */
+function tell(name, joined) {
   try {
-    stdout.write(editor.exec(name) ? "done\n" : "not possible here\n");
+    const done = joined ? editor.execJoined(name) : editor.exec(name);
+    stdout.write(done ? "done\n" : "not possible here\n");
   } catch (error) {
     if (!(error instanceof HeditError)) {
       throw error;
@@ -35,9 +36,9 @@ function show() {
 }
 
 /** Executes a command, and shows the mail where that has changed it. */
-function exec(name) {
+function exec(name, joined = false) {
   const before = editor.revision();
-  tell(name);
+  tell(name, joined);
   if (editor.revision() !== before) {
     show();
   }
@@ -47,7 +48,7 @@ show();
 // the name: the characters 5 to 8 of the paragraph's text
 editor.select({ path: [0, 1, 0], offset: 5 }, { path: [0, 1, 0], offset: 8 });
 exec("bold");
-exec("insertUnorderedList");
+exec("insertUnorderedList", true);
 exec("createLink");
 editor.undo();
 show();

@@ -11,6 +11,7 @@ use Rattle.dom_model.proofs.Within.{depth_of-parent}
 use Rattle.live_range.specs.declared.places.Pair.{Pair}
 use Rattle.edit_model.specs.State.{State}
 use Rattle.edit_actions.specs.ActiveRange.{start_of, end_of, host_of_pair, affected_host}
+use Rattle.edit_engine.specs.Execution.{host_at}
 use Rattle.node_styles.specs.Lineage.{Ancestor, lineage}
 use Rattle.node_styles.proofs.Lineages.{ancestor, lineage_absent, lineage-root, lineage-child}
 use Rattle.node_tests.specs.AffectedHost as nodes
@@ -55,17 +56,25 @@ module _ (f : Forest Content) (once : IsDistinct f) (b h : ℕ) where
   unfolding common_host
   common_hosts a e = found_in (suc (depth_of f a)) a (omega arith) e
 
-pub host_is_host : (s : State) → IsDistinct s.trees → (h : ℕ) → affected_host s ≡ Some h → is_host s.trees h ≡ true
-unfolding affected_host host_of_pair nodes.affected_host
-host_is_host s once h e = by_selection s.points.selection e
+pair_host_is_host : (f : Forest Content) → IsDistinct f → (pair : Pair) (h : ℕ) → host_of_pair f pair ≡ Some h → is_host f h ≡ true
+unfolding host_of_pair nodes.affected_host
+pair_host_is_host f once pair h is =
+    let a = (start_of f pair).label in
+    let b = (end_of f pair).label in
+    by_tests a b (takes_commands f a && takes_commands f b) is
   where
-    by_tests : (a b : ℕ) (v : Bool) → cond v (common_host s.trees a b) None ≡ Some h → is_host s.trees h ≡ true
-    by_tests a b true is = common_hosts s.trees once b h a is
+    by_tests : (a b : ℕ) (v : Bool) → cond v (common_host f a b) None ≡ Some h → is_host f h ≡ true
+    by_tests a b true is = common_hosts f once b h a is
     by_tests a b false is = absurd (let t : None ≡ Some h = is in cc)
 
+host_is_host : (s : State) → IsDistinct s.trees → (h : ℕ) → affected_host s ≡ Some h → is_host s.trees h ≡ true
+unfolding affected_host
+host_is_host s once h e = by_selection s.points.selection e
+  where
     by_selection : (o : Option Pair) → option_and_then (host_of_pair s.trees) o ≡ Some h → is_host s.trees h ≡ true
     by_selection None is = absurd (let t : None ≡ Some h = is in cc)
-    by_selection (Some pair) is =
-        let a = (start_of s.trees pair).label in
-        let b = (end_of s.trees pair).label in
-        by_tests a b (takes_commands s.trees a && takes_commands s.trees b) is
+    by_selection (Some pair) is = pair_host_is_host s.trees once pair h is
+
+pub host_at_is_host : (at : Option Pair) (s : State) → IsDistinct s.trees → (h : ℕ) → host_at at s ≡ Some h → is_host s.trees h ≡ true
+host_at_is_host None s once h e = host_is_host s once h e
+host_at_is_host (Some pair) s once h e = pair_host_is_host s.trees once pair h e

@@ -10,7 +10,7 @@ use Rattle.undo_log.specs.declared.log.Committed.TheVariants as committed
 use Rattle.edit_model.specs.declared.settings.EditFault.{EditFault}
 use Rattle.edit_model.specs.State.{State, IsPastCap}
 use Rattle.edit_model.specs.Gives.{Fails}
-use Rattle.edit_model.specs.History.{History, document_of, rested}
+use Rattle.edit_model.specs.History.{History, begun, document_of, rested}
 use Rattle.edit_model.specs.Run.{Run, final, value}
 use Rattle.forest_changes.specs.Change.{Change}
 use Rattle.document_edits.specs.Followed.{followed}
@@ -19,8 +19,7 @@ use Rattle.document_edits.specs.declared.edit.DocumentEdit.{DocumentEdit}
 use Rattle.edit_doc.specs.Changes.{Lead, LeadsSince, IsToldSince}
 use Rattle.edit_doc.specs.Whole.{Began, Whole, IsOpen, IsDoc, opened, history_committed, state_rolled_back}
 use Rattle.edit_doc.specs.Held.{Keeps}
-use Rattle.edit_engine.specs.Execution.{began, ran, answered}
-use Rattle.edit_actions.specs.ActiveRange.{affected_host}
+use Rattle.edit_engine.specs.Execution.{ran, answered}
 use Rattle.edit_engine.specs.Running.{IsMade, IsTakenBack, IsRefused, has_entry, TellsEdits, TellsChange}
 
 pub opened_open : (d new : Whole) (h : Option ℕ) (k j : Bool) → new ≡ opened h k j d → IsOpen new
@@ -47,8 +46,8 @@ no_changes : (xs : List Change) (f d e : Forest Content) → xs ≡ [] → Lead 
 unfolding told_all forth
 no_changes xs f d e none leads = subst (λ (ys : List Change). Lead (told_all ys f) d e) none leads
 
-module _ (old one two : Whole) (j k : Bool) (m : Run Bool) (begins : one ≡ opened (affected_host old.state) k j old) (keeps : Keeps one two) where
-  began_state : one.state ≡ began old.state k
+module _ (old one two : Whole) (host : Option ℕ) (j k : Bool) (m : Run Bool) (begins : one ≡ opened host k j old) (keeps : Keeps one two) where
+  began_state : one.state ≡ begun host k old.state
   unfolding opened
   began_state = ap (λ (w : Whole). w.state) begins
 
@@ -60,13 +59,13 @@ module _ (old one two : Whole) (j k : Bool) (m : Run Bool) (begins : one ≡ ope
   unfolding opened
   history_is = keeps.history ∙ ap (λ (w : Whole). w.history) begins
 
-  ends_at : final m one.state ≡ two.state → two.state ≡ ran old.state k m
+  ends_at : final m one.state ≡ two.state → two.state ≡ ran host old.state k m
   ends_at ends = sym ends ∙ ap (final m) began_state
 
-  answers : (b : Bool) → value m one.state ≡ b → answered old.state k m ≡ b
+  answers : (b : Bool) → value m one.state ≡ b → answered host old.state k m ≡ b
   answers b is = sym (ap (value m) began_state) ∙ is
 
-  within : final m one.state ≡ two.state → IsDoc two → IsPastCap (ran old.state k m) → ⊥
+  within : final m one.state ≡ two.state → IsDoc two → IsPastCap (ran host old.state k m) → ⊥
   within ends law o =
       let o' : IsPastCap two.state = subst IsPastCap (sym (ends_at ends)) o in
       let capped = law.capped in
@@ -77,7 +76,7 @@ module _ (old one two : Whole) (j k : Bool) (m : Run Bool) (begins : one ≡ ope
   unfolding state_rolled_back
   taken_back three state history closed = record { state = state ∙ rw began_is refl; history = history ∙ history_is; closed = closed }
 
-  pub made : (three : Whole) → final m one.state ≡ two.state → value m one.state ≡ true → IsDoc two → three.state ≡ rested two.state → three.history ≡ history_committed two → three.began ≡ None → IsMade old three j k m
+  pub made : (three : Whole) → final m one.state ≡ two.state → value m one.state ≡ true → IsDoc two → three.state ≡ rested two.state → three.history ≡ history_committed two → three.began ≡ None → IsMade old three host j k m
   unfolding history_committed
   made three ends is law state history closed =
       let at = ends_at ends in
@@ -89,13 +88,13 @@ module _ (old one two : Whole) (j k : Bool) (m : Run Bool) (begins : one ≡ ope
         within = within ends law;
       }
 
-  pub tells_edits : (c : Committed) → final m one.state ≡ two.state → ((c ≡ committed.Entry) ↔ (0 < length two.state.edits)) → TellsEdits c (ran old.state k m)
+  pub tells_edits : (c : Committed) → final m one.state ≡ two.state → ((c ≡ committed.Entry) ↔ (0 < length two.state.edits)) → TellsEdits c (ran host old.state k m)
   tells_edits c ends answer = subst (λ (s : State). TellsEdits c s) (ends_at ends) (by_length c (length two.state.edits) answer)
 
-  pub refused : (three : Whole) → final m one.state ≡ two.state → value m one.state ≡ false → IsDoc two → three.state ≡ state_rolled_back two → three.history ≡ two.history → three.began ≡ None → IsRefused old three k m
+  pub refused : (three : Whole) → final m one.state ≡ two.state → value m one.state ≡ false → IsDoc two → three.state ≡ state_rolled_back two → three.history ≡ two.history → three.began ≡ None → IsRefused old three host k m
   refused three ends is law state history closed = record { back = taken_back three state history closed; answer = answers false is; within = within ends law }
 
-  pub failed : (three : Whole) (fault : EditFault) → Fails fault (final m one.state) → three.state ≡ state_rolled_back two → three.history ≡ two.history → three.began ≡ None → IsTakenBack old three × Fails fault (ran old.state k m)
+  pub failed : (three : Whole) (fault : EditFault) → Fails fault (final m one.state) → three.state ≡ state_rolled_back two → three.history ≡ two.history → three.began ≡ None → IsTakenBack old three × Fails fault (ran host old.state k m)
   failed three fault fails state history closed = (taken_back three state history closed, subst (λ s. Fails fault (final m s)) began_state fails)
 
   -- what a host is told of the command

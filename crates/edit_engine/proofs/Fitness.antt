@@ -1,15 +1,16 @@
 -- The certificates of the actions of commands, a line for each command.
-use Rattle.std.proofs.Common.{◌≡◌, ℕ, Bool, true, false, List, sym, true≢false}
+use Rattle.std.proofs.Common.{◌≡◌, ℕ, Bool, true, false, List, Option, Some, None, sym, true≢false}
 use Rattle.std.specs.Prelude.{not, codes, if◌then◌else◌}
 use Rattle.html_names.specs.declared.commands.Command.{Command}
 use Rattle.html_names.specs.declared.commands.Command.TheVariants as command
-use Rattle.edit_model.specs.Action.{Flag}
-use Rattle.edit_model.specs.Run.{Run, ◌>>=◌, answer, done, given, set_flags}
+use Rattle.live_range.specs.declared.places.Pair.{Pair}
+use Rattle.edit_model.specs.Action.{Flag, Select}
+use Rattle.edit_model.specs.Run.{Run, ◌>>=◌, ◌>>◌, answer, done, given, select, set_flags}
 use Rattle.edit_model.specs.declared.settings.Flags.{Flags}
 use Rattle.edit_laws.specs.Steady.{Steady}
 use Rattle.edit_laws.specs.OrderPreserving.{OrderPreserving}
 use Rattle.edit_laws.proofs.SteadyRuns.{steady_answer, steady_bind, steady_look_at, steady_if, steady_given, steady_perform}
-use Rattle.edit_laws.proofs.OrderPreserving.{order_preserving_answer, order_preserving_bind, order_preserving_look, order_preserving_if}
+use Rattle.edit_laws.proofs.OrderPreserving.{order_preserving_answer, order_preserving_bind, order_preserving_look, order_preserving_if, order_preserving_perform}
 use Rattle.command_laws.proofs.BlockRuns.{order_preserving_format_block, steady_format_block, order_preserving_justify, steady_justify}
 use Rattle.command_laws.proofs.DeleteRuns.{steady_delete}
 use Rattle.command_laws.proofs.FormatRuns.{order_preserving_remove_format, steady_remove_format}
@@ -25,6 +26,7 @@ use Rattle.inline_value.specs.declared.overrides.Override.{Override}
 use Rattle.inline_commands.specs.RestoringStates.{restore_states}
 use Rattle.edit_query.specs.Carets.{is_caret}
 use Rattle.edit_engine.specs.Framing.{restore_at_caret, give_back, recorded_action, framed}
+use Rattle.edit_engine.specs.Execution.{run_at}
 use Rattle.edit_engine.specs.Commands.{row_of, own_action, action_of, is_value, flags_taken, set_css_styling, separator_set, set_separator}
 
 -- a run leaves the states of contenteditable, and a keeping one keeps the order
@@ -115,5 +117,13 @@ framed_fit keeping true m h = record {
 }
 framed_fit keeping false m h = h
 
-pub fit : (c : Command) (value : List ℕ) → IsFit (row_of c).keeping (action_of c value)
+fit : (c : Command) (value : List ℕ) → IsFit (row_of c).keeping (action_of c value)
 fit c value = framed_fit (row_of c).keeping (row_of c).recording (own_action c value) (own_fit c value)
+
+-- and on a range, which is selected first
+pub fit_at : (at : Option Pair) (c : Command) (value : List ℕ) → IsFit (row_of c).keeping (run_at at (action_of c value))
+fit_at None c value = fit c value
+fit_at (Some range) c value = record {
+  steady = steady_bind (select range.anchor range.focus) (λ _. action_of c value) (steady_perform (Select range.anchor range.focus) tt) (λ _. (fit c value).steady);
+  order_preserving = λ keeps. order_preserving_bind (select range.anchor range.focus) (λ _. action_of c value) (order_preserving_perform (Select range.anchor range.focus) tt) (λ _. (fit c value).order_preserving keeps);
+}

@@ -12,6 +12,7 @@ use Rattle.edit_doc.specs.Changes.{Lead, changes_past, changes_undone, resumed_a
 use Rattle.edit_doc.specs.Kept.{HoldsOnlyNeeded, LeadAllBack, LeadAllForth}
 use Rattle.edit_doc.specs.Whole.{Whole, IsDoc, IsClosed}
 use Rattle.edit_engine.specs.declared.following.Following.{Following}
+use Rattle.edit_engine.specs.declared.going.Going.{Going}
 use Rattle.edit_engine.specs.Following.{after_commit, after_undo, after_redo}
 use Rattle.edit_engine.specs.Editing.{EditorValue, value_of}
 use Rattle.edit_engine.specs.Changes.{CanFollow}
@@ -23,16 +24,16 @@ unfolding rested
 resting_trees d law closed = ap (λ (s : State). s.trees) (law.resting closed)
 
 -- a command that is made
-pub run_followed : (old new : Whole) (typing after : Bool) (w : Following) (joining : Bool) (kept : ℕ) (c : Committed) → IsDoc old → IsClosed old → TellsChange (Ok (Some c)) old new joining → kept ≡ resumed_at joining old.history.undo → CanFollow (value_of old typing w) (value_of new after (after_commit c kept w))
-run_followed old new typing after w joining kept committed.Entry law closed told is =
+pub run_followed : (old new : Whole) (going after : Going) (w : Following) (joining : Bool) (kept : ℕ) (c : Committed) → IsDoc old → IsClosed old → TellsChange (Ok (Some c)) old new joining → kept ≡ resumed_at joining old.history.undo → CanFollow (value_of old going w) (value_of new after (after_commit c kept w))
+run_followed old new going after w joining kept committed.Entry law closed told is =
     let here : Lead (changes_past (resumed_at joining old.history.undo) new.history.undo) old.state.trees new.state.trees = subst (λ (d : Forest Content). Lead (changes_past (resumed_at joining old.history.undo) new.history.undo) d new.state.trees) (resting_trees old law closed) told in
     inr (refl, subst (λ (k : ℕ). Lead (changes_past k new.history.undo) old.state.trees new.state.trees) (sym is) here)
-run_followed old new typing after w joining kept committed.Nothing law closed told is =
+run_followed old new going after w joining kept committed.Nothing law closed told is =
     inl (refl, told ∙ resting_trees old law closed)
 
 -- a call that leaves the state
-pub kept_followed : (old new : Whole) (typing after : Bool) (w : Following) → new.state ≡ old.state → CanFollow (value_of old typing w) (value_of new after w)
-kept_followed old new typing after w same = inl (refl, ap (λ (s : State). s.trees) same)
+pub kept_followed : (old new : Whole) (going after : Going) (w : Following) → new.state ≡ old.state → CanFollow (value_of old going w) (value_of new after w)
+kept_followed old new going after w same = inl (refl, ap (λ (s : State). s.trees) same)
 
 -- ---- undo and redo
 
@@ -55,12 +56,12 @@ redo_before d e es is needed =
     first [] h = absurd h
     first (x ∷ xs) h = h.0.before
 
-module _ (old new : Whole) (typing after : Bool) (w : Following) (needed : HoldsOnlyNeeded old) where
-  pub undo_followed : (taken : Bool) → (IsTrue taken ↔ (0 < length old.history.undo)) → new ≡ record old { state = undone_state old.history old.state; history = undone_history old.history } → UndoneLead new.history.redo → CanFollow (value_of old typing w) (value_of new after (after_undo taken w))
+module _ (old new : Whole) (going after : Going) (w : Following) (needed : HoldsOnlyNeeded old) where
+  pub undo_followed : (taken : Bool) → (IsTrue taken ↔ (0 < length old.history.undo)) → new ≡ record old { state = undone_state old.history old.state; history = undone_history old.history } → UndoneLead new.history.redo → CanFollow (value_of old going w) (value_of new after (after_undo taken w))
   unfolding undone_state undone_history at_view
   undo_followed taken answer is lead = by_entries old.history.undo refl taken answer
     where
-      by_entries : (us : List Entry) → old.history.undo ≡ us → (t : Bool) → (IsTrue t ↔ (0 < length us)) → CanFollow (value_of old typing w) (value_of new after (after_undo t w))
+      by_entries : (us : List Entry) → old.history.undo ≡ us → (t : Bool) → (IsTrue t ↔ (0 < length us)) → CanFollow (value_of old going w) (value_of new after (after_undo t w))
       by_entries [] none true a = absurd (let lt = a.0 refl in omega (arith, lt))
       by_entries [] none false a = inl (refl, ap (λ (d : Whole). d.state.trees) is ∙ ap (λ (us : List Entry). (undone_state_by us old.state).trees) none)
       by_entries (e ∷ es) some false a = absurd (true≢false (sym (a.1 (omega arith))))
@@ -77,11 +78,11 @@ module _ (old new : Whole) (typing after : Bool) (w : Following) (needed : Holds
                 (subst (λ (d : Forest Content). Lead (changes_undone (e ∷ old.history.redo)) e.after.document d) (sym trees) l))),
           )
 
-  pub redo_followed : (taken : Bool) → (IsTrue taken ↔ (0 < length old.history.redo)) → new ≡ record old { state = redone_state old.history old.state; history = redone_history old.history } → ChangesLead new.history.undo → CanFollow (value_of old typing w) (value_of new after (after_redo taken w))
+  pub redo_followed : (taken : Bool) → (IsTrue taken ↔ (0 < length old.history.redo)) → new ≡ record old { state = redone_state old.history old.state; history = redone_history old.history } → ChangesLead new.history.undo → CanFollow (value_of old going w) (value_of new after (after_redo taken w))
   unfolding redone_state redone_history at_view
   redo_followed taken answer is lead = by_entries old.history.redo refl taken answer
     where
-      by_entries : (rs : List Entry) → old.history.redo ≡ rs → (t : Bool) → (IsTrue t ↔ (0 < length rs)) → CanFollow (value_of old typing w) (value_of new after (after_redo t w))
+      by_entries : (rs : List Entry) → old.history.redo ≡ rs → (t : Bool) → (IsTrue t ↔ (0 < length rs)) → CanFollow (value_of old going w) (value_of new after (after_redo t w))
       by_entries [] none true a = absurd (let lt = a.0 refl in omega (arith, lt))
       by_entries [] none false a = inl (refl, ap (λ (d : Whole). d.state.trees) is ∙ ap (λ (rs : List Entry). (redone_state_by rs old.state).trees) none)
       by_entries (e ∷ es) some false a = absurd (true≢false (sym (a.1 (omega arith))))

@@ -22,6 +22,7 @@ use Rattle.edit_laws.specs.Kinds.{Kind, kind_in, kind_of, SameKinds}
 use Rattle.edit_laws.proofs.StayingKinds.{kind_of-revised, kind-tree}
 use Rattle.edit_engine.specs.Editing.{Editing, EditorValue, value_of, document, undone, redone}
 use Rattle.edit_engine.specs.declared.following.Following.{Following}
+use Rattle.edit_engine.specs.declared.going.Going.{Going}
 use Rattle.edit_engine.proofs.Outcomes.{shown}
 use Rattle.edit_engine.specs.Labels.{KeepsLabels, documents_in, AgreesWith, HaveOneKind}
 
@@ -159,17 +160,17 @@ labels_redone e (kinds, (here, there)) =
 -- ---- told of an editor's document
 
 keeps_at : (e x y : Editing) → x.state ≡ y.state → KeepsLabels e x → KeepsLabels e y
-keeps_at e x y same k = subst (λ (s : State). KeepsLabels e (record { state = s; history = y.history; typing = y.typing })) same (record { kinds = k.kinds; next = k.next })
+keeps_at e x y same k = subst (λ (s : State). KeepsLabels e (record { state = s; history = y.history; going = y.going })) same (record { kinds = k.kinds; next = k.next })
 
-module _ (w new : Whole) (typing after : Bool) (following : Following) (v : EditorValue) (view : value_of w typing following ≡ v) where
+module _ (w new : Whole) (going after : Going) (following : Following) (v : EditorValue) (view : value_of w going following ≡ v) where
   pub labels_after_undo : new ≡ record w { state = undone_state w.history w.state; history = undone_history w.history } → HaveOneKind v.editing → KeepsLabels v.editing (shown new after)
   labels_after_undo is =
-      let e = (value_of w typing following).editing in
+      let e = (value_of w going following).editing in
       subst (λ (x : EditorValue). HaveOneKind x.editing → KeepsLabels x.editing (shown new after)) view
       (λ one. keeps_at e (undone e) (shown new after) (sym (ap (λ (x : Whole). x.state) is)) (labels_undone e one))
 
   pub labels_after_redo : new ≡ record w { state = redone_state w.history w.state; history = redone_history w.history } → HaveOneKind v.editing → KeepsLabels v.editing (shown new after)
   labels_after_redo is =
-      let e = (value_of w typing following).editing in
+      let e = (value_of w going following).editing in
       subst (λ (x : EditorValue). HaveOneKind x.editing → KeepsLabels x.editing (shown new after)) view
       (λ one. keeps_at e (redone e) (shown new after) (sym (ap (λ (x : Whole). x.state) is)) (labels_redone e one))

@@ -5,9 +5,10 @@ pub mod Followed
 pub mod Holding
 pub mod Keeping
 pub mod Outcomes
+pub mod Selected
 pub mod Refusing
 pub mod Seeing
-pub mod Typing
+pub mod GoingOn
 pub mod AffectedHosts
 pub mod Fitness
 pub mod HtmlParts

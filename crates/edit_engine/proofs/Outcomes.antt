@@ -1,8 +1,9 @@
 -- What a run comes to, told of an editor's document, and which of the outcomes comes first.
-use Rattle.std.proofs.Common.{◌≡◌, ℕ, Bool, true, false, List, Some, None, Err, refl, arith}
-use Rattle.std.specs.Prelude.{nat_lt, ◌&&◌}
+use Rattle.std.proofs.Common.{◌≡◌, ℕ, Bool, true, false, List, length, Option, Some, None, Result, Ok, Err, refl, arith}
+use Rattle.std.specs.Prelude.{nat_lt}
 use Rattle.std.proofs.lemmas.Bool.Decides.{nat_tests}
 use Rattle.command_gate.specs.Denied.{is_denied}
+use Rattle.live_range.specs.declared.places.Pair.{Pair}
 use Rattle.html_names.specs.Commands.{command_named}
 use Rattle.html_names.specs.declared.commands.Command.{Command}
 use Rattle.dom_model.specs.Document.{page_depth}
@@ -14,73 +15,93 @@ use Rattle.edit_model.specs.History.{begun}
 use Rattle.edit_model.specs.Run.{Run}
 use Rattle.edit_model.proofs.Steps.{final_cap}
 use Rattle.edit_doc.specs.Whole.{Whole}
-use Rattle.edit_engine.specs.Commands.{row_of, types_text, action_of, is_enabled}
+use Rattle.edit_engine.specs.Commands.{row_of, action_of, is_enabled_in}
 use Rattle.edit_engine.specs.Editing.{Editing}
-use Rattle.edit_engine.specs.Execution.{Refused, Deep, Acted, began, ran, typing_after, run_outcome, command_outcome, outcome, gated_outcome, Tells}
-use Rattle.edit_engine.specs.Faults.{exec_fault}
+use Rattle.edit_engine.specs.Execution.{Outcome, Refused, Deep, Acted, host_at, run_at, ran, run_outcome, command_outcome, outcome_by, outcome, gated_outcome, Tells, TellsReplaced}
+use Rattle.edit_engine.specs.Going.{joins_by, going_after}
+use Rattle.edit_engine.specs.declared.going.Going.{Going}
+use Rattle.edit_engine.specs.declared.answers.Answer.{Answer}
+use Rattle.edit_engine.specs.declared.answers.ExecFault.{ExecFault}
+use Rattle.edit_engine.specs.declared.answers.ExecFault.TheVariants as exec
+use Rattle.edit_engine.specs.declared.answers.ReplaceFault.{ReplaceFault}
+use Rattle.edit_engine.specs.Faults.{exec_fault, replace_fault}
 use Rattle.edit_engine.specs.Running.{IsMade, IsTakenBack, IsRefused}
 
 -- the editor of a document
-abbrev pub shown : Whole → Bool → Editing
-shown w typing = record { state = w.state; history = w.history; typing = typing }
+abbrev pub shown : Whole → Going → Editing
+shown w going = record { state = w.state; history = w.history; going = going }
 
 -- ---- runs
 
-ran_cap : (s : State) (k : Bool) (m : Run Bool) → (ran s k m).cap ≡ s.cap
+ran_cap : (host : Option ℕ) (s : State) (k : Bool) (m : Run Bool) → (ran host s k m).cap ≡ s.cap
 unfolding begun
-ran_cap s k m = final_cap m (began s k)
+ran_cap host s k m = final_cap m (begun host k s)
 
-not_over : (s : State) (k : Bool) (m : Run Bool) → (IsPastCap (ran s k m) → ⊥) → nat_lt s.cap (ran s k m).next ≡ false
-not_over s k m off = by_test (nat_lt s.cap (ran s k m).next) refl
+not_over : (host : Option ℕ) (s : State) (k : Bool) (m : Run Bool) → (IsPastCap (ran host s k m) → ⊥) → nat_lt s.cap (ran host s k m).next ≡ false
+not_over host s k m off = by_test (nat_lt s.cap (ran host s k m).next) refl
   where
-    by_test : (b : Bool) → nat_lt s.cap (ran s k m).next ≡ b → b ≡ false
-    by_test true e = absurd (off (record { past = (let c = ran_cap s k m in rw c (grind (arith, nat_tests, e))) }))
+    by_test : (b : Bool) → nat_lt s.cap (ran host s k m).next ≡ b → b ≡ false
+    by_test true e = absurd (off (record { past = (let c = ran_cap host s k m in rw c (grind (arith, nat_tests, e))) }))
     by_test false e = refl
 
-over : (s : State) (k : Bool) (m : Run Bool) → IsPastCap (ran s k m) → nat_lt s.cap (ran s k m).next ≡ true
-over s k m is = let c = ran_cap s k m in let past = is.past in grind (arith, nat_tests, c, past)
+over : (host : Option ℕ) (s : State) (k : Bool) (m : Run Bool) → IsPastCap (ran host s k m) → nat_lt s.cap (ran host s k m).next ≡ true
+over host s k m is = let c = ran_cap host s k m in let past = is.past in grind (arith, nat_tests, c, past)
 
-same_editor : (old new : Whole) (typing : Bool) → IsTakenBack old new → shown new typing ≡ shown old typing
-same_editor old new typing back = rw (back.state, back.history) refl
+same_editor : (old new : Whole) (going : Going) → IsTakenBack old new → shown new going ≡ shown old going
+same_editor old new going back = rw (back.state, back.history) refl
 
-module _ (old new : Whole) (typing : Bool) (c : Command) (m : Run Bool) where
-  pub made_outcome : (after : Bool) → IsMade old new (typing && types_text c) (row_of c).keeping m → after ≡ typing_after (shown old typing) c (ran old.state (row_of c).keeping m) → run_outcome (shown old typing) c m ≡ Acted true (shown new after)
+module _ (old new : Whole) (going : Going) (host : Option ℕ) (joining : Bool) (c : Command) (m : Run Bool) where
+  pub made_outcome : (after : Going) → IsMade old new host joining (row_of c).keeping m → after ≡ going_after going joining c (nat_lt 0 (length (ran host old.state (row_of c).keeping m).edits)) → run_outcome (shown old going) host joining c m ≡ Acted true (shown new after)
   unfolding run_outcome
-  made_outcome after is types = let n = not_over old.state (row_of c).keeping m is.within in rw (n, is.answer, is.state, is.history, types) refl
+  made_outcome after is goes = let n = not_over host old.state (row_of c).keeping m is.within in rw (n, is.answer, is.state, is.history, goes) refl
 
-  pub refused_tells : IsRefused old new (row_of c).keeping m → (run_outcome (shown old typing) c m ≡ Acted false (shown new typing)) × (shown new typing ≡ shown old typing)
+  pub refused_tells : IsRefused old new host (row_of c).keeping m → (run_outcome (shown old going) host joining c m ≡ Acted false (shown new going)) × (shown new going ≡ shown old going)
   unfolding run_outcome
   refused_tells is =
-      let n = not_over old.state (row_of c).keeping m is.within in
-      let same = same_editor old new typing is.back in
+      let n = not_over host old.state (row_of c).keeping m is.within in
+      let same = same_editor old new going is.back in
       (rw (n, is.answer, same) refl, same)
 
-  pub failed_tells : (fault : EditFault) → IsTakenBack old new → Fails fault (ran old.state (row_of c).keeping m) → Tells (Err (exec_fault fault)) (shown old typing) (shown new typing) (run_outcome (shown old typing) c m)
+  pub failed_tells : (fault : EditFault) → IsTakenBack old new → Fails fault (ran host old.state (row_of c).keeping m) → Tells (Err (exec_fault fault)) (shown old going) (shown new going) (run_outcome (shown old going) host joining c m)
   unfolding run_outcome
-  failed_tells edit.Full back fails = (let o = over old.state (row_of c).keeping m fails in rw o refl, same_editor old new typing back)
-  failed_tells edit.Memory back fails = same_editor old new typing back
+  failed_tells edit.Full back fails = (let o = over host old.state (row_of c).keeping m fails in rw o refl, same_editor old new going back)
+  failed_tells edit.Memory back fails = same_editor old new going back
 
 -- ---- which comes first
 
-pub refused_outcome : (e : Editing) (v : List ℕ) (c : Command) → is_enabled e.state c ≡ false → command_outcome e v c ≡ Refused
-unfolding command_outcome
-refused_outcome e v c off = rw off refl
+module _ (e : Editing) (at : Option Pair) (joining : Bool) (v : List ℕ) (c : Command) where
+  pub refused_outcome : is_enabled_in (host_at at e.state) c ≡ false → command_outcome e at joining v c ≡ Refused
+  unfolding command_outcome
+  refused_outcome off = rw off refl
 
-pub deep_outcome : (e : Editing) (v : List ℕ) (c : Command) → is_enabled e.state c ≡ true → nat_lt 250 (page_depth e.state.trees) ≡ true → command_outcome e v c ≡ Deep
-unfolding command_outcome
-deep_outcome e v c on deep = rw (on, deep) refl
+  pub deep_outcome : is_enabled_in (host_at at e.state) c ≡ true → nat_lt 250 (page_depth e.state.trees) ≡ true → command_outcome e at joining v c ≡ Deep
+  unfolding command_outcome
+  deep_outcome on deep = rw (on, deep) refl
 
-pub runs_outcome : (e : Editing) (v : List ℕ) (c : Command) → is_enabled e.state c ≡ true → nat_lt 250 (page_depth e.state.trees) ≡ false → command_outcome e v c ≡ run_outcome e c (action_of c v)
-unfolding command_outcome
-runs_outcome e v c on shallow = rw (on, shallow) refl
+  pub runs_outcome : is_enabled_in (host_at at e.state) c ≡ true → nat_lt 250 (page_depth e.state.trees) ≡ false → command_outcome e at joining v c ≡ run_outcome e (host_at at e.state) joining c (run_at at (action_of c v))
+  unfolding command_outcome
+  runs_outcome on shallow = rw (on, shallow) refl
 
-pub named_outcome : (e : Editing) (name v : List ℕ) (c : Command) → command_named name ≡ Some c → outcome e name v ≡ command_outcome e v c
-unfolding outcome
-named_outcome e name v c is = rw is refl
+pub named_outcome : (joined : Bool) (e : Editing) (name v : List ℕ) (c : Command) → command_named name ≡ Some c → outcome_by joined e name v ≡ command_outcome e None (joins_by joined e.going c) v c
+unfolding outcome_by
+named_outcome joined e name v c is = rw is refl
 
-pub unnamed_outcome : (e : Editing) (name v : List ℕ) → command_named name ≡ None → outcome e name v ≡ Refused
-unfolding outcome
-unnamed_outcome e name v is = rw is refl
+pub unnamed_outcome : (joined : Bool) (e : Editing) (name v : List ℕ) → command_named name ≡ None → outcome_by joined e name v ≡ Refused
+unfolding outcome_by
+unnamed_outcome joined e name v is = rw is refl
+
+-- ---- of a replacement
+
+-- the answer of a replacement, by that of its command
+abbrev pub replaced_by : Result Answer ExecFault → Result Answer ReplaceFault
+replaced_by (Ok answer) = Ok answer
+replaced_by (Err fault) = Err (replace_fault fault)
+
+pub tells_replaced : (r : Result Answer ExecFault) (old new : Editing) (o : Outcome) → Tells r old new o → TellsReplaced (replaced_by r) old new o
+tells_replaced (Ok answer) old new o tells = tells
+tells_replaced (Err exec.Full) old new o tells = tells
+tells_replaced (Err exec.Deep) old new o tells = tells
+tells_replaced (Err exec.Memory) old new o tells = tells
 
 -- ---- with names that are denied
 

@@ -1,5 +1,5 @@
 -- What an arena with hidden trees shows of a document: its first tree.
-use Rattle.std.proofs.Common.{◌≡◌, ℕ, ◌<◌, ◌≤◌, true, List, [], ◌∷◌, Option, Some, None, IfSome, refl, sym, ap, subst, ◌∙◌, arith, zero, suc}
+use Rattle.std.proofs.Common.{◌≡◌, ℕ, ◌<◌, ◌≤◌, Bool, true, false, cond, ◌&&◌, List, [], ◌∷◌, Option, Some, None, IfSome, refl, sym, ap, subst, ◌∙◌, arith, zero, suc}
 use Rattle.std.specs.Prelude.{nat_le}
 use Rattle.std.specs.List.{All}
 use Rattle.std.proofs.lemmas.Bool.Decides.{nat_tests}
@@ -15,6 +15,7 @@ use Rattle.live_range.specs.declared.places.Pair.{Pair}
 use Rattle.live_range.specs.LivePoints.{LivePoints}
 use Rattle.point_order.specs.PointOrder.{is_placed, is_in_document}
 use Rattle.edit_actions.proofs.Placed.{placed_inside}
+use Rattle.edit_engine.specs.Places.{pair_from, placed_pair}
 use Rattle.edit_model.specs.Valid.{IsForest, IsPlaced, IsPlacedPair}
 use Rattle.node_paths.specs.Paths.{label_at, label_by, node_in, path_of, node_text}
 use Rattle.page_write.specs.Html.{document_html}
@@ -98,3 +99,12 @@ path_inside g next law path l e =
 
 pub in_document : (f : Forest Content) (l : ℕ) → IsWithin f 0 l → is_in_document f l ≡ true
 in_document f l h = let h' : 0 < count_of (tree_of f 0) l = h in grind (arith, nat_tests)
+
+-- the pair that is found of two points is of these
+pub placed_is : (f : Forest Content) (anchor focus : Point) (pair : Pair) → placed_pair f anchor focus ≡ Some pair → pair ≡ pair_from anchor focus
+unfolding placed_pair
+placed_is f anchor focus pair is = by_test (is_placed f anchor && is_placed f focus) is
+  where
+    by_test : (b : Bool) → cond b (Some (pair_from anchor focus)) None ≡ Some pair → pair ≡ pair_from anchor focus
+    by_test true e = (let both : Some (pair_from anchor focus) ≡ Some pair = e in cc)
+    by_test false e = absurd (let t : None ≡ Some pair = e in cc)

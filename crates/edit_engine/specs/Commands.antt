@@ -65,7 +65,7 @@ row_of command.InsertLineBreak = facts false true true
 row_of command.InsertHorizontalRule = facts false true true
 row_of command.InsertImage = facts false true false
 
--- the command that types: its edits join the last entry while the editor is typing
+-- the command that types
 abbrev pub types_text : Command → Bool
 types_text command.InsertText = true
 types_text _ = false
@@ -135,5 +135,8 @@ abbrev pub action_of : Command → List ℕ → Run Bool
 action_of c value = framed (row_of c).recording (own_action c value)
 
 -- a command that needs a host is enabled only where there is an affected editing host
+abbrev pub is_enabled_in : Option ℕ → Command → Bool
+is_enabled_in host c = not (row_of c).needs_host || is_some host
+
 unfoldable pub is_enabled : State → Command → Bool
-is_enabled s c = not (row_of c).needs_host || is_some (affected_host s)
+is_enabled s c = is_enabled_in (affected_host s) c

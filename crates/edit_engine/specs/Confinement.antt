@@ -1,5 +1,5 @@
--- What every execution of a command keeps, whatever it answers.
-use Rattle.std.specs.Prelude.{◌≡◌, ◌⊎◌, ℕ, Bool, true, false, List, ◌∷◌, Some, IsSome}
+-- What every execution of a command in a host keeps, whatever it answers.
+use Rattle.std.specs.Prelude.{◌≡◌, ◌⊎◌, ℕ, Bool, true, false, List, ◌∷◌, Option, Some, IsSome}
 use Rattle.std.specs.List.{AllZip}
 use Rattle.std.specs.Option.{option_map_or}
 use Rattle.html_names.specs.Commands.{command_named}
@@ -11,33 +11,27 @@ use Rattle.edit_model.specs.Valid.{IsPlacedPair}
 use Rattle.edit_model.specs.History.{Entry, begun, entry_of, joined_in}
 use Rattle.edit_model.specs.Laws.{KeepsMark}
 use Rattle.edit_model.specs.Outside.{outside_by, is_island}
-use Rattle.edit_actions.specs.ActiveRange.{affected_host}
 use Rattle.edit_laws.specs.BelowHost.{below}
 use Rattle.edit_laws.specs.Islands.{StaysBelow, IsTakenOut}
 use Rattle.edit_laws.specs.Order.{KeepsLeaves}
 use Rattle.edit_engine.specs.Commands.{row_of}
 use Rattle.edit_engine.specs.Editing.{Editing, undone}
-use Rattle.edit_engine.specs.Execution.{joins}
+use Rattle.edit_engine.specs.Going.{goes_on, joins_by}
 use Rattle.edit_engine.specs.HtmlAround.{KeepsHtmlAround}
 
--- the document without the children of the affected host is as before; without an affected host all
--- of it is
-abbrev pub KeepsOutside : Editing → Editing → Type 0
-KeepsOutside old new =
-    outside_by (affected_host old.state) new.state.trees
-    ≡ outside_by (affected_host old.state) old.state.trees
+-- the document without the children of the host is as before; without a host all of it is
+abbrev pub KeepsOutside : Option ℕ → Editing → Editing → Type 0
+KeepsOutside host old new = outside_by host new.state.trees ≡ outside_by host old.state.trees
 
--- of the HTML of the document only that of the children of the affected host may change
-abbrev pub KeepsHtml : Editing → Editing → Type 0
-KeepsHtml old new =
-    KeepsHtmlAround (affected_host old.state) old.state.trees new.state.trees
+-- of the HTML of the document only that of the children of the host may change
+abbrev pub KeepsHtml : Option ℕ → Editing → Editing → Type 0
+KeepsHtml host old new = KeepsHtmlAround host old.state.trees new.state.trees
 
 -- the marks keep their names and their order, and one whose points both stand apart from the host
 -- its place
-abbrev pub KeepsMarks : Editing → Editing → Type 0
-KeepsMarks old new =
-    AllZip (KeepsMark (affected_host old.state) old.state.trees) old.state.points.marks
-    new.state.points.marks
+abbrev pub KeepsMarks : Option ℕ → Editing → Editing → Type 0
+KeepsMarks host old new =
+    AllZip (KeepsMark host old.state.trees) old.state.points.marks new.state.points.marks
 
 -- where something was selected something is, and both its points stand in the document
 abbrev pub KeepsSelection : Editing → Editing → Type 0
@@ -49,9 +43,9 @@ pub record HasEntry (old new : Editing) (ended : State) : Type 0 where
   pub older : List Entry
   pub is : new.history.undo ≡ entry_of old.state ended ∷ older
 
--- these edits have joined those of the last entry, as the editor was typing
+-- these edits have joined those of the last entry, which nothing had come after
 pub record HasJoined (old new : Editing) (ended : State) : Type 0 where
-  pub typing : old.typing ≡ true
+  pub goes_on : goes_on old.going ≡ true
   pub last : Entry
   pub older : List Entry
   pub was : old.history.undo ≡ last ∷ older
@@ -67,18 +61,18 @@ pub record IsGone (old new : Editing) (h l : ℕ) : Type 0 where
   pub entry : HasEntry old new ended ⊎ HasJoined old new ended
   pub taken : IsTakenOut (begun (Some h) keeping old.state) ended l
 
--- each island of the affected host stands below it, with an equal tree, or is gone
-abbrev pub KeepsIslands : Editing → Editing → Type 0
-KeepsIslands old new =
-    (h l : ℕ) → affected_host old.state ≡ Some h → is_island old.state.trees h l ≡ true
+-- each island of the host stands below it, with an equal tree, or is gone
+abbrev pub KeepsIslands : Option ℕ → Editing → Editing → Type 0
+KeepsIslands host old new =
+    (h l : ℕ) → host ≡ Some h → is_island old.state.trees h l ≡ true
     → StaysBelow old.state.trees new.state.trees h l ⊎ IsGone old new h l
 
--- where the name is that of a keeping command, what stands below the affected host bears the same
+-- where the name is that of a keeping command, what stands below the host bears the same
 -- characters, images and rules in the same order, and at most blanks may be missing
-abbrev pub KeepsCharacters : List ℕ → Editing → Editing → Type 0
-KeepsCharacters name old new =
+abbrev pub KeepsCharacters : Option ℕ → List ℕ → Editing → Editing → Type 0
+KeepsCharacters host name old new =
     (c : Command) (h : ℕ) → command_named name ≡ Some c → (row_of c).keeping ≡ true
-    → affected_host old.state ≡ Some h
+    → host ≡ Some h
     → KeepsLeaves (below old.state.trees h) (below new.state.trees h)
 
 -- what is seen of two editors is the same: the document, the selection and the marks
@@ -87,12 +81,12 @@ pub record IsSeenAs (a b : Editing) : Type 0 where
   pub selection : a.state.points.selection ≡ b.state.points.selection
   pub marks : a.state.points.marks ≡ b.state.points.marks
 
--- whether the edits of the command that the name names join the last entry
-abbrev pub joins_last : Editing → List ℕ → Bool
-joins_last e name = option_map_or (joins e) (command_named name) false
+-- whether the edits of the command that the name names join the last entry, of a joined one or not
+abbrev pub joins_last : (joined : Bool) → Editing → List ℕ → Bool
+joins_last joined e name = option_map_or (joins_by joined e.going) (command_named name) false
 
--- Undo gives back what was seen before a command, unless its edits joined those of the entry before,
--- or it made none, and the history is as before.
-abbrev pub GivesBack : List ℕ → Editing → Editing → Type 0
-GivesBack name old new =
-    joins_last old name ≡ false → (new.history ≡ old.history) ⊎ IsSeenAs (undone new) old
+-- Undo gives back what was seen before a command, or where its edits join those of the last entry,
+-- what undo would have given back before it. Or the command made none, and the history is as before.
+abbrev pub GivesBack : (joining : Bool) → Editing → Editing → Type 0
+GivesBack false old new = (new.history ≡ old.history) ⊎ IsSeenAs (undone new) old
+GivesBack true old new = (new.history ≡ old.history) ⊎ IsSeenAs (undone new) (undone old)

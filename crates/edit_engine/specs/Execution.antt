@@ -1,20 +1,25 @@
 -- What executing a command comes to (HTML Editing APIs, "execCommand()").
-use Rattle.std.specs.Prelude.{◌≡◌, ◌⊎◌, ℕ, nat_lt, Bool, true, false, not, ◌&&◌, ◌||◌, List, length, Result, Ok, Err, if◌then◌else◌}
+use Rattle.std.specs.Prelude.{◌≡◌, ◌⊎◌, ℕ, nat_lt, Bool, true, false, not, List, length, Option, Some, None, Result, Ok, Err, if◌then◌else◌}
 use Rattle.std.specs.Option.{option_map_or}
 use Rattle.command_gate.specs.Denied.{is_denied}
 use Rattle.html_names.specs.Commands.{command_named}
 use Rattle.html_names.specs.declared.commands.Command.{Command}
+use Rattle.html_names.specs.declared.commands.Command.TheVariants.{InsertText}
 use Rattle.dom_model.specs.Document.{page_depth}
 use Rattle.edit_model.specs.State.{State}
 use Rattle.edit_model.specs.History.{rested, begun, recorded}
-use Rattle.edit_model.specs.Run.{Run, final, value}
+use Rattle.edit_model.specs.Run.{Run, ◌>>◌, final, value, select}
+use Rattle.live_range.specs.declared.places.Pair.{Pair}
 use Rattle.edit_engine.specs.declared.answers.Answer.{Answer}
 use Rattle.edit_engine.specs.declared.answers.Answer.TheVariants.{Yes, No}
 use Rattle.edit_engine.specs.declared.answers.ExecFault.{ExecFault}
 use Rattle.edit_engine.specs.declared.answers.ExecFault.TheVariants as fault
-use Rattle.edit_engine.specs.Commands.{row_of, types_text, action_of, is_enabled}
+use Rattle.edit_engine.specs.declared.answers.ReplaceFault.{ReplaceFault}
+use Rattle.edit_engine.specs.declared.answers.ReplaceFault.TheVariants as unreplaced
+use Rattle.edit_engine.specs.Commands.{row_of, action_of, is_enabled_in}
+use Rattle.edit_engine.specs.Going.{joins_by, going_after}
 use Rattle.edit_engine.specs.Editing.{Editing}
-use Rattle.edit_actions.specs.ActiveRange.{affected_host}
+use Rattle.edit_actions.specs.ActiveRange.{affected_host, host_of_pair}
 
 -- refused without a change: unsupported or not enabled, too deep a document, or a run past the cap;
 -- or the action's answer and the editor after it
@@ -28,58 +33,68 @@ pub data Outcome : Type 0 where
 abbrev pub depth_limit : ℕ
 depth_limit = 250
 
--- ---- a run between begin and commit, of a command that is a keeping one or not
+-- ---- where a command works: at the selection, or at a range that it selects first
 
-abbrev pub began : State → Bool → State
-began s keeping = begun (affected_host s) keeping s
+abbrev pub host_at : Option Pair → State → Option ℕ
+host_at None s = affected_host s
+host_at (Some range) s = host_of_pair s.trees range
 
--- the state in which the run ends, and its answer
-abbrev pub ran : State → Bool → Run Bool → State
-ran s keeping m = final m (began s keeping)
+abbrev pub run_at : Option Pair → Run Bool → Run Bool
+run_at None m = m
+run_at (Some range) m = select range.anchor range.focus >> m
 
-abbrev pub answered : State → Bool → Run Bool → Bool
-answered s keeping m = value m (began s keeping)
+-- ---- a run between begin and commit in a host, of a command that is a keeping one or not: the
+-- state in which it ends, and its answer
 
--- ---- typing: the edits of one insertText after another share an entry
+abbrev pub ran : Option ℕ → State → Bool → Run Bool → State
+ran host s keeping m = final m (begun host keeping s)
 
--- whether the edits of a command join the last entry
-abbrev pub joins : Editing → Command → Bool
-joins e c = e.typing && types_text c
-
--- an insertText with an edit begins the typing, and one without leaves it as it is; any other
--- command ends it
-abbrev pub typing_after : Editing → Command → State → Bool
-typing_after e c t = types_text c && (e.typing || nat_lt 0 (length t.edits))
+abbrev pub answered : Option ℕ → State → Bool → Run Bool → Bool
+answered host s keeping m = value m (begun host keeping s)
 
 -- the editor after a run of a command: with an edit the history has an entry for it, or its last
 -- one is longer
-abbrev pub after_run : Editing → Command → State → Editing
-after_run e c t = record {
+abbrev pub after_run : Editing → (joining : Bool) → Command → State → Editing
+after_run e joining c t = record {
   state = rested t;
-  history = recorded (joins e c) e.state t e.history;
-  typing = typing_after e c t;
+  history = recorded joining e.state t e.history;
+  going = going_after e.going joining c (nat_lt 0 (length t.edits));
 }
 
 -- execute a command, steps 4 to 6: a run that answers false is taken back
-unfoldable pub run_outcome : Editing → Command → Run Bool → Outcome
-run_outcome e c m =
-    if nat_lt e.state.cap (ran e.state (row_of c).keeping m).next then Full
-    else (if answered e.state (row_of c).keeping m
-    then Acted true (after_run e c (ran e.state (row_of c).keeping m))
+unfoldable pub run_outcome : Editing → Option ℕ → (joining : Bool) → Command → Run Bool → Outcome
+run_outcome e host joining c m =
+    if nat_lt e.state.cap (ran host e.state (row_of c).keeping m).next then Full
+    else (if answered host e.state (row_of c).keeping m
+    then Acted true (after_run e joining c (ran host e.state (row_of c).keeping m))
     else Acted false e)
 
 -- ---- commands
 
 -- execute a command, steps 2 and 3, and then from 4 on
-unfoldable pub command_outcome : Editing → List ℕ → Command → Outcome
-command_outcome e v c =
-    if not (is_enabled e.state c) then Refused
+unfoldable pub command_outcome : Editing → Option Pair → (joining : Bool) → List ℕ → Command
+    → Outcome
+command_outcome e at joining v c =
+    if not (is_enabled_in (host_at at e.state) c) then Refused
     else (if nat_lt depth_limit (page_depth e.state.trees) then Deep
-    else run_outcome e c (action_of c v))
+    else run_outcome e (host_at at e.state) joining c (run_at at (action_of c v)))
 
--- execute a command, step 1, and then from 2 on
-unfoldable pub outcome : Editing → List ℕ → List ℕ → Outcome
-outcome e name v = option_map_or (command_outcome e v) (command_named name) Refused
+-- execute a command, step 1, and then from 2 on; a joined one or not
+unfoldable pub outcome_by : (joined : Bool) → Editing → List ℕ → List ℕ → Outcome
+outcome_by joined e name v =
+    option_map_or (λ c. command_outcome e None (joins_by joined e.going c) v c)
+    (command_named name) Refused
+
+abbrev pub outcome : Editing → List ℕ → List ℕ → Outcome
+outcome e name v = outcome_by false e name v
+
+abbrev pub joined_outcome : Editing → List ℕ → List ℕ → Outcome
+joined_outcome e name v = outcome_by true e name v
+
+-- execute insertText at a range: typing goes on with it
+abbrev pub replaced_outcome : Editing → Pair → List ℕ → Outcome
+replaced_outcome e range v =
+    command_outcome e (Some range) (joins_by false e.going InsertText) v InsertText
 
 -- execute a command where names are denied; `outcome` is the case without denied names
 unfoldable pub gated_outcome : List (List ℕ) → Editing → List ℕ → List ℕ → Outcome
@@ -93,3 +108,11 @@ Tells (Ok No) old new o = ((o ≡ Refused) ⊎ (o ≡ Acted false new)) × (new 
 Tells (Err fault.Full) old new o = (o ≡ Full) × (new ≡ old)
 Tells (Err fault.Deep) old new o = (o ≡ Deep) × (new ≡ old)
 Tells (Err fault.Memory) old new o = new ≡ old
+
+-- of a replacement at a range that stands in the document
+abbrev pub TellsReplaced : Result Answer ReplaceFault → Editing → Editing → Outcome → Type 0
+TellsReplaced (Ok answer) old new o = Tells (Ok answer) old new o
+TellsReplaced (Err unreplaced.BadPlace) old new o = ⊥
+TellsReplaced (Err unreplaced.Full) old new o = Tells (Err fault.Full) old new o
+TellsReplaced (Err unreplaced.Deep) old new o = Tells (Err fault.Deep) old new o
+TellsReplaced (Err unreplaced.Memory) old new o = Tells (Err fault.Memory) old new o

@@ -1,6 +1,7 @@
 pub mod Framing
 pub mod Commands
 pub mod Following
+pub mod Going
 pub mod Editing
 pub mod Changes
 pub mod Turning

@@ -28,11 +28,14 @@ pair_of (Some anchor) focus = option_map (λ p. record { anchor = anchor; focus 
 unfoldable pub pair_at : Forest Content → Place → Place → Option Pair
 pair_at f anchor focus = pair_of (point_at f anchor) (point_at f focus)
 
+abbrev pub pair_from : Point → Point → Pair
+pair_from anchor focus = record { anchor = anchor; focus = focus }
+
 -- the pair of two points; none where one of them stands in no node of the document, or past its end
 unfoldable pub placed_pair : Forest Content → Point → Point → Option Pair
 placed_pair f anchor focus =
     if is_placed f anchor && is_placed f focus
-    then Some (record { anchor = anchor; focus = focus }) else None
+    then Some (pair_from anchor focus) else None
 
 -- ---- the editor after a selecting act, which ends the typing
 

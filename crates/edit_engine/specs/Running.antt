@@ -1,5 +1,5 @@
 -- A document after one command on it.
-use Rattle.std.specs.Prelude.{◌≡◌, nat_lt, Bool, true, false, length, Result, Ok, Err, Option, Some, None}
+use Rattle.std.specs.Prelude.{◌≡◌, ℕ, nat_lt, Bool, true, false, length, Result, Ok, Err, Option, Some, None}
 use Rattle.undo_log.specs.declared.log.Committed.{Committed}
 use Rattle.undo_log.specs.declared.log.Committed.TheVariants as committed
 use Rattle.edit_model.specs.State.{State, IsPastCap}
@@ -11,14 +11,15 @@ use Rattle.edit_doc.specs.Changes.{Lead, changes_past, resumed_at}
 use Rattle.edit_doc.specs.Whole.{Whole}
 use Rattle.edit_engine.specs.Execution.{ran, answered}
 
--- the run is made, within the cap, and answers true; it has an entry of its own, or joins the last
--- one
-pub record IsMade (old new : Whole) (joining keeping : Bool) (m : Run Bool) : Type 0 where
-  pub state : new.state ≡ rested (ran old.state keeping m)
-  pub history : new.history ≡ recorded joining old.state (ran old.state keeping m) old.history
+-- the run in a host is made, within the cap, and answers true; it has an entry of its own, or joins
+-- the last one
+pub record IsMade (old new : Whole) (host : Option ℕ) (joining keeping : Bool) (m : Run Bool)
+    : Type 0 where
+  pub state : new.state ≡ rested (ran host old.state keeping m)
+  pub history : new.history ≡ recorded joining old.state (ran host old.state keeping m) old.history
   pub closed : new.began ≡ None
-  pub answer : answered old.state keeping m ≡ true
-  pub within : IsPastCap (ran old.state keeping m) → ⊥
+  pub answer : answered host old.state keeping m ≡ true
+  pub within : IsPastCap (ran host old.state keeping m) → ⊥
 
 -- the document is as before
 pub record IsTakenBack (old new : Whole) : Type 0 where
@@ -27,10 +28,11 @@ pub record IsTakenBack (old new : Whole) : Type 0 where
   pub closed : new.began ≡ None
 
 -- the run answers false, within the cap, and is taken back
-pub record IsRefused (old new : Whole) (keeping : Bool) (m : Run Bool) : Type 0 where
+pub record IsRefused (old new : Whole) (host : Option ℕ) (keeping : Bool) (m : Run Bool)
+    : Type 0 where
   pub back : IsTakenBack old new
-  pub answer : answered old.state keeping m ≡ false
-  pub within : IsPastCap (ran old.state keeping m) → ⊥
+  pub answer : answered host old.state keeping m ≡ false
+  pub within : IsPastCap (ran host old.state keeping m) → ⊥
 
 abbrev pub has_entry : Committed → Bool
 has_entry committed.Nothing = false
@@ -41,13 +43,13 @@ abbrev pub TellsEdits : Committed → State → Type 0
 TellsEdits c t = has_entry c ≡ nat_lt 0 (length t.edits)
 
 -- what a call leaves that makes a run as one command, whatever the run
-abbrev pub Ran : Result (Option Committed) EditFault → Whole → Whole → (joining keeping : Bool)
-    → Run Bool → Type 0
-Ran (Ok (Some c)) old new joining keeping m =
-    IsMade old new joining keeping m × TellsEdits c (ran old.state keeping m)
-Ran (Ok None) old new joining keeping m = IsRefused old new keeping m
-Ran (Err fault) old new joining keeping m =
-    IsTakenBack old new × Fails fault (ran old.state keeping m)
+abbrev pub Ran : Result (Option Committed) EditFault → Whole → Whole → (host : Option ℕ)
+    → (joining keeping : Bool) → Run Bool → Type 0
+Ran (Ok (Some c)) old new host joining keeping m =
+    IsMade old new host joining keeping m × TellsEdits c (ran host old.state keeping m)
+Ran (Ok None) old new host joining keeping m = IsRefused old new host keeping m
+Ran (Err fault) old new host joining keeping m =
+    IsTakenBack old new × Fails fault (ran host old.state keeping m)
 
 -- what a host is told of the document then: the last entry tells what the command changed, past the
 -- edits that the entry had; or it made no edit, and nothing has changed

@@ -1,21 +1,24 @@
 //! The actions of commands, and the one frame in which they run.
 
-ghost use Rattle.std.specs.Prelude.{◌≡◌, ◌&&◌, ◌||◌, true, false, IfOk, OnErr};
-ghost use Rattle.edit_model.specs.Gives.{Gives};
+ghost use Rattle.std.specs.Prelude.{◌≡◌, true, IfOk, IfSome, OnErr, Some};
+ghost use Rattle.edit_model.specs.Action.{Select, acted};
+ghost use Rattle.edit_model.specs.Gives.{Gives, label_of};
+ghost use Rattle.edit_model.specs.Valid.{IsPlacedPair};
 ghost use Rattle.edit_doc.specs.Changes.{resumed_at};
-ghost use Rattle.edit_doc.specs.Held.{Keeps};
-ghost use Rattle.edit_doc.specs.Whole.{IsOpen, IsClosed, opened};
-ghost use Rattle.edit_actions.specs.ActiveRange.{affected_host};
-ghost use Rattle.edit_engine.specs.Commands.{is_value, set_css_styling, set_separator, own_action, action_of, row_of, types_text};
+ghost use Rattle.edit_doc.specs.Held.{Finds, IfHeld, Keeps};
+ghost use Rattle.edit_doc.specs.Whole.{IsOpen, IsClosed, opened, with_state};
+ghost use Rattle.edit_actions.specs.ActiveRange.{host_of_pair};
+ghost use Rattle.edit_engine.specs.Commands.{is_value, set_css_styling, set_separator, own_action, action_of, row_of};
 ghost use Rattle.edit_engine.specs.Editing.{IsJoinable};
+ghost use Rattle.edit_engine.specs.Execution.{host_at, run_at};
 ghost use Rattle.edit_engine.specs.Framing.{restore_at_caret, give_back, recorded_action};
-ghost use Rattle.edit_engine.specs.Running.{Ran, TellsChange, has_entry};
+ghost use Rattle.edit_engine.specs.Running.{Ran, TellsChange};
 
-use crate::commands::{is_value, row_of, types_text};
+use crate::commands::{is_value, row_of};
 use block_commands::{format_block, justify};
 use css_value::TextAlign;
-use edit_actions::affected_host;
-use edit_doc::{Committed, Doc, EditFault, Flags};
+use edit_actions::{affected_host, ends_of};
+use edit_doc::{Committed, Doc, EditFault, Flags, NodeRef, Pair};
 use edit_query::is_caret;
 use html_names::Command;
 use inline_commands::{
@@ -171,30 +174,84 @@ fn take_action(
     }
 }
 
-/// Whether the edits of a command join the last entry.
-pub(crate) fn joins(typing: bool, command: Command) -> bool
-    ensures { result ≡ (typing && types_text command) }
+/// The affected editing host: that of the selection, or of the range where a command is told one.
+pub(crate) fn host_at(doc: &Doc, at: Option<Pair>) -> Option<NodeRef>
+    requires { IfSome at (IsPlacedPair doc.now.state.trees) }
+    ensures { Finds doc.now result (host_at at doc.now.state) }
 {
-    typing && types_text(command)
+    match at {
+        Some(range) => host_of_range(doc, range),
+        None => affected_host(doc),
+    }
 }
 
-/// Whether the editor is typing after the command: an insertText begins it by an edit, and goes on
-/// without one.
-pub(crate) fn types_on(typing: bool, command: Command, committed: Committed) -> bool
-    ensures { result ≡ (types_text command && (typing || has_entry committed)) }
+#[tactic(auto, using(edit_actions::proofs::Placed::placed_here), unfolding(edit_actions::specs::ActiveRange::host_of_pair))]
+fn host_of_range(doc: &Doc, range: Pair) -> Option<NodeRef>
+    requires { IsPlacedPair doc.now.state.trees range }
+    ensures { Finds doc.now result (host_of_pair doc.now.state.trees range) }
 {
-    types_text(command) && (typing || matches!(committed, Committed::Entry))
+    node_tests::affected_host(doc, ends_of(doc, range))
+}
+
+// Selects a range.
+fn select_range(doc: &mut Doc, range: Pair)
+    ensures selected { doc.new
+        ≡ with_state doc.old (acted (Select range.anchor range.focus) doc.old.state) }
+    ensures keeps { Keeps doc.old doc.new }
+{
+    doc.select(range.anchor, range.focus);
+}
+
+// The action of a command on a range, which is selected first.
+#[tactic(auto, using(edit_model::proofs::Steps::steps, edit_model::proofs::Steps::exits))]
+fn act_on(
+    alloc: Global,
+    doc: &mut Doc,
+    range: Pair,
+    command: Command,
+    value: &[char],
+) -> Result<bool, EditFault>
+    requires open { IsOpen doc.old }
+    ensures gives { Gives result doc.old.state doc.new.state
+        (run_at (Some range) (action_of command value.now)) }
+    ensures keeps { Keeps doc.old doc.new }
+{
+    select_range(doc, range);
+    take_action(alloc, doc, command, value)
+}
+
+// The action of a command at the selection, or on a range where it is told one.
+fn act_at(
+    alloc: Global,
+    doc: &mut Doc,
+    at: Option<Pair>,
+    command: Command,
+    value: &[char],
+) -> Result<bool, EditFault>
+    requires open { IsOpen doc.old }
+    ensures gives { Gives result doc.old.state doc.new.state
+        (run_at at (action_of command value.now)) }
+    ensures keeps { Keeps doc.old doc.new }
+{
+    match at {
+        Some(range) => act_on(alloc, doc, range, command, value),
+        None => take_action(alloc, doc, command, value),
+    }
 }
 
 // Execute a command, step 4. The edits of a command that joins the last entry go there.
-fn open(doc: &mut Doc, joining: bool, keeping: bool) -> Result<(), AllocError>
+fn open(
+    doc: &mut Doc,
+    host: Option<NodeRef>,
+    joining: bool,
+    keeping: bool,
+) -> Result<(), AllocError>
     requires closed { IsClosed doc.old }
-    requires joinable { joining ≡ true → IsJoinable doc.old.history × (keeping ≡ false) }
-    ensures opened { IfOk result (λ _. doc.new
-        ≡ opened (affected_host doc.old.state) keeping joining doc.old) }
+    requires host_held { IfHeld doc.old host }
+    requires joinable { joining ≡ true → IsJoinable doc.old.history }
+    ensures opened { IfOk result (λ _. doc.new ≡ opened (label_of host) keeping joining doc.old) }
     ensures err { OnErr result (doc.new ≡ doc.old) }
 {
-    let host = affected_host(doc);
     if joining {
         doc.resume(host, keeping)?;
         return Ok(());
@@ -215,19 +272,21 @@ pub(crate) fn kept_edits(doc: &Doc, joining: bool) -> usize
 pub(crate) fn run_command(
     alloc: Global,
     doc: &mut Doc,
+    at: Option<Pair>,
     joining: bool,
     command: Command,
     value: &[char],
 ) -> Result<Option<Committed>, EditFault>
     requires closed { IsClosed doc.old }
-    requires joinable { joining ≡ true → IsJoinable doc.old.history
-        × ((row_of command).keeping ≡ false) }
-    ensures ran { Ran result doc.old doc.new joining (row_of command).keeping
-        (action_of command value.now) }
+    requires placed { IfSome at (IsPlacedPair doc.old.state.trees) }
+    requires joinable { joining ≡ true → IsJoinable doc.old.history }
+    ensures ran { Ran result doc.old doc.new (host_at at doc.old.state) joining
+        (row_of command).keeping (run_at at (action_of command value.now)) }
     ensures told { TellsChange result doc.old doc.new joining }
 {
-    open(doc, joining, row_of(command).keeping)?;
-    match take_action(alloc, doc, command, value) {
+    let host = host_at(doc, at);
+    open(doc, host, joining, row_of(command).keeping)?;
+    match act_at(alloc, doc, at, command, value) {
         Ok(true) => {
             doc.valid();
             doc.changes_lead_so_far();

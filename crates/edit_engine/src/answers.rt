@@ -63,6 +63,47 @@ impl From<EditFault> for ExecFault {
     }
 }
 
+/// Why a range was not replaced. The editor is as before.
+#[derive(Clone, Copy, PartialEq, Eq, Debug)]
+pub enum ReplaceFault {
+    /// An end of the range stands in no node of the document, or is past its length.
+    BadPlace = 1,
+    /// It would have drawn a label that isn't below the cap.
+    Full = 2,
+    /// The document is deeper than 250.
+    Deep = 3,
+    /// There is no memory for it.
+    Memory = 4,
+}
+
+impl fmt::Display for ReplaceFault {
+    fn fmt<W: fmt::Write>(&self, f: &mut fmt::Formatter<W>) -> fmt::Result {
+        f.write_str(match self {
+            ReplaceFault::BadPlace => "the document has no such place",
+            ReplaceFault::Full => "no label is left below the cap",
+            ReplaceFault::Deep => "the document is too deep",
+            ReplaceFault::Memory => "out of memory",
+        })
+    }
+}
+
+impl Error for ReplaceFault {}
+
+impl From<ExecFault> for ReplaceFault {
+    ghost use Rattle.edit_engine.specs.Faults.{replace_fault};
+    ghost use Rattle.std.specs.Prelude.{◌≡◌};
+
+    ghost from_gives = { λ fault out. out ≡ replace_fault fault };
+
+    fn from(fault: ExecFault) -> ReplaceFault {
+        match fault {
+            ExecFault::Full => ReplaceFault::Full,
+            ExecFault::Deep => ReplaceFault::Deep,
+            ExecFault::Memory => ReplaceFault::Memory,
+        }
+    }
+}
+
 /// Why the log of an editor was not printed.
 #[derive(Clone, Copy, PartialEq, Eq, Debug)]
 pub enum LogFault {

@@ -10,25 +10,28 @@ ghost use Rattle.command_gate.specs.Denied.{is_denied};
 ghost use Rattle.node_paths.specs.Paths.{label_at};
 ghost use Rattle.edit_engine.specs.Changes.{CanFollow, changes_of};
 ghost use Rattle.edit_engine.specs.Commands.{action_of};
-ghost use Rattle.edit_engine.specs.Confinement.{KeepsOutside, KeepsHtml, KeepsSelection, KeepsMarks, KeepsIslands, KeepsCharacters, GivesBack};
+ghost use Rattle.edit_engine.specs.Confinement.{KeepsOutside, KeepsHtml, KeepsSelection, KeepsMarks, KeepsIslands, KeepsCharacters, GivesBack, joins_last};
 ghost use Rattle.edit_engine.specs.Editing.{EditorValue, IsJoinable, document, new_editing, undone, redone};
-ghost use Rattle.edit_engine.specs.Execution.{gated_outcome, outcome, command_outcome, run_outcome, Tells};
+ghost use Rattle.edit_actions.specs.ActiveRange.{affected_host, host_of_pair};
+ghost use Rattle.edit_engine.specs.Execution.{gated_outcome, outcome, joined_outcome, replaced_outcome, outcome_by, command_outcome, run_outcome, host_at, run_at, Tells, TellsReplaced};
 ghost use Rattle.edit_engine.specs.Following.{first_following};
+ghost use Rattle.edit_engine.specs.Going.{goes_on, joins_by};
 ghost use Rattle.edit_engine.specs.Labels.{KeepsLabels, DrawsLabels, HaveOneKind};
 ghost use Rattle.edit_engine.specs.Logs.{log_text};
-ghost use Rattle.edit_engine.specs.Places.{pair_at, placed_pair, selecting, unselecting, marking, unmarking, IsCrowded};
+ghost use Rattle.edit_engine.specs.Places.{pair_at, pair_from, placed_pair, selecting, unselecting, marking, unmarking, IsCrowded};
 ghost use Rattle.edit_engine.specs.Queries.{reply_of};
 ghost use Rattle.edit_engine.specs.Replaying.{LogReplays};
 ghost use Rattle.edit_engine.specs.ThereAndBack.{UndosComeBack, RedosComeBack};
 ghost use Rattle.edit_engine.specs.Views.{view_text};
 
-use crate::actions::{joins, kept_edits, run_command, types_on};
-use crate::answers::{Answer, ExecFault, LogFault, PlaceFault, ViewFault, ViewKind};
+use crate::actions::{host_at, kept_edits, run_command};
+use crate::answers::{Answer, ExecFault, LogFault, PlaceFault, ReplaceFault, ViewFault, ViewKind};
 use crate::following::{Following, LastChange};
+use crate::going::{Going, going_after, going_turned, joins_by};
 use crate::log::entry_lines;
 use crate::places::{node_at, pair_at, placed_pair};
 use crate::probe::probe_line;
-use crate::queries::{ask, is_enabled};
+use crate::queries::{ask, is_enabled_in};
 use crate::views::{html_line, points_lines, stat_line, tree_lines};
 use command_gate::{Asks, Gate};
 use document_edits::DocumentEdit;
@@ -49,8 +52,8 @@ const DEPTH_LIMIT: u32 = 250;
 #[derive(Drop)]
 pub struct Editor {
     doc: Doc,
-    // whether the edits of an insertText join the last entry
-    typing: bool,
+    // what the next command may go on with
+    going: Going,
     // for hosts that follow the document
     following: Following,
 }
@@ -62,9 +65,9 @@ impl Model for Editor {
 
     ghost coded = { value_code };
 
-    ghost view = { λ e. value_of e.doc e.typing e.following };
+    ghost view = { λ e. value_of e.doc e.going e.following };
 
-    ghost invariant = { λ e. IsResting e.doc e.typing e.following };
+    ghost invariant = { λ e. IsResting e.doc e.going e.following };
 }
 
 impl Editor {
@@ -80,7 +83,7 @@ impl Editor {
         let doc = Doc::new(alloc, arena, undo_depth)?;
         let editor = Editor {
             doc,
-            typing: false,
+            going: Going::Over,
             following: Following::new(),
         };
         editor.kept_nodes();
@@ -99,22 +102,78 @@ impl Editor {
     pub fn exec(&mut self, alloc: Global, name: &str, value: &[char]) -> Result<Answer, ExecFault>
         ensures tells { Tells result self.old.editing self.new.editing
             (outcome self.old.editing name.now value.now) }
-        ensures confined { KeepsOutside self.old.editing self.new.editing }
-        ensures html { KeepsHtml self.old.editing self.new.editing }
+        ensures confined { KeepsOutside (affected_host self.old.editing.state) self.old.editing self.new.editing }
+        ensures html { KeepsHtml (affected_host self.old.editing.state) self.old.editing self.new.editing }
         ensures labels { KeepsLabels self.old.editing self.new.editing }
         ensures drawn { DrawsLabels self.old.editing self.new.editing }
         ensures selection { KeepsSelection self.old.editing self.new.editing }
-        ensures marks { KeepsMarks self.old.editing self.new.editing }
-        ensures islands { KeepsIslands self.old.editing self.new.editing }
-        ensures characters { KeepsCharacters name.now self.old.editing self.new.editing }
-        ensures given_back { GivesBack name.now self.old.editing self.new.editing }
+        ensures marks { KeepsMarks (affected_host self.old.editing.state) self.old.editing self.new.editing }
+        ensures islands { KeepsIslands (affected_host self.old.editing.state) self.old.editing self.new.editing }
+        ensures characters { KeepsCharacters (affected_host self.old.editing.state) name.now self.old.editing self.new.editing }
+        ensures given_back { GivesBack (joins_last false self.old.editing name.now)
+            self.old.editing self.new.editing }
+        ensures needed { HoldsOnlyNeeded (document self.new) }
+        ensures followed { CanFollow self.old self.new }
+    {
+        self.exec_named(alloc, false, name, value)
+    }
+
+    /// Executes the command that a name names, as `exec` does, whose edits join the last entry, so
+    /// that one undo takes both back. That is so where a command made that entry, or made it longer,
+    /// and nothing has come between: no undo, no redo, no call that selects or marks, and no command
+    /// by `exec` that answered true without an edit. Otherwise it has an entry of its own. A command
+    /// that isn't taken counts for nothing.
+    pub fn exec_joined(
+        &mut self,
+        alloc: Global,
+        name: &str,
+        value: &[char],
+    ) -> Result<Answer, ExecFault>
+        ensures tells { Tells result self.old.editing self.new.editing
+            (joined_outcome self.old.editing name.now value.now) }
+        ensures confined { KeepsOutside (affected_host self.old.editing.state) self.old.editing self.new.editing }
+        ensures html { KeepsHtml (affected_host self.old.editing.state) self.old.editing self.new.editing }
+        ensures labels { KeepsLabels self.old.editing self.new.editing }
+        ensures drawn { DrawsLabels self.old.editing self.new.editing }
+        ensures selection { KeepsSelection self.old.editing self.new.editing }
+        ensures marks { KeepsMarks (affected_host self.old.editing.state) self.old.editing self.new.editing }
+        ensures islands { KeepsIslands (affected_host self.old.editing.state) self.old.editing self.new.editing }
+        ensures characters { KeepsCharacters (affected_host self.old.editing.state) name.now self.old.editing self.new.editing }
+        ensures given_back { GivesBack (joins_last true self.old.editing name.now)
+            self.old.editing self.new.editing }
+        ensures needed { HoldsOnlyNeeded (document self.new) }
+        ensures followed { CanFollow self.old self.new }
+    {
+        self.exec_named(alloc, true, name, value)
+    }
+
+    // Executes the command that a name names, as a joined one or not.
+    fn exec_named(
+        &mut self,
+        alloc: Global,
+        joined: bool,
+        name: &str,
+        value: &[char],
+    ) -> Result<Answer, ExecFault>
+        ensures tells { Tells result self.old.editing self.new.editing
+            (outcome_by joined self.old.editing name.now value.now) }
+        ensures confined { KeepsOutside (affected_host self.old.editing.state) self.old.editing self.new.editing }
+        ensures html { KeepsHtml (affected_host self.old.editing.state) self.old.editing self.new.editing }
+        ensures labels { KeepsLabels self.old.editing self.new.editing }
+        ensures drawn { DrawsLabels self.old.editing self.new.editing }
+        ensures selection { KeepsSelection self.old.editing self.new.editing }
+        ensures marks { KeepsMarks (affected_host self.old.editing.state) self.old.editing self.new.editing }
+        ensures islands { KeepsIslands (affected_host self.old.editing.state) self.old.editing self.new.editing }
+        ensures characters { KeepsCharacters (affected_host self.old.editing.state) name.now self.old.editing self.new.editing }
+        ensures given_back { GivesBack (joins_last joined self.old.editing name.now)
+            self.old.editing self.new.editing }
         ensures needed { HoldsOnlyNeeded (document self.new) }
         ensures followed { CanFollow self.old self.new }
     {
         self.doc.valid();
         match Command::named(name) {
             Some(command) => {
-                let answer = self.exec_command(alloc, command, value);
+                let answer = self.exec_command(alloc, None, joined, command, value);
                 self.kept_nodes();
                 answer
             }
@@ -122,6 +181,74 @@ impl Editor {
                 self.kept_nodes();
                 Ok(Answer::No)
             }
+        }
+    }
+
+    /// Puts a text in place of what stands between two points, each the label of a node and an
+    /// offset in it: selects it and inserts the text, as one command. As `insertText` does by `exec`
+    /// it joins a run of typing, and typing goes on after it. It is taken whole, or the editor is as
+    /// before, the selection too.
+    pub fn replace(
+        &mut self,
+        alloc: Global,
+        anchor: Point,
+        focus: Point,
+        text: &[char],
+    ) -> Result<Answer, ReplaceFault>
+        ensures tells { MatchOption (placed_pair self.old.editing.state.trees anchor focus)
+            ((result ≡ Err ReplaceFault.BadPlace) × (self.new ≡ self.old))
+            (λ range. TellsReplaced result self.old.editing self.new.editing
+            (replaced_outcome self.old.editing range text.now)) }
+        ensures confined { KeepsOutside (host_of_pair self.old.editing.state.trees (pair_from anchor focus)) self.old.editing self.new.editing }
+        ensures html { KeepsHtml (host_of_pair self.old.editing.state.trees (pair_from anchor focus)) self.old.editing self.new.editing }
+        ensures labels { KeepsLabels self.old.editing self.new.editing }
+        ensures drawn { DrawsLabels self.old.editing self.new.editing }
+        ensures selection { KeepsSelection self.old.editing self.new.editing }
+        ensures marks { KeepsMarks (host_of_pair self.old.editing.state.trees (pair_from anchor focus)) self.old.editing self.new.editing }
+        ensures islands { KeepsIslands (host_of_pair self.old.editing.state.trees (pair_from anchor focus)) self.old.editing self.new.editing }
+        ensures given_back { GivesBack (joins_by false self.old.editing.going Command.InsertText)
+            self.old.editing self.new.editing }
+        ensures needed { HoldsOnlyNeeded (document self.new) }
+        ensures followed { CanFollow self.old self.new }
+    {
+        self.doc.valid();
+        match placed_pair(&self.doc, anchor, focus) {
+            Some(range) => self.replace_range(alloc, range, text),
+            None => {
+                self.kept_nodes();
+                Err(ReplaceFault::BadPlace)
+            }
+        }
+    }
+
+    // Puts a text in place of a range.
+    fn replace_range(
+        &mut self,
+        alloc: Global,
+        range: Pair,
+        text: &[char],
+    ) -> Result<Answer, ReplaceFault>
+        requires { IsPlacedPair self.old.editing.state.trees range }
+        ensures tells { TellsReplaced result self.old.editing self.new.editing
+            (replaced_outcome self.old.editing range text.now) }
+        ensures confined { KeepsOutside (host_of_pair self.old.editing.state.trees range) self.old.editing self.new.editing }
+        ensures html { KeepsHtml (host_of_pair self.old.editing.state.trees range) self.old.editing self.new.editing }
+        ensures labels { KeepsLabels self.old.editing self.new.editing }
+        ensures drawn { DrawsLabels self.old.editing self.new.editing }
+        ensures selection { KeepsSelection self.old.editing self.new.editing }
+        ensures marks { KeepsMarks (host_of_pair self.old.editing.state.trees range) self.old.editing self.new.editing }
+        ensures islands { KeepsIslands (host_of_pair self.old.editing.state.trees range) self.old.editing self.new.editing }
+        ensures given_back { GivesBack (joins_by false self.old.editing.going Command.InsertText)
+            self.old.editing self.new.editing }
+        ensures needed { HoldsOnlyNeeded (document self.new) }
+        ensures followed { CanFollow self.old self.new }
+    {
+        self.doc.valid();
+        let answer = self.exec_command(alloc, Some(range), false, Command::InsertText, text);
+        self.kept_nodes();
+        match answer {
+            Ok(told) => Ok(told),
+            Err(fault) => Err(ReplaceFault::from(fault)),
         }
     }
 
@@ -138,15 +265,16 @@ impl Editor {
             × (self.new ≡ self.old) }
         ensures tells { Tells result self.old.editing self.new.editing
             (gated_outcome gate.now self.old.editing name.now value.now) }
-        ensures confined { KeepsOutside self.old.editing self.new.editing }
-        ensures html { KeepsHtml self.old.editing self.new.editing }
+        ensures confined { KeepsOutside (affected_host self.old.editing.state) self.old.editing self.new.editing }
+        ensures html { KeepsHtml (affected_host self.old.editing.state) self.old.editing self.new.editing }
         ensures labels { KeepsLabels self.old.editing self.new.editing }
         ensures drawn { DrawsLabels self.old.editing self.new.editing }
         ensures selection { KeepsSelection self.old.editing self.new.editing }
-        ensures marks { KeepsMarks self.old.editing self.new.editing }
-        ensures islands { KeepsIslands self.old.editing self.new.editing }
-        ensures characters { KeepsCharacters name.now self.old.editing self.new.editing }
-        ensures given_back { GivesBack name.now self.old.editing self.new.editing }
+        ensures marks { KeepsMarks (affected_host self.old.editing.state) self.old.editing self.new.editing }
+        ensures islands { KeepsIslands (affected_host self.old.editing.state) self.old.editing self.new.editing }
+        ensures characters { KeepsCharacters (affected_host self.old.editing.state) name.now self.old.editing self.new.editing }
+        ensures given_back { GivesBack (joins_last false self.old.editing name.now)
+            self.old.editing self.new.editing }
         ensures needed { HoldsOnlyNeeded (document self.new) }
         ensures followed { CanFollow self.old self.new }
     {
@@ -158,38 +286,53 @@ impl Editor {
         self.exec(alloc, name, value)
     }
 
-    // Executes a command.
+    // Executes a command at the selection, or on a range that it selects first, as a joined one or
+    // not.
     fn exec_command(
         &mut self,
         alloc: Global,
+        at: Option<Pair>,
+        joined: bool,
         command: Command,
         value: &[char],
     ) -> Result<Answer, ExecFault>
+        requires { IfSome at (IsPlacedPair self.old.editing.state.trees) }
         ensures tells { Tells result self.old.editing self.new.editing
-            (command_outcome self.old.editing value.now command) }
+            (command_outcome self.old.editing at (joins_by joined self.old.editing.going command)
+            value.now command) }
         ensures followed { CanFollow self.old self.new }
     {
-        if !is_enabled(&self.doc, command) {
+        if !is_enabled_in(host_at(&self.doc, at), command) {
             return Ok(Answer::No);
         }
         if self.doc.is_deeper_than(DEPTH_LIMIT) {
             return Err(ExecFault::Deep);
         }
-        self.run(alloc, command, value)
+        self.run(alloc, at, joined, command, value)
     }
 
     // Runs a command.
-    fn run(&mut self, alloc: Global, command: Command, value: &[char]) -> Result<Answer, ExecFault>
+    fn run(
+        &mut self,
+        alloc: Global,
+        at: Option<Pair>,
+        joined: bool,
+        command: Command,
+        value: &[char],
+    ) -> Result<Answer, ExecFault>
+        requires { IfSome at (IsPlacedPair self.old.editing.state.trees) }
         ensures tells { Tells result self.old.editing self.new.editing
-            (run_outcome self.old.editing command (action_of command value.now)) }
+            (run_outcome self.old.editing (host_at at self.old.editing.state)
+            (joins_by joined self.old.editing.going command) command
+            (run_at at (action_of command value.now))) }
         ensures followed { CanFollow self.old self.new }
     {
         self.doc.valid();
-        let joining = joins(self.typing, command);
+        let joining = joins_by(joined, self.going, command);
         let kept = kept_edits(&self.doc, joining);
-        match run_command(alloc, &mut self.doc, joining, command, value) {
+        match run_command(alloc, &mut self.doc, at, joining, command, value) {
             Ok(Some(committed)) => {
-                self.typing = types_on(self.typing, command, committed);
+                self.going = going_after(self.going, joining, command, committed);
                 self.following = self.following.commit(committed, kept);
                 Ok(Answer::Yes)
             }
@@ -240,7 +383,7 @@ impl Editor {
         match pair {
             Some(pair) => {
                 self.doc.select(pair.anchor, pair.focus);
-                self.typing = false;
+                self.going = Going::Over;
                 Ok(())
             }
             None => Err(PlaceFault::BadPlace),
@@ -253,7 +396,7 @@ impl Editor {
         ensures following { self.new.following ≡ self.old.following }
     {
         self.doc.unselect();
-        self.typing = false;
+        self.going = Going::Over;
     }
 
     /// Gives a name to a pair of points. A mark of that name keeps its place, and a new one goes
@@ -315,7 +458,7 @@ impl Editor {
         match pair {
             Some(pair) => {
                 self.doc.set_mark(name.as_slice(), pair)?;
-                self.typing = false;
+                self.going = Going::Over;
                 Ok(())
             }
             None => Err(PlaceFault::BadPlace),
@@ -328,7 +471,7 @@ impl Editor {
         ensures unmarked { self.new.editing ≡ unmarking self.old.editing name.now }
         ensures following { self.new.following ≡ self.old.following }
     {
-        self.typing = false;
+        self.going = Going::Over;
         self.doc.unset_mark(name.as_slice())
     }
 
@@ -345,7 +488,7 @@ impl Editor {
         self.doc.kept_nodes();
         let taken = self.doc.undo(steps);
         self.doc.changes_lead();
-        self.typing &= !taken;
+        self.going = going_turned(self.going, taken);
         self.following = self.following.undo(taken);
         self.kept_nodes();
         taken
@@ -364,13 +507,13 @@ impl Editor {
         self.doc.kept_nodes();
         let taken = self.doc.redo(steps);
         self.doc.changes_lead();
-        self.typing &= !taken;
+        self.going = going_turned(self.going, taken);
         self.following = self.following.redo(taken);
         self.kept_nodes();
         taken
     }
 
-    /// How many calls of exec, undo and redo changed something. A host that follows the document
+    /// How many calls changed something in the document. A host that follows the document
     /// sees by it whether a call did, and whether it missed one.
     pub fn revision(&self) -> u64
         ensures { result ≡ self.now.following.revision }
@@ -378,8 +521,8 @@ impl Editor {
         self.following.revision
     }
 
-    /// What the last call of exec, undo or redo that changed something changed in the document: edits
-    /// by the labels of nodes, from the first to the last. A tree that was the document before that
+    /// What the last call that changed something changed in the document: edits by the labels of
+    /// nodes, from the first to the last. A tree that was the document before that
     /// call, and follows them, is the document after it. The steps of the call are taken back and
     /// made again to be read; where memory runs out too.
     pub fn changes(&mut self, alloc: Global) -> Result<Vec<DocumentEdit>, AllocError>
@@ -475,7 +618,7 @@ impl Editor {
         ensures history { result.now.history ≡ self.now.editing.history }
         ensures held { result.now.held ≡ self.now.held }
         ensures needed { HoldsOnlyNeeded result.now }
-        ensures joinable { self.now.editing.typing ≡ true → IsJoinable result.now.history }
+        ensures joinable { goes_on self.now.editing.going ≡ true → IsJoinable result.now.history }
     {
         self.doc.kept_nodes();
         &self.doc

@@ -11,6 +11,7 @@ mod answers;
 mod commands;
 mod editor;
 mod following;
+mod going;
 mod laws;
 mod log;
 mod places;
@@ -20,7 +21,7 @@ mod texts;
 mod turning;
 mod views;
 
-pub use answers::{Answer, ExecFault, LogFault, PlaceFault, ViewFault, ViewKind};
+pub use answers::{Answer, ExecFault, LogFault, PlaceFault, ReplaceFault, ViewFault, ViewKind};
 pub use edit_query::Reply;
 pub use editor::Editor;
 pub use laws::{locked_span_is_island, refusals_leave_the_state, runs_are_plain};

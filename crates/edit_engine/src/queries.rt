@@ -1,21 +1,29 @@
 //! Questions about commands: when a command itself is asked.
 
 ghost use Rattle.std.specs.Prelude.{◌≡◌, IfOk};
-ghost use Rattle.edit_engine.specs.Commands.{is_enabled};
+ghost use Rattle.edit_model.specs.Gives.{label_of};
+ghost use Rattle.edit_engine.specs.Commands.{is_enabled, is_enabled_in};
 ghost use Rattle.edit_engine.specs.Queries.{asked_if_enabled, reply_for, reply_of};
 
 use crate::commands::row_of;
 use edit_actions::affected_host;
-use edit_doc::Doc;
+use edit_doc::{Doc, NodeRef};
 use edit_query::{Reply, no_reply, query};
 use html_names::{Command, QueryKind};
 use std::alloc::{AllocError, Global};
 
+/// Whether a command is enabled in an affected editing host, or without one.
+pub(crate) fn is_enabled_in(host: Option<NodeRef>, command: Command) -> bool
+    ensures { result ≡ is_enabled_in (label_of host) command }
+{
+    !row_of(command).needs_host || host.is_some()
+}
+
 #[tactic(auto, unfolding(crate::specs::Commands::is_enabled))]
-pub(crate) fn is_enabled(doc: &Doc, command: Command) -> bool
+fn is_enabled(doc: &Doc, command: Command) -> bool
     ensures { result ≡ is_enabled doc.now.state command }
 {
-    !row_of(command).needs_host || affected_host(doc).is_some()
+    is_enabled_in(affected_host(doc), command)
 }
 
 // The answer of a command that is looked at first.

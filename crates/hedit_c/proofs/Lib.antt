@@ -1,3 +1,4 @@
 mod Runs
 mod RawBoxes
 mod Handles
+mod Replacing

@@ -17,12 +17,16 @@ use Rattle.script_read.specs.declared.act.Place.{Place}
 use Rattle.edit_model.specs.History.{Entry}
 use Rattle.edit_query.specs.declared.reply.Reply.{Reply}
 use Rattle.edit_query.specs.declared.reply.Reply.TheVariants as reply
+use Rattle.edit_engine.specs.declared.answers.Answer.{Answer}
+use Rattle.edit_engine.specs.declared.answers.Answer.TheVariants as answer
+use Rattle.edit_engine.specs.declared.answers.ReplaceFault.{ReplaceFault}
+use Rattle.edit_engine.specs.declared.answers.ReplaceFault.TheVariants as replace_fault
 use Rattle.edit_engine.specs.declared.answers.PlaceFault.{PlaceFault}
 use Rattle.edit_engine.specs.declared.answers.PlaceFault.TheVariants as place_fault
 use Rattle.edit_engine.specs.declared.answers.ViewKind.{ViewKind}
 use Rattle.edit_engine.specs.declared.answers.ViewKind.TheVariants.{Html, Tree, Points, Stat}
 use Rattle.edit_engine.specs.Editing.{Editing, EditorValue, new_editing}
-use Rattle.edit_engine.specs.Execution.{Outcome, Acted, outcome, gated_outcome}
+use Rattle.edit_engine.specs.Execution.{Outcome, Acted, outcome_by, gated_outcome, replaced_outcome}
 use Rattle.edit_engine.specs.Execution as exec
 use Rattle.edit_engine.specs.Places.{pair_at, placed_pair, selecting, marking, unmarking, IsCrowded}
 use Rattle.edit_engine.specs.Queries.{reply_of}
@@ -120,10 +124,13 @@ ExecAnswers Deep old new o = (o ≡ exec.Deep) × (new ≡ old)
 ExecAnswers Memory old new o = new ≡ old
 ExecAnswers status old new o = ⊥
 
-abbrev pub ExecTells : Status → Editing → Editing → (name value : List ℕ) → Type 0
-ExecTells BadArgument old new name value = ¬ (IsUtf8 name × IsUtf8 value) × (new ≡ old)
-ExecTells status old new name value =
-    IsUtf8 name × IsUtf8 value × ExecAnswers status old new (outcome old name (chars value))
+-- of a joined command or not
+abbrev pub ExecTells : (joined : Bool) → Status → Editing → Editing → (name value : List ℕ)
+    → Type 0
+ExecTells joined BadArgument old new name value = ¬ (IsUtf8 name × IsUtf8 value) × (new ≡ old)
+ExecTells joined status old new name value =
+    IsUtf8 name × IsUtf8 value
+    × ExecAnswers status old new (outcome_by joined old name (chars value))
 
 -- past a gate, which denies the names of a list with a comma between
 abbrev pub GatedTells : Status → Editing → Editing → (denied name value : List ℕ) → Type 0
@@ -188,6 +195,29 @@ UnmarkTells No old new name =
     (has_mark name old.state.points ≡ false) × (new ≡ unmarking old name)
 UnmarkTells Memory old new name = new ≡ old
 UnmarkTells status old new name = ⊥
+
+-- ---- replacements
+
+-- the status of what a replacement answers
+abbrev pub replaced_status : Result Answer ReplaceFault → Status
+replaced_status (Ok answer.Yes) = Done
+replaced_status (Ok answer.No) = No
+replaced_status (Err replace_fault.BadPlace) = BadPlace
+replaced_status (Err replace_fault.Full) = Full
+replaced_status (Err replace_fault.Deep) = Deep
+replaced_status (Err replace_fault.Memory) = Memory
+
+-- the text stands in the place of the pair, where there is one
+abbrev pub ReplaceAnswers : Status → Editing → Editing → Option Pair → (text : List ℕ) → Type 0
+ReplaceAnswers BadPlace old new found text = (found ≡ None) × (new ≡ old)
+ReplaceAnswers Memory old new found text = new ≡ old
+ReplaceAnswers status old new found text =
+    IsSomeAnd found (λ range. ExecAnswers status old new (replaced_outcome old range text))
+
+abbrev pub ReplaceTells : Status → Editing → Editing → Option Pair → (text : List ℕ) → Type 0
+ReplaceTells BadArgument old new found text = ¬ (IsUtf8 text) × (new ≡ old)
+ReplaceTells status old new found text =
+    IsUtf8 text × ReplaceAnswers status old new found (chars text)
 
 -- ---- questions
 

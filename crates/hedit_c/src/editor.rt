@@ -3,11 +3,11 @@
 //! C may pass what it likes, so no export requires anything but what its types say: an argument
 //! without a meaning has a status of its own, and so has a handle without an editor.
 
-ghost use Rattle.std.specs.Prelude.{◌≡◌, None};
+ghost use Rattle.std.specs.Prelude.{◌≡◌, None, true, false};
 ghost use Rattle.std.specs.Option.{option_map};
 ghost use Rattle.edit_engine.specs.Editing.{undone, redone};
 ghost use Rattle.edit_engine.specs.Places.{unselecting};
-ghost use Rattle.hedit_c.specs.Calls.{editing_of, Leaves, Asks, Opens, ExecTells, GatedTells, QueryTells, ViewTells, SelectTells, MarkTells, UnmarkTells, pair_there, pair_of_points, place, point, taken_status, unselect_status};
+ghost use Rattle.hedit_c.specs.Calls.{editing_of, Leaves, Asks, Opens, ExecTells, GatedTells, QueryTells, ViewTells, SelectTells, MarkTells, UnmarkTells, ReplaceTells, pair_there, pair_of_points, place, point, taken_status, unselect_status};
 ghost use Rattle.hedit_c.specs.Following.{Between, StaysFollowed, KeepsFollowing, ChangesTell, RevisionTells};
 ghost use Rattle.node_texts.specs.NodeHtml.{node_html};
 ghost use Rattle.hedit_c.specs.Nodes.{NodeTells, LabelTells, PathTells, name_text, value_text, TextTells, attribute_name, attribute_value, AttributeTells, SelectionTells, NumbersTell};
@@ -25,7 +25,9 @@ pub(crate) mod status;
 mod subtrees;
 mod texts;
 
-use acts::{exec, exec_gated, mark, mark_points, redo, select, select_points, undo, unmark};
+use acts::{
+    exec, exec_gated, mark, mark_points, redo, replace, select, select_points, undo, unmark,
+};
 use answers::{query, view};
 use edit_doc::Point;
 use following::{changes, revision};
@@ -76,13 +78,66 @@ pub extern "C" fn hedit_close(alloc: Global, editor: &mut Handle)
 #[unsafe(no_mangle)]
 pub extern "C" fn hedit_exec(alloc: Global, editor: &mut Handle, name: &[u8], value: &[u8]) -> u32
     ensures told { Leaves result (editing_of editor.old.value) (editing_of editor.new.value)
-        (λ status old new. ExecTells status old new name.now value.now) }
+        (λ status old new. ExecTells false status old new name.now value.now) }
     ensures followed { StaysFollowed editor.old.value editor.new.value }
 {
     let Some(mut held) = editor.take(alloc) else {
         return Status::Closed.number();
     };
-    let status = exec(alloc, &mut held, name, value);
+    let status = exec(alloc, &mut held, false, name, value);
+    editor.put(held);
+    status.number()
+}
+
+/// Executes a command as `hedit_exec` does, whose edits join the last entry of the history, so that
+/// one undo takes both back: where a command made that entry, or made it longer, and nothing has
+/// come between.
+#[unsafe(no_mangle)]
+pub extern "C" fn hedit_exec_joined(
+    alloc: Global,
+    editor: &mut Handle,
+    name: &[u8],
+    value: &[u8],
+) -> u32
+    ensures told { Leaves result (editing_of editor.old.value) (editing_of editor.new.value)
+        (λ status old new. ExecTells true status old new name.now value.now) }
+    ensures followed { StaysFollowed editor.old.value editor.new.value }
+{
+    let Some(mut held) = editor.take(alloc) else {
+        return Status::Closed.number();
+    };
+    let status = exec(alloc, &mut held, true, name, value);
+    editor.put(held);
+    status.number()
+}
+
+/// Puts a text in UTF-8 in place of what stands between two points, each the label of a node and an
+/// offset in it, as one command: it is selected and insertText is executed, and typing goes on.
+#[unsafe(no_mangle)]
+pub extern "C" fn hedit_replace(
+    alloc: Global,
+    editor: &mut Handle,
+    anchor: u32,
+    anchor_offset: u32,
+    focus: u32,
+    focus_offset: u32,
+    text: &[u8],
+) -> u32
+    ensures told { Leaves result (editing_of editor.old.value) (editing_of editor.new.value)
+        (λ status old new. ReplaceTells status old new (pair_of_points old
+        (point anchor anchor_offset) (point focus focus_offset)) text.now) }
+    ensures followed { StaysFollowed editor.old.value editor.new.value }
+{
+    let Some(mut held) = editor.take(alloc) else {
+        return Status::Closed.number();
+    };
+    let status = replace(
+        alloc,
+        &mut held,
+        point(anchor, anchor_offset),
+        point(focus, focus_offset),
+        text,
+    );
     editor.put(held);
     status.number()
 }

@@ -95,7 +95,8 @@ fn edit(alloc: Global, editor: &mut Editor, screen: &mut Vec<u8>) -> Result<(), 
     }
     screen.extend_from_slice(told(editor.exec(alloc, "bold", &[])))?;
     show(alloc, editor, screen)?;
-    screen.extend_from_slice(told(editor.exec(alloc, "insertUnorderedList", &[])))?;
+    // one step of undo with the command before
+    screen.extend_from_slice(told(editor.exec_joined(alloc, "insertUnorderedList", &[])))?;
     show(alloc, editor, screen)?;
     screen.extend_from_slice(told(editor.exec(alloc, "createLink", &[])))?;
     editor.turn(Turn::Undo);

@@ -219,6 +219,18 @@ class Editor:
             return answer(self._call("hedit_exec_gated", *names, *words))
         return answer(self._call("hedit_exec", *words))
 
+    def exec_joined(self, name: str | bytes, value: str | bytes = "") -> bool:
+        """Executes a command as `exec` does, as one step of undo with the last one, where a command
+        made that step and nothing has come between."""
+        return answer(self._call("hedit_exec_joined", *text_words(name), *text_words(value)))
+
+    def replace(self, anchor: Place | Point, focus: Place | Point, text: str | bytes) -> bool:
+        """Puts a text in place of what stands between two places or points: selects it and inserts
+        the text, as one command, which goes on with a run of typing. False where there is no editing
+        host."""
+        points = (*self._point(anchor), *self._point(focus))
+        return answer(self._call("hedit_replace", *points, *text_words(text)))
+
     def undo(self) -> bool:
         """Takes a step back. False where there is none."""
         return answer(self._call("hedit_undo"))
@@ -330,14 +342,14 @@ class Editor:
         )
 
     def revision(self) -> int:
-        """How many calls of exec, undo and redo have changed the page. Where it is what it was before a
+        """How many calls have changed the page. Where it is what it was before a
         call, the call changed nothing."""
         number = ctypes.c_uint64()
         answer(self._call("hedit_revision", ctypes.byref(number)))
         return number.value
 
     def changes(self) -> list[Change]:
-        """What the last call of exec, undo or redo changed that changed something, from the first edit
+        """What the last call that changed something changed, from the first edit
         to the last. A tree that was the page before that call, and follows them, is the page."""
         status, data = read_text(lambda *buffer: self._call("hedit_changes", *buffer), 256)
         answer(status)

@@ -86,6 +86,8 @@ CALLS: dict[str, list[Any]] = {
     "hedit_close": EDITOR,
     "hedit_exec": EDITOR + TEXT + TEXT,
     "hedit_exec_gated": EDITOR + TEXT + TEXT + TEXT,
+    "hedit_exec_joined": EDITOR + TEXT + TEXT,
+    "hedit_replace": EDITOR + POINT + POINT + TEXT,
     "hedit_undo": EDITOR,
     "hedit_redo": EDITOR,
     "hedit_select": EDITOR + PLACE + PLACE,

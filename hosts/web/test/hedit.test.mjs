@@ -186,6 +186,46 @@ describe("an editor", () => {
   });
 });
 
+describe("several commands as one step", () => {
+  const open = (t) => {
+    const editor = engine.open(PAGE);
+    t.after(() => editor.close());
+    return editor;
+  };
+
+  it("join the last one", (t) => {
+    const editor = open(t);
+    editor.select(...NAME);
+    assert.equal(editor.exec("bold"), true);
+    assert.equal(editor.execJoined("createLink", "tel:1"), true);
+    assert.equal(editor.execJoined("createLink"), false);
+    assert.equal(editor.counts().undo, 1);
+    assert.equal(editor.undo(), true);
+    assert.equal(editor.html(), '<p contenteditable="">Call Ann</p>\n');
+    editor.exec("bold");
+    editor.select(...NAME);
+    editor.execJoined("italic");
+    assert.equal(editor.counts().undo, 2);
+  });
+
+  it("replace what is typed", (t) => {
+    const editor = open(t);
+    const label = editor.labelAt([0, 0]);
+    editor.select({ label, offset: 8 });
+    editor.exec("insertText", " teh");
+    assert.equal(editor.replace({ label, offset: 9 }, { label, offset: 12 }, "the"), true);
+    editor.exec("insertText", " 😀");
+    assert.equal(editor.html(), '<p contenteditable="">Call Ann the 😀</p>\n');
+    assert.equal(editor.counts().undo, 1);
+    assert.equal(editor.replace({ label: 0, offset: 0 }, { label: 0, offset: 0 }, "x"), false);
+    refused(
+      () => editor.replace({ label, offset: 0 }, { label, offset: 99 }, "x"),
+      "BadPlace",
+      Status.BAD_PLACE,
+    );
+  });
+});
+
 describe("denied names", () => {
   const open = (t) => {
     const editor = engine.open(PAGE);

@@ -3,17 +3,17 @@
 ghost use Rattle.std.specs.Prelude.{◌≡◌, nat_lt, length};
 ghost use Rattle.edit_engine.specs.Changes.{CanFollow};
 ghost use Rattle.edit_engine.specs.Editing.{Editing, undone, redone};
-ghost use Rattle.edit_engine.specs.Execution.{Outcome, Tells, outcome, gated_outcome};
+ghost use Rattle.edit_engine.specs.Execution.{Outcome, Tells, outcome_by, gated_outcome};
 ghost use Rattle.hedit_c.specs.Following.{KeepsFollowing};
 ghost use Rattle.std.specs.Str.{chars};
-ghost use Rattle.hedit_c.specs.Calls.{ExecAnswers, ExecTells, GatedTells, SelectTells, MarkTells, UnmarkTells, pair_there, pair_of_points, place, selected_status};
+ghost use Rattle.hedit_c.specs.Calls.{ExecAnswers, ExecTells, GatedTells, SelectTells, MarkTells, UnmarkTells, ReplaceAnswers, ReplaceTells, pair_there, pair_of_points, place, replaced_status, selected_status};
 
 use super::status::Status;
 use super::texts::place_of;
 use command_gate::{Gate, NameList};
 use dom_model::{Chars, Name};
 use edit_doc::Point;
-use edit_engine::{Answer, Editor, ExecFault, PlaceFault, Turn};
+use edit_engine::{Answer, Editor, ExecFault, PlaceFault, ReplaceFault, Turn};
 use edit_session::read_gate;
 use script_read::Place;
 use std::alloc::Global;
@@ -32,32 +32,42 @@ fn answered(answer: Result<Answer, ExecFault>) -> Status
     }
 }
 
-fn exec_chars(alloc: Global, editor: &mut Editor, name: &str, value: &Chars) -> Status
+fn exec_chars(alloc: Global, editor: &mut Editor, joined: bool, name: &str, value: &Chars) -> Status
     ensures told { ExecAnswers result editor.old.editing editor.new.editing
-        (outcome editor.old.editing name.now value.now) }
+        (outcome_by joined editor.old.editing name.now value.now) }
     ensures followed { CanFollow editor.old editor.new }
 {
-    answered(editor.exec(alloc, name, value.as_slice()))
+    if joined {
+        answered(editor.exec_joined(alloc, name, value.as_slice()))
+    } else {
+        answered(editor.exec(alloc, name, value.as_slice()))
+    }
 }
 
-fn exec_text(alloc: Global, editor: &mut Editor, name: &str, value: &str) -> Status
+fn exec_text(alloc: Global, editor: &mut Editor, joined: bool, name: &str, value: &str) -> Status
     ensures told { ExecAnswers result editor.old.editing editor.new.editing
-        (outcome editor.old.editing name.now (chars value.now)) }
+        (outcome_by joined editor.old.editing name.now (chars value.now)) }
     ensures followed { CanFollow editor.old editor.new }
 {
     match Chars::from_text(alloc, value) {
-        Ok(value) => exec_chars(alloc, editor, name, &value),
+        Ok(value) => exec_chars(alloc, editor, joined, name, &value),
         Err(_) => Status::Memory,
     }
 }
 
-/// Executes a command by its name and its value, both in UTF-8.
-pub(crate) fn exec(alloc: Global, editor: &mut Editor, name: &[u8], value: &[u8]) -> Status
-    ensures told { ExecTells result editor.old.editing editor.new.editing name.now value.now }
+/// Executes a command by its name and its value, both in UTF-8, as a joined one or not.
+pub(crate) fn exec(
+    alloc: Global,
+    editor: &mut Editor,
+    joined: bool,
+    name: &[u8],
+    value: &[u8],
+) -> Status
+    ensures told { ExecTells joined result editor.old.editing editor.new.editing name.now value.now }
     ensures followed { CanFollow editor.old editor.new }
 {
     match (str::from_utf8(name), str::from_utf8(value)) {
-        (Ok(name), Ok(value)) => exec_text(alloc, editor, name, value),
+        (Ok(name), Ok(value)) => exec_text(alloc, editor, joined, name, value),
         _ => Status::BadArgument,
     }
 }
@@ -97,6 +107,71 @@ pub(crate) fn exec_gated(
         Ok(Some(gate)) => exec_past(alloc, editor, &gate, name, value),
         Ok(None) => Status::BadArgument,
         Err(_) => Status::Memory,
+    }
+}
+
+// The status of a replacement's answer.
+fn replaced(answer: Result<Answer, ReplaceFault>) -> Status
+    ensures { result ≡ replaced_status answer }
+{
+    match answer {
+        Ok(answer) => match answer {
+            Answer::Yes => Status::Done,
+            Answer::No => Status::No,
+        },
+        Err(ReplaceFault::BadPlace) => Status::BadPlace,
+        Err(ReplaceFault::Full) => Status::Full,
+        Err(ReplaceFault::Deep) => Status::Deep,
+        Err(ReplaceFault::Memory) => Status::Memory,
+    }
+}
+
+fn replace_chars(
+    alloc: Global,
+    editor: &mut Editor,
+    anchor: Point,
+    focus: Point,
+    text: &Chars,
+) -> Status
+    ensures told { ReplaceAnswers result editor.old.editing editor.new.editing
+        (pair_of_points editor.old.editing anchor focus) text.now }
+    ensures followed { CanFollow editor.old editor.new }
+{
+    replaced(editor.replace(alloc, anchor, focus, text.as_slice()))
+}
+
+fn replace_text(
+    alloc: Global,
+    editor: &mut Editor,
+    anchor: Point,
+    focus: Point,
+    text: &str,
+) -> Status
+    ensures told { ReplaceAnswers result editor.old.editing editor.new.editing
+        (pair_of_points editor.old.editing anchor focus) (chars text.now) }
+    ensures followed { CanFollow editor.old editor.new }
+{
+    match Chars::from_text(alloc, text) {
+        Ok(text) => replace_chars(alloc, editor, anchor, focus, &text),
+        Err(_) => Status::Memory,
+    }
+}
+
+/// Puts a text in UTF-8 in place of what stands between two points.
+pub(crate) fn replace(
+    alloc: Global,
+    editor: &mut Editor,
+    anchor: Point,
+    focus: Point,
+    text: &[u8],
+) -> Status
+    ensures told { ReplaceTells result editor.old.editing editor.new.editing
+        (pair_of_points editor.old.editing anchor focus) text.now }
+    ensures followed { CanFollow editor.old editor.new }
+{
+    match str::from_utf8(text) {
+        Ok(text) => replace_text(alloc, editor, anchor, focus, text),
+        Err(_) => Status::BadArgument,
     }
 }
 

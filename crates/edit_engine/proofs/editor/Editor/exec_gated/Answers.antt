@@ -1,7 +1,11 @@
-use Rattle.std.proofs.Common.{◌≡◌, true, false, true≢false, sym, ap, ◌∙◌, inl, refl}
+use Rattle.std.proofs.Common.{◌≡◌, true, false, true≢false, None, sym, ap, ◌∙◌, inl, refl}
 use Rattle.command_gate.specs.Denied.{is_denied}
+use Rattle.html_names.specs.declared.commands.Command.TheVariants.{InsertText}
+use Rattle.edit_engine.specs.Confinement.{joins_last}
 use Rattle.edit_engine.specs.Editing.{EditorValue}
-use Rattle.edit_engine.proofs.Confining.{standing, outside_kept, html_kept, labels_kept, selection_kept, marks_kept, islands_kept, characters_kept, given_back}
+use Rattle.edit_engine.specs.Going.{joins_by}
+use Rattle.edit_engine.proofs.Confining.{standing, outside_kept, html_kept, labels_kept, selection_kept, marks_kept, islands_kept, same_back, same_characters}
+use Rattle.edit_engine.proofs.GoingOn.{joins_on}
 use Rattle.edit_engine.proofs.Outcomes.{denied_outcome, allowed_outcome}
 use Rattle.edit_engine.proofs.editor.Editor.exec_gated.Goals as goal
 
@@ -11,20 +15,22 @@ returns-then-denies g c =
     let name = c.args.name.now in
     let v = c.args.value.now in
     let denied = c.args.gate.now in
-    let stands = standing c.self.inside.doc c.self.inside.typing c.self.inside.following old (ap (λ (e : EditorValue). e.editing) c.self.view_is) c.self.invariant c.valid.ensures in
+    let stands = standing c.self.inside.doc c.self.inside.going c.self.inside.following old (ap (λ (e : EditorValue). e.editing) c.self.view_is) c.self.invariant c.valid.ensures in
+    let joins = joins_on false old.going InsertText in
+    let joining = joins_by false old.going InsertText in
     let is : is_denied denied name ≡ true = ap (is_denied denied) (sym c.as_bytes.ensures.value) ∙ (sym c.denies.ensures ∙ c.if-denies.true) in
     record {
       denied = λ _. (refl, refl);
       tells = (inl (denied_outcome denied old name v is), refl);
-      confined = outside_kept old old name v stands (inl refl);
-      html = html_kept old old name v stands (inl refl);
-      labels = (labels_kept old old name v stands (inl refl)).0;
-      drawn = (labels_kept old old name v stands (inl refl)).1;
-      selection = selection_kept old old name v stands (inl refl);
-      marks = marks_kept old old name v stands (inl refl);
-      islands = islands_kept old old name v stands (inl refl);
-      characters = characters_kept old old name v stands (inl refl);
-      given_back = given_back old old name v stands (inl refl);
+      confined = outside_kept old old None joining InsertText v joins stands (inl refl);
+      html = html_kept old old None joining InsertText v joins stands (inl refl);
+      labels = (labels_kept old old None joining InsertText v joins stands (inl refl)).0;
+      drawn = (labels_kept old old None joining InsertText v joins stands (inl refl)).1;
+      selection = selection_kept old old None joining InsertText v joins stands (inl refl);
+      marks = marks_kept old old None joining InsertText v joins stands (inl refl);
+      islands = islands_kept old old None joining InsertText v joins stands (inl refl);
+      characters = same_characters old name;
+      given_back = same_back (joins_last false old name) old old refl;
       needed = c.kept_nodes.ensures;
       followed = inl (refl, refl);
     }

@@ -9,4 +9,4 @@ returns c =
     let led = c.led_onward.ensures in
     let inside = c.self.inside in
     subst (λ (e : EditorValue). LogReplays e.editing) c.self.view_is
-    (log_replays (record { state = inside.doc.state; history = inside.doc.history; typing = inside.typing }) led.0 led.1 led.2)
+    (log_replays (record { state = inside.doc.state; history = inside.doc.history; going = inside.going }) led.0 led.1 led.2)

@@ -1,0 +1,14 @@
+use Rattle.std.proofs.Common.{sym, subst}
+use Rattle.edit_engine.specs.Editing.{EditorValue}
+use Rattle.hedit_c.specs.Calls.{ReplaceAnswers, pair_of_points}
+use Rattle.hedit_c.specs.declared.editor.status.Status.{Status}
+use Rattle.hedit_c.proofs.Replacing.{replace_answers}
+use Rattle.hedit_c.proofs.editor.acts.replace_chars.Goals as goal
+
+pub returns-clause-told : goal.returns-clause-told
+returns-clause-told c =
+    let old = c.args.editor.now in
+    let new = c.replace.new.self in
+    let found = pair_of_points old.editing c.args.anchor c.args.focus in
+    subst (λ (s : Status). ReplaceAnswers s old.editing new.editing found c.args.text.now) (sym c.replaced.ensures)
+    (replace_answers found c.replace.result old new c.args.text.now c.replace.ensures.tells)
