@@ -10,7 +10,7 @@ use Rattle.node_styles.specs.NameClasses.{is_indentation, is_simple_indentation}
 use Rattle.edit_model.specs.State.{State}
 use Rattle.edit_model.specs.Compositions.{tag_of, set_tag_name}
 use Rattle.edit_model.specs.Valid.{IsValid}
-use Rattle.edit_model.specs.Run.{Run, final, value, ◌>>◌, done, given, for_each, unset_attribute}
+use Rattle.edit_model.specs.Run.{Run, final, value, ◌>>◌, done, look, given, for_each, remove, unset_attribute}
 use Rattle.edit_model.proofs.Steps.{final-answer, final-look}
 use Rattle.edit_laws.specs.MoveLaws.{IsBare}
 use Rattle.edit_laws.specs.Steady.{Steady}
@@ -22,15 +22,16 @@ use Rattle.wrap_split.specs.declared.rule.Criterion.TheVariants.{Named, SimpleIn
 use Rattle.wrap_split.specs.declared.rule.Recipe.TheVariants.{Make}
 use Rattle.wrap_split.specs.Split.{split_parent, remove_keeping_children}
 use Rattle.wrap_split.specs.Target.{is_without_attributes}
+use Rattle.wrap_split.specs.Wrap.{wrap, break_next}
 use Rattle.inline_value.specs.Ancestors.{fix_ancestors}
 use Rattle.inline_value.specs.Recording.{Recorded, record_values, restore_values}
 use Rattle.inline_value.specs.Styling.{unset_style}
 use Rattle.block_extend.specs.Series.{is_next}
 use Rattle.inline_value.specs.Wrappers.{bare}
 use Rattle.list_indent.specs.Sublists.{is_list, is_in_list}
-use Rattle.list_indent.specs.Indenting.{if_list, nested, fixed, wrap_quote, quoted, indent_from, indent_list}
-use Rattle.list_indent.specs.Outdenting.{to_div, unboxed, unindented, unwrapped, released, dissolved, dissolve, outdent_list, drop_break, indent_before, rest_after, siblings_after, indent_after, part_around, part_level, part_levels, outdent_through, outdent_alone, outdent_inner, outdent_own, outdent_node}
-use Rattle.list_indent.specs.Commands.{normalize_range, normalize_before, normalize_first, goes_on, indent_nodes, indent_gathered, indent, is_lone, goes_on_items, split_items, outdent_from, outdent_series, outdent_nodes, outdent_gathered, outdent}
+use Rattle.list_indent.specs.Indenting.{if_list, nested, fixed, quoted, indent_list}
+use Rattle.list_indent.specs.Outdenting.{to_div, unboxed, unindented, if_indents, unwrapped, released, outdent_list, rest_after, siblings_after, part_around, part_level, part_levels, outdent_through, outdent_along, outdent_node}
+use Rattle.list_indent.specs.Commands.{normalize_range, normalize_before, goes_on, indent_nodes, indent, is_lone, goes_on_items, split_items, outdent_series, outdent_nodes, outdent}
 use Rattle.command_laws.proofs.Copies.{plain_tag}
 use Rattle.command_laws.proofs.Criteria.{first_part, named_bare, indentation_bare}
 use Rattle.command_laws.proofs.ListWalks.{FitAt, at_once, looking, onwards, then_fit, fit_seen, Consecutive, among, wrap_fits, split_fits, fit_series}
@@ -55,9 +56,9 @@ pub fit_fixed : (o : Option ℕ) → Fit (fixed o)
 fit_fixed o = search (fits, fit_fix)
 
 quoted_fits : (s : State) (list : List ℕ) → IsValid s → Consecutive s list → FitAt s (quoted list)
-unfolding quoted wrap_quote
+unfolding quoted
 quoted_fits s list is k =
-    then_fit (wrap_quote list) fixed s is (wrap_fits SimpleIndentation (Make (bare (codes "blockquote"))) tt refl refl s list is k) fit_fixed
+    then_fit (wrap SimpleIndentation (Make (bare (codes "blockquote"))) list) fixed s is (wrap_fits SimpleIndentation (Make (bare (codes "blockquote"))) tt refl refl s list is k) fit_fixed
 
 nested_fits : (s : State) (list : List ℕ) (p : ℕ) → is_list s p ≡ true → IsValid s → Consecutive s list → FitAt s (nested list p)
 unfolding nested
@@ -65,9 +66,9 @@ nested_fits s list p h is k =
     let plain = plain_tag s p (list_bare s p h) in
     looking _ s (then_fit _ (λ _. done) s is (wrap_fits (Named (tag_of s.trees p) false) (Make (bare (tag_of s.trees p))) plain plain refl s list is k) (λ _. fit_answer tt))
 
-indent_from_fits : (s : State) (list : List ℕ) (a : ℕ) → IsValid s → Consecutive s list → FitAt s (indent_from list a)
-unfolding indent_from
-indent_from_fits s list a is k = looking _ s (by_parent (parent_of s.trees a))
+indent_list_fits : (s : State) (list : List ℕ) → IsValid s → Consecutive s list → FitAt s (indent_list list)
+unfolding indent_list
+indent_list_fits s list is k = by_first (first_in list)
   where
     by_test : (p : ℕ) (v : Bool) → is_list s p ≡ v → FitAt s (given (if v then Some p else None) (quoted list) (nested list))
     by_test p true e = nested_fits s list p e is k
@@ -77,13 +78,9 @@ indent_from_fits s list a is k = looking _ s (by_parent (parent_of s.trees a))
     by_parent None = quoted_fits s list is k
     by_parent (Some p) = by_test p (is_list s p) refl
 
-indent_list_fits : (s : State) (list : List ℕ) → IsValid s → Consecutive s list → FitAt s (indent_list list)
-unfolding indent_list
-indent_list_fits s list is k = by_first (first_in list)
-  where
-    by_first : (o : Option ℕ) → FitAt s (given o done (indent_from list))
+    by_first : (o : Option ℕ) → FitAt s (given o done (λ a. look (λ t. given (if_list t (parent_of t.trees a)) (quoted list) (nested list))))
     by_first None = at_once done s is (fit_answer tt)
-    by_first (Some a) = indent_from_fits s list a is k
+    by_first (Some a) = looking _ s (by_parent (parent_of s.trees a))
 
 -- ---- indent
 
@@ -91,25 +88,17 @@ pub fit_range : Fit normalize_range
 unfolding normalize_range
 fit_range = search (fits, fit_normalize)
 
-fit_before : (n : ℕ) → Fit (normalize_before n)
+fit_before : (list : List ℕ) → Fit (normalize_before list)
 unfolding normalize_before
-fit_before n = search (fits, fit_normalize)
-
-fit_first : (list : List ℕ) → Fit (normalize_first list)
-unfolding normalize_first
-fit_first list = search (fits, fit_before)
+fit_before list = search (fits, fit_normalize) depth 8
 
 fit_indent_nodes : (list : List ℕ) → Fit (indent_nodes list)
 unfolding indent_nodes
-fit_indent_nodes list = fit_bind _ _ (fit_first list) (λ _. fit_series goes_on indent_list (λ s x y h. h) (λ s l is k. indent_list_fits s l is k) 0 list)
-
-fit_indent_gathered : Fit indent_gathered
-unfolding indent_gathered
-fit_indent_gathered = search (fits, fit_indent_nodes)
+fit_indent_nodes list = fit_bind _ _ (fit_before list) (λ _. fit_series goes_on indent_list (λ s x y h. h) (λ s l is k. indent_list_fits s l is k) list)
 
 fit_indent : Fit indent
 unfolding indent
-fit_indent = search (fits, fit_range, fit_indent_gathered)
+fit_indent = search (fits, fit_range, fit_indent_nodes)
 
 -- ---- outdenting a node: an indentation element
 
@@ -174,8 +163,10 @@ released_fits children s n is plain = looking _ s (by_test (not (is_without_attr
 fit_each_fixed : (list : List ℕ) → Fit (for_each list fix_ancestors)
 fit_each_fixed list = search (fits, fit_fix)
 
+abbrev dissolve : ℕ → Run (Unit {0})
+dissolve n = look (λ s. released n (children_of s.trees n) >> for_each (children_of s.trees n) fix_ancestors)
+
 dissolve_fits : (s : State) (n : ℕ) → IsValid s → IsBare s n → FitAt s (dissolve n)
-unfolding dissolve dissolved
 dissolve_fits s n is plain =
     let children = children_of s.trees n in
     looking _ s (then_fit (released n children) (λ _. for_each children fix_ancestors) s is (released_fits children s n is plain) (λ _. fit_each_fixed children))
@@ -198,8 +189,7 @@ outdent_list_fits s n is plain =
 
 -- ---- outdenting a node: the siblings along the way
 
-fit_drop_break : (t : ℕ) → Fit (drop_break t)
-unfolding drop_break
+fit_drop_break : (t : ℕ) → Fit (look (λ s. given (break_next s t) done (λ b. remove b >> done)))
 fit_drop_break t = search fits
 
 until_parted : (t : ℕ) (xs : List ℕ) → (rest : List ℕ) × (xs ≡ until t xs ++ rest)
@@ -219,8 +209,7 @@ rest_parted t (x ∷ xs) = by_test (x == t) (rest_parted t xs)
     by_test true r = (x ∷ [], refl)
     by_test false r = (x ∷ r.0, ap (λ k. x ∷ k) r.1)
 
-fit_indent_before : (e t : ℕ) → Fit (indent_before e t)
-unfolding indent_before
+fit_indent_before : (e t : ℕ) → Fit (look (λ s. indent_list (until t (children_of s.trees e))))
 fit_indent_before e t = fit_seen _ (λ s is. (
     let r = until_parted t (children_of s.trees e) in
     indent_list_fits s (until t (children_of s.trees e)) is (among e (record { front = []; rest = r.0; is = r.1 }))))
@@ -235,13 +224,12 @@ siblings_consecutive s t = by_parent (parent_of s.trees t)
         let r = rest_parted t (children_of s.trees p) in
         among p (record { front = r.0; rest = []; is = r.1 ∙ ap (λ k. r.0 ++ k) (sym (append-nil (rest_after t (children_of s.trees p)))) })
 
-fit_indent_after : (t : ℕ) → Fit (indent_after t)
-unfolding indent_after
+fit_indent_after : (t : ℕ) → Fit (look (λ s. indent_list (siblings_after s t)))
 fit_indent_after t = fit_seen _ (λ s is. indent_list_fits s (siblings_after s t) is (siblings_consecutive s t))
 
 fit_part_around : (e t : ℕ) → Fit (part_around e t)
 unfolding part_around
-fit_part_around e t = search (fits, fit_drop_break, fit_indent_before, fit_indent_after)
+fit_part_around e t = fit_bind _ _ (fit_drop_break t) (λ _. fit_bind _ _ (fit_indent_before e t) (λ _. fit_indent_after t))
 
 fit_part_level : (n : ℕ) (below : Option ℕ) (e : ℕ) → Fit (part_level n below e)
 unfolding part_level
@@ -258,25 +246,21 @@ fit_through : (n : ℕ) (way : List ℕ) (c : ℕ) → Fit (outdent_through n wa
 unfolding outdent_through
 fit_through n way c = fit_bind (part_levels n (c ∷ reverse way)) (λ _. unindented c) (fit_part_levels n (c ∷ reverse way)) (λ _. fit_unindented c)
 
-fit_alone : (n : ℕ) → Fit (outdent_alone n)
-unfolding outdent_alone
-fit_alone n = fit_seen _ (λ s is. by_test s is (is_list s n) refl)
+fit_along : (n : ℕ) (way : List ℕ × Option ℕ) → Fit (outdent_along n way)
+unfolding outdent_along
+fit_along n way = fit_seen _ (λ s is. by_end s is (if_indents false s way.1))
   where
-    by_test : (s : State) → IsValid s → (v : Bool) → is_list s n ≡ v → FitAt s (if v then outdent_list n else done)
-    by_test s is true e = outdent_list_fits s n is (list_bare s n e)
-    by_test s is false e = at_once done s is (fit_answer tt)
+    alone : (s : State) → IsValid s → (v : Bool) → is_list s n ≡ v → FitAt s (if v then outdent_list n else done)
+    alone s is true e = outdent_list_fits s n is (list_bare s n e)
+    alone s is false e = at_once done s is (fit_answer tt)
 
-fit_inner : (n : ℕ) → Fit (outdent_inner n)
-unfolding outdent_inner
-fit_inner n = search (fits, fit_alone, fit_through)
-
-fit_own : (n : ℕ) → Fit (outdent_own n)
-unfolding outdent_own
-fit_own n = search (fits, fit_unindented, fit_inner)
+    by_end : (s : State) → IsValid s → (o : Option ℕ) → FitAt s (given o (if is_list s n then outdent_list n else done) (outdent_through n way.0))
+    by_end s is None = alone s is (is_list s n) refl
+    by_end s is (Some c) = at_once _ s is (fit_through n way.0 c)
 
 pub fit_outdent_node : (n : ℕ) → Fit (outdent_node n)
 unfolding outdent_node
-fit_outdent_node n = search (fits, fit_own)
+fit_outdent_node n = search (fits, fit_unindented, fit_along)
 
 -- ---- outdent
 
@@ -295,33 +279,25 @@ split_items_fits s list is k =
     (subst (λ t. FitAt t (split_parent list >> (for_each list fix_ancestors >> restore_values (value (record_values list) s)))) (sym (recorded_same list s))
     (then_fit (split_parent list) (λ _. for_each list fix_ancestors >> restore_values (value (record_values list) s)) s is (split_fits s list is k) (λ _. fit_after_split list (value (record_values list) s))))
 
-outdent_from_fits : (s : State) (list : List ℕ) (x : ℕ) → IsValid s → Consecutive s list → FitAt s (outdent_from list x)
-unfolding outdent_from
-outdent_from_fits s list x is k = looking _ s (by_test (is_lone s x))
-  where
-    by_test : (v : Bool) → FitAt s (if v then outdent_node x else split_items list)
-    by_test true = at_once _ s is (fit_outdent_node x)
-    by_test false = split_items_fits s list is k
-
 outdent_series_fits : (s : State) (list : List ℕ) → IsValid s → Consecutive s list → FitAt s (outdent_series list)
 unfolding outdent_series
 outdent_series_fits s list is k = by_first (first_in list)
   where
-    by_first : (o : Option ℕ) → FitAt s (given o done (outdent_from list))
+    by_test : (x : ℕ) (v : Bool) → FitAt s (if v then outdent_node x else split_items list)
+    by_test x true = at_once _ s is (fit_outdent_node x)
+    by_test x false = split_items_fits s list is k
+
+    by_first : (o : Option ℕ) → FitAt s (given o done (λ x. look (λ t. if is_lone t x then outdent_node x else split_items list)))
     by_first None = at_once done s is (fit_answer tt)
-    by_first (Some x) = outdent_from_fits s list x is k
+    by_first (Some x) = looking _ s (by_test x (is_lone s x))
 
 fit_outdent_nodes : (list : List ℕ) → Fit (outdent_nodes list)
 unfolding outdent_nodes goes_on_items
-fit_outdent_nodes list = fit_series goes_on_items outdent_series (λ s x y h. first_part (is_next s.trees x y) _ h) (λ s l is k. outdent_series_fits s l is k) 0 list
-
-fit_outdent_gathered : Fit outdent_gathered
-unfolding outdent_gathered
-fit_outdent_gathered = search (fits, fit_outdent_nodes)
+fit_outdent_nodes list = fit_series goes_on_items outdent_series (λ s x y h. first_part (is_next s.trees x y) _ h) (λ s l is k. outdent_series_fits s l is k) list
 
 fit_outdent : Fit outdent
 unfolding outdent
-fit_outdent = search (fits, fit_range, fit_outdent_gathered)
+fit_outdent = search (fits, fit_range, fit_outdent_nodes)
 
 -- ---- the certificates
 

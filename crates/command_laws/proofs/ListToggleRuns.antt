@@ -188,7 +188,7 @@ steady_free_range = fit_free_range.states
 
 fit_release_all : (ordered : Bool) (list : List ℕ) → Fit (release_all ordered list)
 unfolding release_all goes_on_out
-fit_release_all ordered list = fit_series (goes_on_out ordered) (release_series ordered) (λ s x y h. first_part (is_next s.trees x y) _ h) (λ s l is k. release_series_fits ordered s l is k) 0 list
+fit_release_all ordered list = fit_series (goes_on_out ordered) (release_series ordered) (λ s x y h. first_part (is_next s.trees x y) _ h) (λ s l is k. release_series_fits ordered s l is k) list
 
 fit_toggle_off : (ordered : Bool) → Fit (toggle_off ordered)
 unfolding toggle_off

@@ -1,6 +1,6 @@
 -- Runs that are known at a state: that they keep the order from it, and leave the states of contenteditable. And series of
 -- siblings, which are consecutive when their turn comes.
-use Rattle.std.proofs.Common.{◌≡◌, ℕ, ◌+◌, zero, suc, Bool, true, false, if◌then◌else◌, List, [], ◌∷◌, ◌++◌, take, Option, Some, None, refl, sym, ap, subst, ◌∙◌, arith, append_assoc}
+use Rattle.std.proofs.Common.{◌≡◌, ℕ, ◌+◌, zero, suc, Bool, true, false, if◌then◌else◌, List, [], ◌∷◌, ◌++◌, length, take, Option, Some, None, refl, sym, ap, subst, ◌∙◌, arith, append_assoc, add-one}
 use Rattle.std.specs.Option.{option_map_or, option_and_then}
 use Rattle.dom_model.specs.declared.Content.{Content}
 use Rattle.dom_model.specs.Forest.{Seen, last_in, after_in, parent_of, children_of, next_of}
@@ -19,7 +19,7 @@ use Rattle.wrap_split.specs.declared.rule.Recipe.{Recipe}
 use Rattle.wrap_split.specs.Split.{split_parent}
 use Rattle.wrap_split.specs.Wrap.{wrap}
 use Rattle.block_extend.specs.Series.{count_after, is_next}
-use Rattle.list_indent.specs.Series.{for_series}
+use Rattle.list_indent.specs.Series.{take_series, series_at_most, for_series}
 use Rattle.command_laws.specs.WrapLaws.{NamesNoThing, MakesNoThing, MakesNoState}
 use Rattle.command_laws.proofs.Splitting.{parted, split_keeps, order_preserving_split_one}
 use Rattle.command_laws.proofs.SteadySplits.{at_bind, at_look, valid_final, steady_split}
@@ -111,13 +111,22 @@ module _ (s : State) (is : IsValid s) (on : ℕ → ℕ → Bool) (nexts : (x y 
           among o (grown o (x ∷ []) x (record { front = p.0; rest = p.1; is = own ∙ p.2 }) refl xs)
 
 -- each series is as the state has it when its turn comes
-pub fit_series : (on : State → ℕ → ℕ → Bool) (body : List ℕ → Run (Unit {0})) → ((s : State) (x y : ℕ) → on s x y ≡ true → is_next s.trees x y ≡ true)
-    → ((s : State) (list : List ℕ) → IsValid s → Consecutive s list → FitAt s (body list)) → (taken : ℕ) (list : List ℕ) → Fit (for_series on body taken list)
-unfolding for_series is_next
-fit_series on body nexts fits taken [] = fit_answer tt
-fit_series on body nexts fits (suc taken) (x ∷ xs) = fit_series on body nexts fits taken xs
-fit_series on body nexts fits zero (x ∷ xs) = fit_seen _ (λ s is. (
-    let k = count_after (on s) x xs in
-    then_fit (body (x ∷ take k xs)) (λ _. for_series on body k xs) s is
-    (fits s (x ∷ take k xs) is (series_consecutive s is (on s) (λ x y h. label_is (next_of s.trees x) y (nexts s x y h)) x xs))
-    (λ _. fit_series on body nexts fits k xs)))
+module _ (on : State → ℕ → ℕ → Bool) (body : List ℕ → Run (Unit {0})) (nexts : (s : State) (x y : ℕ) → on s x y ≡ true → is_next s.trees x y ≡ true)
+    (fits : (s : State) (list : List ℕ) → IsValid s → Consecutive s list → FitAt s (body list)) where
+  first_consecutive : (s : State) → IsValid s → (x : ℕ) (xs : List ℕ) → Consecutive s (take_series (on s) (x ∷ xs)).0
+  unfolding is_next
+  first_consecutive s is x xs =
+      subst (Consecutive s) (ap (λ j. take j (x ∷ xs)) (sym (add-one (count_after (on s) x xs))))
+      (series_consecutive s is (on s) (λ x y h. label_is (next_of s.trees x) y (nexts s x y h)) x xs)
+
+  fit_turns : (n : ℕ) (list : List ℕ) → Fit (series_at_most n on body list)
+  unfolding series_at_most
+  fit_turns zero list = fit_answer tt
+  fit_turns (suc n) [] = fit_answer tt
+  fit_turns (suc n) (x ∷ xs) = fit_seen _ (λ s is. (
+      let series = take_series (on s) (x ∷ xs) in
+      then_fit (body series.0) (λ _. series_at_most n on body series.1) s is (fits s series.0 is (first_consecutive s is x xs)) (λ _. fit_turns n series.1)))
+
+  pub fit_series : (list : List ℕ) → Fit (for_series on body list)
+  unfolding for_series
+  fit_series list = fit_turns (length list) list

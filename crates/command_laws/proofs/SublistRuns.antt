@@ -5,7 +5,7 @@ use Rattle.std.specs.Prelude.{codes}
 use Rattle.dom_model.specs.Forest.{last_in, last_of}
 use Rattle.edit_model.specs.State.{State}
 use Rattle.edit_model.specs.Moves.{move_after, move_first, move_all_after}
-use Rattle.edit_model.specs.Run.{Run, final, value, ◌>>=◌, answer, look, given, while_at_most, for_each, make_element}
+use Rattle.edit_model.specs.Run.{Run, final, value, ◌>>=◌, ◌>>◌, answer, done, look, given, while_at_most, for_each, make_element}
 use Rattle.edit_model.proofs.Steps.{final-bind, final-answer, final-look, final-make_element, value-bind, value-answer, value-look, value-make_element, for_each-cons, for_each-nil}
 use Rattle.edit_laws.specs.Order.{KeepsOrder, IsKeeping}
 use Rattle.edit_laws.specs.Steady.{Steady}
@@ -15,11 +15,12 @@ use Rattle.edit_laws.proofs.QuietActions.{keeping_final}
 use Rattle.edit_laws.proofs.SteadyRuns.{steady_parts, steady_make_element}
 use Rattle.edit_laws.proofs.Subsequences.{keeps_refl, keeps_trans}
 use Rattle.edit_laws.proofs.OrderPreserving.{order_preserving_answer}
-use Rattle.list_indent.specs.Sublists.{has_sublist, leaves, parted, make_follower, follower_of, handed_on, part_child, part_last, part_sublists, normalize_sublists}
+use Rattle.wrap_split.specs.Walks.{turn_bound}
+use Rattle.list_indent.specs.Sublists.{has_sublist, leaves, make_follower, follower_of, handed_on, part_last, is_normalizable, normalize_sublists}
 use Rattle.command_laws.proofs.Followers.{Follows, goes_on, stands_after}
 use Rattle.command_laws.proofs.Splitting.{then_order_preserving}
 use Rattle.command_laws.proofs.SteadyMoves.{steady_moves, steady_move_after, steady_move_first}
-use Rattle.command_laws.proofs.Fits.{Fit, fit, fits}
+use Rattle.command_laws.proofs.Fits.{Fit, fit}
 use Rattle.command_laws.proofs.Widening.{last_parted}
 
 -- ---- what is known of the state and the answer that a run ends with
@@ -51,8 +52,8 @@ module _ (item : ℕ) where
   one_after : (c : ℕ) (s : State) → final (for_each (c ∷ []) (move_after item)) s ≡ final (move_after item c) s
   one_after c s = rw (for_each-cons, final-bind, for_each-nil, final-answer) refl
 
-  parts : (c : ℕ) (s : State) → IsKeeping s → last_of s.trees item ≡ Some c → Ends s Followed (parted item c)
-  unfolding parted move_all_after Followed
+  parts : (c : ℕ) (s : State) → IsKeeping s → last_of s.trees item ≡ Some c → Ends s Followed (move_after item c >> answer None)
+  unfolding move_all_after Followed
   parts c s is last =
       let l = last_parted _ c last in
       let goes : KeepsOrder s (final (move_after item c) s) = subst (λ t. KeepsOrder s t) (one_after c s) (go_after s is l.0 (c ∷ []) item l.1) in
@@ -82,21 +83,19 @@ module _ (item : ℕ) where
       let w = goes_on t is item n c h.0 h.1 in
       ends_bind (λ u _. Follows u item n) Followed (move_first n c) (λ _. answer (Some n)) t is (record { order = w.0; holds = w.1 }) (λ u _ _ k. ends_answer Followed (Some n) u k)
 
-  part_child_ends : (c : ℕ) (s : State) → IsKeeping s → last_of s.trees item ≡ Some c → (follower : Option ℕ) → Followed s follower → Ends s Followed (part_child item follower c)
-  unfolding part_child
-  part_child_ends c s is last follower h = ends_look Followed _ s (by_test (leaves s follower c))
-    where
-      by_test : (v : Bool) → Ends s Followed (if v then parted item c else (follower_of item follower >>= handed_on c))
-      by_test true = parts c s is last
-      by_test false = ends_bind (Ready c) Followed (follower_of item follower) (handed_on c) s is (ready c s is last follower h) (λ t is_t n k. hands c t is_t n k)
+  parted : (c : ℕ) (s : State) → IsKeeping s → last_of s.trees item ≡ Some c → (follower : Option ℕ) → Followed s follower → (v : Bool)
+      → Ends s Followed (if v then (move_after item c >> answer None) else (follower_of item follower >>= handed_on c))
+  parted c s is last follower h true = parts c s is last
+  parted c s is last follower h false = ends_bind (Ready c) Followed (follower_of item follower) (handed_on c) s is (ready c s is last follower h) (λ t is_t n k. hands c t is_t n k)
 
   turn : (s : State) → IsKeeping s → (follower : Option ℕ) → Followed s follower → Ends s Followed (part_last item follower)
   unfolding part_last
   turn s is follower h = ends_look Followed _ s (by_last (last_of s.trees item) refl)
     where
-      by_last : (o : Option ℕ) → last_of s.trees item ≡ o → Ends s Followed (given o (answer follower) (part_child item follower))
+      by_last : (o : Option ℕ) → last_of s.trees item ≡ o
+          → Ends s Followed (given o (answer follower) (λ c. if leaves s follower c then (move_after item c >> answer None) else (follower_of item follower >>= handed_on c)))
       by_last None e = ends_answer Followed follower s h
-      by_last (Some c) e = part_child_ends c s is e follower h
+      by_last (Some c) e = parted c s is e follower h (leaves s follower c)
 
   turns : (bound : ℕ) (s : State) → IsKeeping s → (follower : Option ℕ) → Followed s follower → KeepsOrder s (final (while_at_most bound (has_sublist item) (part_last item) follower) s)
   unfolding while_at_most
@@ -114,15 +113,19 @@ module _ (item : ℕ) where
       by_test true rest = rw final-bind rest
       by_test false rest = (order_preserving_answer follower).keeps s is
 
-  order_preserving_sublists : OrderPreserving (part_sublists item)
-  unfolding part_sublists Followed
-  order_preserving_sublists = record { keeps = λ s is. rw final-look (then_order_preserving _ _ s is (turns _ s is None tt) (order_preserving_answer tt)) }
+  whole : (s : State) → IsKeeping s → (v : Bool) → KeepsOrder s (final (if v then (while_at_most (turn_bound s) (has_sublist item) (part_last item) None >> done) else done) s)
+  unfolding Followed
+  whole s is true = then_order_preserving _ _ s is (turns _ s is None tt) (order_preserving_answer tt)
+  whole s is false = (order_preserving_answer tt).keeps s is
+
+  order_preserving_sublists : OrderPreserving (normalize_sublists item)
+  unfolding normalize_sublists
+  order_preserving_sublists = record { keeps = λ s is. rw final-look (whole s is (is_normalizable s item)) }
 
 -- ---- the states of contenteditable
 
-steady_parted : (item c : ℕ) → Steady (parted item c)
-unfolding parted
-steady_parted item c = search (steady_parts, steady_move_after)
+steady_leaves : (item c : ℕ) → Steady (move_after item c >> answer None)
+steady_leaves item c = search (steady_parts, steady_move_after)
 
 steady_new : Steady (make_element (codes "li") [])
 steady_new = steady_make_element (codes "li") [] refl
@@ -135,23 +138,15 @@ steady_handed : (c n : ℕ) → Steady (handed_on c n)
 unfolding handed_on
 steady_handed c n = search (steady_parts, steady_move_first)
 
-steady_child : (item : ℕ) (follower : Option ℕ) (c : ℕ) → Steady (part_child item follower c)
-unfolding part_child
-steady_child item follower c = search (steady_parts, steady_parted, steady_follower, steady_handed)
-
 steady_last : (item : ℕ) (follower : Option ℕ) → Steady (part_last item follower)
 unfolding part_last
-steady_last item follower = search (steady_parts, steady_child)
+steady_last item follower = search (steady_parts, steady_leaves, steady_follower, steady_handed) depth 8
 
-steady_sublists : (item : ℕ) → Steady (part_sublists item)
-unfolding part_sublists
-steady_sublists item = search (steady_parts, steady_last)
+steady_sublists : (item : ℕ) → Steady (normalize_sublists item)
+unfolding normalize_sublists
+steady_sublists item = search (steady_parts, steady_last) depth 8
 
 -- ---- both
 
-fit_sublists : (item : ℕ) → Fit (part_sublists item)
-fit_sublists item = fit (order_preserving_sublists item) (steady_sublists item)
-
 pub fit_normalize : (n : ℕ) → Fit (normalize_sublists n)
-unfolding normalize_sublists
-fit_normalize n = search (fits, fit_sublists)
+fit_normalize n = fit (order_preserving_sublists n) (steady_sublists n)

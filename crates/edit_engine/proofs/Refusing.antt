@@ -16,7 +16,7 @@ use Rattle.html_names.specs.ElementNames as names
 use Rattle.block_commands.specs.FormatBlock.{block_name, is_formatted, format_list, format_to, format_block}
 use Rattle.edit_query.specs.Gathered.{outermost}
 use Rattle.block_commands.specs.Justify.{clear_alignments, align_range, justify}
-use Rattle.list_indent.specs.Commands.{normalize_range, indent_gathered, indent, outdent_gathered, outdent}
+use Rattle.list_indent.specs.Commands.{normalize_range, is_indentable, indent_nodes, indent, is_outdentable, outdent_nodes, outdent}
 use Rattle.list_toggle.specs.Ranges.{keep_range}
 use Rattle.list_toggle.specs.Toggle.{toggle_off, toggle_on, toggle_lists}
 use Rattle.text_insertion.specs.Paragraph.{insert_paragraph_inside, insert_paragraph}
@@ -132,11 +132,11 @@ leaves_justify alignment = leaves_two clear_alignments (align_range alignment)
 
 leaves_indent : LeavesRefused indent
 unfolding indent
-leaves_indent = leaves_two normalize_range indent_gathered
+leaves_indent = leaves_two normalize_range (look (λ s. indent_nodes (outermost (is_indentable s) s)))
 
 leaves_outdent : LeavesRefused outdent
 unfolding outdent
-leaves_outdent = leaves_two normalize_range outdent_gathered
+leaves_outdent = leaves_two normalize_range (look (λ s. outdent_nodes (outermost (is_outdentable s) s)))
 
 leaves_delete : LeavesRefused delete
 leaves_delete = leaves_taken delete delete_answers_true

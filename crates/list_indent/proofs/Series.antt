@@ -1,5 +1,5 @@
 -- How a list is taken series by series.
-use Rattle.std.proofs.Common.{◌≡◌, ℕ, zero, suc, ◌+◌, ◌-◌, ◌<◌, ◌≤◌, Bool, List, [], ◌∷◌, length, take, drop, map, min, get_or, refl, sym, ap, ◌∙◌, subst, add-one, arith}
+use Rattle.std.proofs.Common.{◌≡◌, ℕ, zero, suc, ◌+◌, ◌-◌, ◌<◌, ◌≤◌, Bool, List, [], ◌∷◌, length, take, drop, map, min, get_or, refl, sym, ap, ◌∙◌, subst, arith}
 use Rattle.std.proofs.Math.ListN.{drop_of_length-le}
 use Rattle.std.proofs.lemmas.List.{length-take, length-drop, drop-drop, get_or-take, get_or-drop}
 use Rattle.std.proofs.lemmas.List.Elements.{All-drop}
@@ -14,44 +14,55 @@ use Rattle.edit_doc.specs.Whole.{Whole}
 use Rattle.edit_doc.specs.Held.{Holds, EachHeld}
 use Rattle.block_extend.specs.Series.{count_after, count_series}
 use Rattle.edit_query.proofs.Lists.{labels_mapped, all_held, labels_of_front, labels_of_rest, tail_is}
-use Rattle.list_indent.specs.Series.{for_series}
+use Rattle.list_indent.specs.Series.{take_series, series_at_most, for_series}
 
--- ---- what is passed over
+-- ---- more turns than there are series change nothing
 
-skipped : (on : State → ℕ → ℕ → Bool) (body : List ℕ → Run (Unit {0})) (n : ℕ) (xs : List ℕ) → for_series on body n xs ≡ for_series on body zero (drop n xs)
-unfolding for_series
-skipped on body zero xs = refl
-skipped on body (suc n) [] = refl
-skipped on body (suc n) (x ∷ xs) = skipped on body n xs
+shorter : (on : ℕ → ℕ → Bool) (x : ℕ) (xs : List ℕ) (n : ℕ) → length (x ∷ xs) ≤ suc n → length (take_series on (x ∷ xs)).1 ≤ n
+shorter on x xs n h = rw (length-drop (count_after on x xs + 1) (x ∷ xs)) (omega (arith, h))
+
+enough : (on : State → ℕ → ℕ → Bool) (body : List ℕ → Run (Unit {0})) (n m : ℕ) (xs : List ℕ) (s : State) → length xs ≤ n → length xs ≤ m →
+    final (series_at_most n on body xs) s ≡ final (series_at_most m on body xs) s
+unfolding series_at_most look ◌>>=◌ final
+enough on body zero zero xs s h k = refl
+enough on body zero (suc m) [] s h k = refl
+enough on body zero (suc m) (x ∷ xs) s h k = absurd (omega arith)
+enough on body (suc n) zero [] s h k = refl
+enough on body (suc n) zero (x ∷ xs) s h k = absurd (omega arith)
+enough on body (suc n) (suc m) [] s h k = refl
+enough on body (suc n) (suc m) (x ∷ xs) s h k =
+    let series = take_series (on s) (x ∷ xs) in
+    enough on body n m series.1 (final (body series.0) s) (shorter (on s) x xs n h) (shorter (on s) x xs m k)
 
 -- ---- a turn, and the end
 
 first_turn : (on : State → ℕ → ℕ → Bool) (body : List ℕ → Run (Unit {0})) (xs : List ℕ) (s : State) → 0 < length xs →
-    final (for_series on body zero xs) s
-    ≡ final (body (take (count_series (on s) xs) xs) >>= (λ _. for_series on body zero (drop (count_series (on s) xs) xs))) s
-unfolding for_series look ◌>>=◌ final
+    final (for_series on body xs) s
+    ≡ final (body (take (count_series (on s) xs) xs) >>= (λ _. for_series on body (drop (count_series (on s) xs) xs))) s
+unfolding for_series series_at_most look ◌>>=◌ final
 first_turn on body [] s h = absurd (omega arith)
 first_turn on body (x ∷ xs) s h =
-    let k = count_after (on s) x xs in
-    ap (λ m. final (body (x ∷ take k xs) >>= (λ _. m)) s) (skipped on body k xs)
-    ∙ ap (λ j. final (body (take j (x ∷ xs)) >>= (λ _. for_series on body zero (drop j (x ∷ xs)))) s) (sym (add-one k))
+    let series = take_series (on s) (x ∷ xs) in
+    let less : length (x ∷ xs) ≤ suc (length xs) = omega arith in
+    let same : length series.1 ≤ length series.1 = omega arith in
+    enough on body (length xs) (length series.1) series.1 (final (body series.0) s) (shorter (on s) x xs (length xs) less) same
 
 pub series_turn : (on : State → ℕ → ℕ → Bool) (body : List ℕ → Run (Unit {0})) (xs : List NodeRef) (at n : ℕ) (s : State) → at < length xs
     → n ≡ count_series (on s) (map (λ r. r.label) (drop at xs))
-    → final (for_series on body 0 (labels_of (drop at xs))) s
-    ≡ final (body (labels_of (take n (drop at xs))) >>= (λ _. for_series on body 0 (labels_of (drop (at + n) xs)))) s
+    → final (for_series on body (labels_of (drop at xs))) s
+    ≡ final (body (labels_of (take n (drop at xs))) >>= (λ _. for_series on body (labels_of (drop (at + n) xs)))) s
 series_turn on body xs at n s h count =
     let some : 0 < length (labels_of (drop at xs)) = rw (length-labels_of (drop at xs), length-drop at xs) (omega (arith, h)) in
     let n_is : count_series (on s) (labels_of (drop at xs)) ≡ n = sym (count ∙ ap (count_series (on s)) (labels_mapped (drop at xs))) in
     let rest : drop n (labels_of (drop at xs)) ≡ labels_of (drop (at + n) xs) = sym (labels_of_rest (drop at xs) n) ∙ ap labels_of (drop-drop n at xs) in
     first_turn on body (labels_of (drop at xs)) s some
-    ∙ ap (λ j. final (body (take j (labels_of (drop at xs))) >>= (λ _. for_series on body 0 (drop j (labels_of (drop at xs))))) s) n_is
-    ∙ ap (λ ys. final (body ys >>= (λ _. for_series on body 0 (drop n (labels_of (drop at xs))))) s) (sym (labels_of_front (drop at xs) n))
-    ∙ ap (λ ys. final (body (labels_of (take n (drop at xs))) >>= (λ _. for_series on body 0 ys)) s) rest
+    ∙ ap (λ j. final (body (take j (labels_of (drop at xs))) >>= (λ _. for_series on body (drop j (labels_of (drop at xs))))) s) n_is
+    ∙ ap (λ ys. final (body ys >>= (λ _. for_series on body (drop n (labels_of (drop at xs))))) s) (sym (labels_of_front (drop at xs) n))
+    ∙ ap (λ ys. final (body (labels_of (take n (drop at xs))) >>= (λ _. for_series on body ys)) s) rest
 
 pub series_end : (on : State → ℕ → ℕ → Bool) (body : List ℕ → Run (Unit {0})) (xs : List NodeRef) (at : ℕ) → length xs ≤ at →
-    for_series on body 0 (labels_of (drop at xs)) ≡ answer tt
-unfolding for_series
+    for_series on body (labels_of (drop at xs)) ≡ answer tt
+unfolding for_series series_at_most
 series_end on body xs at h = rw (drop_of_length-le xs h) refl
 
 pub ruleset series = (steps, series_end)
@@ -60,21 +71,21 @@ pub ruleset series = (steps, series_end)
 
 module _ (on : State → ℕ → ℕ → Bool) (body : List ℕ → Run (Unit {0})) (xs part : List NodeRef) (at n : ℕ) (s : State) (low : at < length xs)
     (count : n ≡ count_series (on s) (map (λ r. r.label) (take (length xs - at) (drop at xs)))) (is : part ≡ take n (take (length xs - at) (drop at xs))) where
-  turn : final (for_series on body 0 (labels_of (drop at xs))) s
-      ≡ final (body (labels_of part) >>= (λ _. for_series on body 0 (labels_of (drop (at + n) xs)))) s
+  turn : final (for_series on body (labels_of (drop at xs))) s
+      ≡ final (body (labels_of part) >>= (λ _. for_series on body (labels_of (drop (at + n) xs)))) s
   turn =
       series_turn on body xs at n s low (count ∙ ap (λ ys. count_series (on s) (map (λ r. r.label) ys)) (tail_is xs at))
-      ∙ ap (λ ys. final (body (labels_of ys) >>= (λ _. for_series on body 0 (labels_of (drop (at + n) xs)))) s) (sym (is ∙ ap (take n) (tail_is xs at)))
+      ∙ ap (λ ys. final (body (labels_of ys) >>= (λ _. for_series on body (labels_of (drop (at + n) xs)))) s) (sym (is ∙ ap (take n) (tail_is xs at)))
 
-  pub turn_done : (t whole : State) → final (body (labels_of part)) s ≡ t → final (for_series on body 0 (labels_of (drop at xs))) s ≡ whole
-      → final (for_series on body 0 (labels_of (drop (at + n) xs))) t ≡ whole
+  pub turn_done : (t whole : State) → final (body (labels_of part)) s ≡ t → final (for_series on body (labels_of (drop at xs))) s ≡ whole
+      → final (for_series on body (labels_of (drop (at + n) xs))) t ≡ whole
   turn_done t whole to same =
-      ap (final (for_series on body 0 (labels_of (drop (at + n) xs)))) (sym to)
-      ∙ (sym (final-bind (body (labels_of part)) (λ _. for_series on body 0 (labels_of (drop (at + n) xs))) s) ∙ (sym turn ∙ same))
+      ap (final (for_series on body (labels_of (drop (at + n) xs)))) (sym to)
+      ∙ (sym (final-bind (body (labels_of part)) (λ _. for_series on body (labels_of (drop (at + n) xs))) s) ∙ (sym turn ∙ same))
 
-  pub turn_fails : (e : EditFault) (whole : State) → Fails e (final (body (labels_of part)) s) → final (for_series on body 0 (labels_of (drop at xs))) s ≡ whole → Fails e whole
+  pub turn_fails : (e : EditFault) (whole : State) → Fails e (final (body (labels_of part)) s) → final (for_series on body (labels_of (drop at xs))) s ≡ whole → Fails e whole
   turn_fails e whole fails same =
-      subst (Fails e) (sym turn ∙ same) (fails-bind e (body (labels_of part)) (λ _. for_series on body 0 (labels_of (drop (at + n) xs))) s fails)
+      subst (Fails e) (sym turn ∙ same) (fails-bind e (body (labels_of part)) (λ _. for_series on body (labels_of (drop (at + n) xs))) s fails)
 
 -- ---- what is held of a list is held of a part of it
 

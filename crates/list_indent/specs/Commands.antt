@@ -1,11 +1,10 @@
 -- The commands indent and outdent (HTML Editing APIs, "the indent command", "the outdent command").
 -- The steps are those of docs/ALGORITHMS.md.
-use Rattle.std.specs.Prelude.{ℕ, Bool, true, ◌||◌, ◌&&◌, not, List, [], ◌++◌, map, filter, reverse, codes, Option, Some, None, if◌then◌else◌}
-use Rattle.std.specs.Option.{option_and_then}
+use Rattle.std.specs.Prelude.{ℕ, Bool, true, ◌||◌, ◌&&◌, not, List, [], ◌++◌, map, filter, reverse, codes, Option, if◌then◌else◌}
+use Rattle.std.specs.Option.{option_and_then, option_map_or}
 use Rattle.dom_model.specs.declared.Content.{Content}
 use Rattle.dom_model.specs.Contents.{has_name}
 use Rattle.dom_model.specs.Forest.{Forest, parent_of, children_of, first_in}
-use Rattle.live_range.specs.declared.places.Pair.{Pair}
 use Rattle.point_order.specs.PointOrder.{is_within}
 use Rattle.node_styles.specs.Allowed.{allowed_in_name}
 use Rattle.node_styles.specs.Lineage.{lineage}
@@ -39,15 +38,13 @@ unfoldable pub items_around : Forest Content → ℕ → ℕ → List ℕ
 items_around f start end =
     items_over f start ++ filter (λ l. not (is_within f l start)) (items_over f end)
 
-abbrev pub items_by : Forest Content → Option Pair → List ℕ
-items_by f None = []
-items_by f (Some pair) = items_around f (start_of f pair).label (end_of f pair).label
-
--- indent and outdent, step 1: the items around the ends of the active range
+-- the items around the ends of the active range
 unfoldable pub range_items : State → List ℕ
-range_items s = items_by s.trees s.points.selection
+range_items s = option_map_or
+    (λ pair. items_around s.trees (start_of s.trees pair).label (end_of s.trees pair).label)
+    s.points.selection []
 
--- indent and outdent, step 1: each of them, in order
+-- the sublists of each of them are normalized, in order
 unfoldable pub normalize_range : Run (Unit {0})
 normalize_range = look λ s. for_each (range_items s) normalize_sublists
 
@@ -64,15 +61,10 @@ unfoldable pub shown_before : State → ℕ → Option ℕ
 shown_before s n =
     option_and_then (λ p. last_visible s (until n (children_of s.trees p))) (parent_of s.trees n)
 
--- indent, step 3, where n is the first visible node: the item before an item of a list is
--- normalized
-unfoldable pub normalize_before : ℕ → Run (Unit {0})
-normalize_before n = look λ s.
+-- indent, step 3, where n is the first visible member
+unfoldable pub normalize_before : List ℕ → Run (Unit {0})
+normalize_before list = look λ s. given (first_visible s list) done λ n.
     if is_item s n && is_in_list s n then given (shown_before s n) done normalize_sublists else done
-
--- indent, step 3: from the first visible member
-unfoldable pub normalize_first : List ℕ → Run (Unit {0})
-normalize_first list = look λ s. given (first_visible s list) done normalize_before
 
 -- indent, step 4: series of siblings
 abbrev pub goes_on : State → ℕ → ℕ → Bool
@@ -81,18 +73,14 @@ goes_on s x y = is_next s.trees x y
 -- indent, steps 3 and 4
 unfoldable pub indent_nodes : List ℕ → Run (Unit {0})
 indent_nodes list = do
-  normalize_first list
-  for_series goes_on indent_list 0 list
-
--- indent, step 2, and then from 3 on
-unfoldable pub indent_gathered : Run (Unit {0})
-indent_gathered = look λ s. indent_nodes (outermost (is_indentable s) s)
+  normalize_before list
+  for_series goes_on indent_list list
 
 -- indent, steps 1 to 4
 unfoldable pub indent : Run Bool
 indent = do
   normalize_range
-  indent_gathered
+  look λ s. indent_nodes (outermost (is_indentable s) s)
   answer true
 
 -- ---- outdent
@@ -123,25 +111,18 @@ split_items list = do
   for_each list fix_ancestors
   restore_values values
 
--- outdent, step 3: x alone, or a series that begins with it
-unfoldable pub outdent_from : List ℕ → ℕ → Run (Unit {0})
-outdent_from list x = look λ s. if is_lone s x then outdent_node x else split_items list
-
--- outdent, step 3: one turn
+-- outdent, step 3, one turn: the first member alone, or a series that begins with it
 unfoldable pub outdent_series : List ℕ → Run (Unit {0})
-outdent_series list = given (first_in list) done (outdent_from list)
+outdent_series list = given (first_in list) done λ x. look λ s.
+    if is_lone s x then outdent_node x else split_items list
 
 -- outdent, step 3: series by series
 unfoldable pub outdent_nodes : List ℕ → Run (Unit {0})
-outdent_nodes list = for_series goes_on_items outdent_series 0 list
-
--- outdent, step 2, and then 3
-unfoldable pub outdent_gathered : Run (Unit {0})
-outdent_gathered = look λ s. outdent_nodes (outermost (is_outdentable s) s)
+outdent_nodes list = for_series goes_on_items outdent_series list
 
 -- outdent, steps 1 to 3
 unfoldable pub outdent : Run Bool
 outdent = do
   normalize_range
-  outdent_gathered
+  look λ s. outdent_nodes (outermost (is_outdentable s) s)
   answer true

@@ -21,22 +21,14 @@ unfoldable pub nested : List ℕ → ℕ → Run (Unit {0})
 nested list p =
     look λ s. wrap (Named (tag_of s.trees p) false) (Make (bare (tag_of s.trees p))) list >> done
 
--- indent a list, step 3: into a simple indentation element
 abbrev pub fixed : Option ℕ → Run (Unit {0})
 fixed o = given o done fix_ancestors
 
--- indent a list, step 3: the list is wrapped
-unfoldable pub wrap_quote : List ℕ → Run (Option ℕ)
-wrap_quote list = wrap SimpleIndentation (Make (bare (codes "blockquote"))) list
-
--- indent a list, step 3
+-- indent a list, step 3: into a simple indentation element
 unfoldable pub quoted : List ℕ → Run (Unit {0})
-quoted list = wrap_quote list >>= fixed
+quoted list = wrap SimpleIndentation (Make (bare (codes "blockquote"))) list >>= fixed
 
--- indent a list, step 2 or 3, where a is the first member
-unfoldable pub indent_from : List ℕ → ℕ → Run (Unit {0})
-indent_from list a = look λ s. given (if_list s (parent_of s.trees a)) (quoted list) (nested list)
-
--- indent a list, step 1, and then 2 or 3
+-- indent a list, steps 1 to 3, where a is the first member
 unfoldable pub indent_list : List ℕ → Run (Unit {0})
-indent_list list = given (first_in list) done (indent_from list)
+indent_list list = given (first_in list) done λ a. look λ s.
+    given (if_list s (parent_of s.trees a)) (quoted list) (nested list)

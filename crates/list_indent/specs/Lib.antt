@@ -3,3 +3,4 @@ pub mod Indenting
 pub mod Outdenting
 pub mod Series
 pub mod Commands
+pub mod Gaps

@@ -35,54 +35,46 @@ is_blank_content (Remark chars) = false
 unfoldable pub is_blank : State → ℕ → Bool
 is_blank s n = option_map_or is_blank_content (content_of s.trees n) false
 
--- normalize sublists, step 2: the item has a list among its children
-unfoldable pub has_sublist : ℕ → State → Option ℕ → Bool
+-- ---- normalize sublists
+
+-- step 2: the item has a list among its children
+abbrev pub has_sublist : ℕ → State → Option ℕ → Bool
 has_sublist item s follower = list_any (is_list s) (children_of s.trees item)
 
--- normalize sublists, step 2: the child c leaves the item alone, or goes to a follower of the item
+-- step 2: the child c leaves the item alone, and doesn't go to the follower
 unfoldable pub leaves : State → Option ℕ → ℕ → Bool
 leaves s follower c = is_list s c || (is_none follower && is_blank s c)
 
--- normalize sublists, step 2: c comes to stand just after the item, and the follower is none
-unfoldable pub parted : ℕ → ℕ → Run (Option ℕ)
-parted item c = move_after item c >> answer None
-
--- normalize sublists, step 2: a new li just after the item
+-- step 2: a new li just after the item
 unfoldable pub make_follower : ℕ → Run ℕ
 make_follower item = do
   x ← make_element (codes "li") []
   insert_after item x
   answer x
 
--- normalize sublists, step 2: the follower, which is made where there is none
+-- step 2: the follower, which is made where there is none
 unfoldable pub follower_of : ℕ → Option ℕ → Run ℕ
 follower_of item follower = given follower (make_follower item) answer
 
--- normalize sublists, step 2: c goes to the front of the follower n
+-- step 2: c goes to the front of x, which is the follower from now on
 unfoldable pub handed_on : ℕ → ℕ → Run (Option ℕ)
-handed_on c n = move_first n c >> answer (Some n)
+handed_on c x = move_first x c >> answer (Some x)
 
--- normalize sublists, step 2: one turn, with the last child c
-unfoldable pub part_child : ℕ → Option ℕ → ℕ → Run (Option ℕ)
-part_child item follower c = look λ s.
-    if leaves s follower c then parted item c else (follower_of item follower >>= handed_on c)
-
--- normalize sublists, step 2: one turn
+-- step 2, one turn: the last child of the item comes to stand just after the item, or goes to the
+-- follower. It answers the follower
 unfoldable pub part_last : ℕ → Option ℕ → Run (Option ℕ)
-part_last item follower =
-    look λ s. given (last_of s.trees item) (answer follower) (part_child item follower)
+part_last item follower = look λ s. given (last_of s.trees item) (answer follower) λ c.
+    if leaves s follower c then (move_after item c >> answer None)
+    else (follower_of item follower >>= handed_on c)
 
--- normalize sublists, step 2: while a list is among the item's children
-unfoldable pub part_sublists : ℕ → Run (Unit {0})
-part_sublists item =
-    look λ s. while_at_most (turn_bound s) (has_sublist item) (part_last item) None >> done
-
--- normalize sublists, step 1: an editable item of an editable parent
+-- step 1: an editable item of an editable parent
 unfoldable pub is_normalizable : State → ℕ → Bool
 is_normalizable s n =
     is_item s n && (is_editable_for s n
     && option_map_or (is_editable_for s) (parent_of s.trees n) false)
 
--- normalize sublists, step 1, and then 2
+-- steps 1 and 2
 unfoldable pub normalize_sublists : ℕ → Run (Unit {0})
-normalize_sublists n = look λ s. if is_normalizable s n then part_sublists n else done
+normalize_sublists n = look λ s.
+    if is_normalizable s n
+    then (while_at_most (turn_bound s) (has_sublist n) (part_last n) None >> done) else done

@@ -1,14 +1,14 @@
 //! The commands indent and outdent. The steps are those of docs/ALGORITHMS.md.
 
-ghost use Rattle.std.specs.Prelude.{◌≡◌, ◌<◌, IfOk, length};
-ghost use Rattle.edit_model.specs.Gives.{Gives, label_of, labels_of};
+ghost use Rattle.std.specs.Prelude.{◌≡◌};
+ghost use Rattle.edit_model.specs.Gives.{Gives, labels_of};
 ghost use Rattle.edit_model.specs.Run.{for_each};
 ghost use Rattle.edit_doc.specs.Whole.{IsOpen};
-ghost use Rattle.edit_doc.specs.Held.{Holds, IfHeld, EachHeld, Finds, Keeps};
+ghost use Rattle.edit_doc.specs.Held.{Holds, EachHeld, Finds, Keeps};
 ghost use Rattle.list_indent.specs.Sublists.{normalize_sublists};
 ghost use Rattle.list_indent.specs.Indenting.{indent_list};
 ghost use Rattle.list_indent.specs.Series.{for_series};
-ghost use Rattle.list_indent.specs.Commands.{normalize_range, shown_before, normalize_before, normalize_first, goes_on, indent_nodes, indent_gathered, indent, is_lone, goes_on_items, split_items, outdent_from, outdent_series, outdent_nodes, outdent_gathered, outdent};
+ghost use Rattle.list_indent.specs.Commands.{normalize_range, shown_before, normalize_before, goes_on, indent, is_lone, split_items, outdent_series, outdent_nodes, outdent};
 
 use crate::gathering::{Indentable, Outdentable, range_items};
 use crate::indenting::indent_list;
@@ -66,36 +66,26 @@ fn shown_before(doc: &Doc, node: NodeRef) -> Option<NodeRef>
     None
 }
 
-// Indent, step 3, with the first visible node.
+// Indent, step 3: where the first visible member is an item of a list, the one before it is
+// normalized.
 #[tactic(auto, using(edit_model::proofs::Steps::steps, edit_model::proofs::Steps::exits), unfolding(crate::specs::Commands::normalize_before))]
-fn normalize_before(alloc: Global, doc: &mut Doc, node: NodeRef) -> Result<(), EditFault>
-    requires open { IsOpen doc.old }
-    requires node_held { Holds doc.old node }
-    ensures gives { Gives result doc.old.state doc.new.state (normalize_before node.label) }
-    ensures keeps { Keeps doc.old doc.new }
-{
-    if !is_item(doc, node) || !is_in_list(doc, node) {
-        return Ok(());
-    }
-    let Some(before) = shown_before(doc, node) else {
-        return Ok(());
-    };
-    normalize_sublists(alloc, doc, before)
-}
-
-// Indent, step 3.
-#[tactic(auto, using(edit_model::proofs::Steps::steps, edit_model::proofs::Steps::exits), unfolding(crate::specs::Commands::normalize_first))]
-fn normalize_first(alloc: Global, doc: &mut Doc, list: &[NodeRef]) -> Result<(), EditFault>
+fn normalize_before(alloc: Global, doc: &mut Doc, list: &[NodeRef]) -> Result<(), EditFault>
     requires open { IsOpen doc.old }
     requires list_held { EachHeld doc.old list.now }
     ensures gives { Gives result doc.old.state doc.new.state
-        (normalize_first (labels_of list.now)) }
+        (normalize_before (labels_of list.now)) }
     ensures keeps { Keeps doc.old doc.new }
 {
-    let Some(node) = first_visible(doc, list) else {
+    let Some(first) = first_visible(doc, list) else {
         return Ok(());
     };
-    normalize_before(alloc, doc, node)
+    if !is_item(doc, first) || !is_in_list(doc, first) {
+        return Ok(());
+    }
+    let Some(before) = shown_before(doc, first) else {
+        return Ok(());
+    };
+    normalize_sublists(alloc, doc, before)
 }
 
 /// Indent, step 4: siblings go on.
@@ -118,7 +108,7 @@ fn indent_each(alloc: Global, doc: &mut Doc, list: &[NodeRef]) -> Result<(), Edi
     requires open { IsOpen doc.old }
     requires list_held { EachHeld doc.old list.now }
     ensures gives { Gives result doc.old.state doc.new.state
-        (for_series goes_on indent_list 0 (labels_of list.now)) }
+        (for_series goes_on indent_list (labels_of list.now)) }
     ensures keeps { Keeps doc.old doc.new }
 {
     let mut at = 0;
@@ -132,39 +122,18 @@ fn indent_each(alloc: Global, doc: &mut Doc, list: &[NodeRef]) -> Result<(), Edi
     Ok(())
 }
 
-// Indent, steps 3 and 4.
-#[tactic(auto, using(edit_model::proofs::Steps::steps, edit_model::proofs::Steps::exits), unfolding(crate::specs::Commands::indent_nodes))]
-fn indent_nodes(alloc: Global, doc: &mut Doc, list: &[NodeRef]) -> Result<(), EditFault>
-    requires open { IsOpen doc.old }
-    requires list_held { EachHeld doc.old list.now }
-    ensures gives { Gives result doc.old.state doc.new.state (indent_nodes (labels_of list.now)) }
-    ensures keeps { Keeps doc.old doc.new }
-{
-    normalize_first(alloc, doc, list)?;
-    indent_each(alloc, doc, list)
-}
-
-// Indent, step 2, and then from 3 on.
-#[tactic(auto, using(edit_model::proofs::Steps::steps, edit_model::proofs::Steps::exits), unfolding(crate::specs::Commands::indent_gathered))]
-fn indent_gathered(alloc: Global, doc: &mut Doc) -> Result<(), EditFault>
-    requires open { IsOpen doc.old }
-    ensures gives { Gives result doc.old.state doc.new.state indent_gathered }
-    ensures keeps { Keeps doc.old doc.new }
-{
-    let list = outermost(alloc, doc, &Indentable)?;
-    indent_nodes(alloc, doc, list.as_slice())
-}
-
 /// The command indent: what the block-extended active range contains is indented. Items go into a
 /// list of their own, the other nodes into a blockquote. It answers true.
-#[tactic(auto, using(edit_model::proofs::Steps::steps, edit_model::proofs::Steps::exits), unfolding(crate::specs::Commands::indent))]
+#[tactic(auto, using(edit_model::proofs::Steps::steps, edit_model::proofs::Steps::exits), unfolding(crate::specs::Commands::indent_nodes, crate::specs::Commands::indent))]
 pub fn indent(alloc: Global, doc: &mut Doc) -> Result<bool, EditFault>
     requires open { IsOpen doc.old }
     ensures gives { Gives result doc.old.state doc.new.state indent }
     ensures keeps { Keeps doc.old doc.new }
 {
-    normalize_range(alloc, doc)?;
-    indent_gathered(alloc, doc)?;
+    normalize_range(alloc, doc)?; // step 1
+    let list = outermost(alloc, doc, &Indentable)?; // step 2
+    normalize_before(alloc, doc, list.as_slice())?; // step 3
+    indent_each(alloc, doc, list.as_slice())?; // step 4
     Ok(true)
 }
 
@@ -206,29 +175,7 @@ pub fn split_items(alloc: Global, doc: &mut Doc, list: &NodeList) -> Result<(), 
     restore_values(alloc, doc, &values)
 }
 
-// Outdent, step 3: the first member alone, or a series that begins with it.
-#[tactic(auto, using(edit_model::proofs::Steps::steps, edit_model::proofs::Steps::exits), unfolding(crate::specs::Commands::outdent_from))]
-fn outdent_from(
-    alloc: Global,
-    doc: &mut Doc,
-    list: &NodeList,
-    first: NodeRef,
-) -> Result<(), EditFault>
-    requires open { IsOpen doc.old }
-    requires list_held { EachHeld doc.old list.now }
-    requires first_held { Holds doc.old first }
-    ensures gives { Gives result doc.old.state doc.new.state
-        (outdent_from (labels_of list.now) first.label) }
-    ensures keeps { Keeps doc.old doc.new }
-{
-    if is_lone(doc, first) {
-        outdent_node(alloc, doc, first)
-    } else {
-        split_items(alloc, doc, list)
-    }
-}
-
-// Outdent, step 3, with a series.
+// Outdent, step 3, one turn: the first member alone, or a series that begins with it.
 #[tactic(auto, using(edit_model::proofs::Steps::steps, edit_model::proofs::Steps::exits, edit_model::proofs::Steps::ends), unfolding(crate::specs::Commands::outdent_series))]
 fn outdent_series(alloc: Global, doc: &mut Doc, list: &NodeList) -> Result<(), EditFault>
     requires open { IsOpen doc.old }
@@ -240,7 +187,11 @@ fn outdent_series(alloc: Global, doc: &mut Doc, list: &NodeList) -> Result<(), E
         return Ok(());
     }
     let first = list.as_slice()[0];
-    outdent_from(alloc, doc, list, first)
+    if is_lone(doc, first) {
+        outdent_node(alloc, doc, first)
+    } else {
+        split_items(alloc, doc, list)
+    }
 }
 
 // Outdent, step 3: outdents a list series by series.
@@ -262,17 +213,6 @@ fn outdent_nodes(alloc: Global, doc: &mut Doc, list: &[NodeRef]) -> Result<(), E
     Ok(())
 }
 
-// Outdent, step 2, and then 3.
-#[tactic(auto, using(edit_model::proofs::Steps::steps, edit_model::proofs::Steps::exits), unfolding(crate::specs::Commands::outdent_gathered))]
-fn outdent_gathered(alloc: Global, doc: &mut Doc) -> Result<(), EditFault>
-    requires open { IsOpen doc.old }
-    ensures gives { Gives result doc.old.state doc.new.state outdent_gathered }
-    ensures keeps { Keeps doc.old doc.new }
-{
-    let list = outermost(alloc, doc, &Outdentable)?;
-    outdent_nodes(alloc, doc, list.as_slice())
-}
-
 /// The command outdent: what the block-extended active range contains is outdented. Items leave
 /// their list, the other nodes the indentation element around them. It answers true.
 #[tactic(auto, using(edit_model::proofs::Steps::steps, edit_model::proofs::Steps::exits), unfolding(crate::specs::Commands::outdent))]
@@ -281,7 +221,8 @@ pub fn outdent(alloc: Global, doc: &mut Doc) -> Result<bool, EditFault>
     ensures gives { Gives result doc.old.state doc.new.state outdent }
     ensures keeps { Keeps doc.old doc.new }
 {
-    normalize_range(alloc, doc)?;
-    outdent_gathered(alloc, doc)?;
+    normalize_range(alloc, doc)?; // step 1
+    let list = outermost(alloc, doc, &Outdentable)?; // step 2
+    outdent_nodes(alloc, doc, list.as_slice())?; // step 3
     Ok(true)
 }

@@ -1,12 +1,12 @@
 //! Outdent a node, step 7: the siblings on the way to the indentation element are indented in its
-//! place. The steps are those of docs/ALGORITHMS.md.
+//! place.
 
 ghost use Rattle.std.specs.Prelude.{◌≡◌, ◌≤◌, ◌==◌, ◌||◌, IfOk, length, drop, take, reverse};
 ghost use Rattle.dom_model.specs.Forest.{first_in, is_label};
 ghost use Rattle.edit_model.specs.Gives.{Gives, label_of, labels_of};
 ghost use Rattle.edit_doc.specs.Whole.{IsOpen};
 ghost use Rattle.edit_doc.specs.Held.{Holds, EachHeld, Finds, Keeps};
-ghost use Rattle.list_indent.specs.Outdenting.{child_on_way, drop_break, indent_before, rest_after, siblings_after, indent_after, part_around, part_level, part_levels};
+ghost use Rattle.list_indent.specs.Outdenting.{child_on_way, rest_after, siblings_after, part_level, part_levels};
 
 use crate::indenting::indent_list;
 use edit_actions::{children_before, is_same};
@@ -43,40 +43,6 @@ fn child_on_way(
     None
 }
 
-// Step 7: the br after a child goes.
-#[tactic(auto, using(edit_model::proofs::Steps::steps, edit_model::proofs::Steps::exits), unfolding(crate::specs::Outdenting::drop_break))]
-fn drop_break(doc: &mut Doc, node: NodeRef) -> Result<(), EditFault>
-    requires open { IsOpen doc.old }
-    requires node_held { Holds doc.old node }
-    ensures gives { Gives result doc.old.state doc.new.state (drop_break node.label) }
-    ensures keeps { Keeps doc.old doc.new }
-{
-    let Some(next) = break_next(doc, node) else {
-        return Ok(());
-    };
-    doc.remove(next)?;
-    Ok(())
-}
-
-// Step 7: indents the siblings before a child.
-#[tactic(auto, using(edit_model::proofs::Steps::steps, edit_model::proofs::Steps::exits), unfolding(crate::specs::Outdenting::indent_before))]
-fn indent_before(
-    alloc: Global,
-    doc: &mut Doc,
-    element: NodeRef,
-    child: NodeRef,
-) -> Result<(), EditFault>
-    requires open { IsOpen doc.old }
-    requires element_held { Holds doc.old element }
-    ensures gives { Gives result doc.old.state doc.new.state
-        (indent_before element.label child.label) }
-    ensures keeps { Keeps doc.old doc.new }
-{
-    let front = children_before(alloc, doc, element, child)?;
-    let list = NodeList::from_vec(front);
-    indent_list(alloc, doc, list)
-}
-
 // The place in a list after a node; its end, where the node isn't in it.
 #[tactic(auto, using(edit_model::proofs::Steps::labels_of_drop, edit_model::proofs::Steps::labels_of_end))]
 fn place_after(list: &[NodeRef], node: NodeRef) -> usize
@@ -109,40 +75,9 @@ fn siblings_after(alloc: Global, doc: &Doc, node: NodeRef) -> Result<NodeList, A
     NodeList::from_slice(alloc, &children[at..])
 }
 
-// Step 7: indents the siblings after a child.
-#[tactic(auto, using(edit_model::proofs::Steps::steps, edit_model::proofs::Steps::exits), unfolding(crate::specs::Outdenting::indent_after))]
-fn indent_after(alloc: Global, doc: &mut Doc, child: NodeRef) -> Result<(), EditFault>
-    requires open { IsOpen doc.old }
-    requires child_held { Holds doc.old child }
-    ensures gives { Gives result doc.old.state doc.new.state (indent_after child.label) }
-    ensures keeps { Keeps doc.old doc.new }
-{
-    let list = siblings_after(alloc, doc, child)?;
-    indent_list(alloc, doc, list)
-}
-
-// Step 7: around a child.
-#[tactic(auto, using(edit_model::proofs::Steps::steps, edit_model::proofs::Steps::exits), unfolding(crate::specs::Outdenting::part_around))]
-fn part_around(
-    alloc: Global,
-    doc: &mut Doc,
-    element: NodeRef,
-    child: NodeRef,
-) -> Result<(), EditFault>
-    requires open { IsOpen doc.old }
-    requires element_held { Holds doc.old element }
-    requires child_held { Holds doc.old child }
-    ensures gives { Gives result doc.old.state doc.new.state
-        (part_around element.label child.label) }
-    ensures keeps { Keeps doc.old doc.new }
-{
-    drop_break(doc, child)?;
-    indent_before(alloc, doc, element, child)?;
-    indent_after(alloc, doc, child)
-}
-
-// Step 7: one turn, with the element taken.
-#[tactic(auto, using(edit_model::proofs::Steps::steps, edit_model::proofs::Steps::exits), unfolding(crate::specs::Outdenting::part_level))]
+// One turn, with the member of A and the one before it: the br after the child on the way goes, and
+// the siblings on either side of the child are indented.
+#[tactic(auto, using(edit_model::proofs::Steps::steps, edit_model::proofs::Steps::exits), unfolding(crate::specs::Outdenting::part_around, crate::specs::Outdenting::part_level))]
 fn part_level(
     alloc: Global,
     doc: &mut Doc,
@@ -159,7 +94,13 @@ fn part_level(
     let Some(child) = child_on_way(doc, element, node, below) else {
         return Ok(());
     };
-    part_around(alloc, doc, element, child)
+    if let Some(next) = break_next(doc, child) {
+        doc.remove(next)?;
+    }
+    let before = children_before(alloc, doc, element, child)?;
+    indent_list(alloc, doc, NodeList::from_vec(before))?;
+    let after = siblings_after(alloc, doc, child)?;
+    indent_list(alloc, doc, after)
 }
 
 // The member before an index.
@@ -175,7 +116,7 @@ fn member_before(list: &[NodeRef], index: usize) -> Option<NodeRef>
     }
 }
 
-// Step 7: parts each of the elements, of which the last one is the outermost.
+/// Step 7: parts each of the members of A, of which the last one is the outermost.
 #[tactic(auto, using(crate::proofs::Downward::levels, edit_model::proofs::Steps::exits))]
 pub(crate) fn part_levels(
     alloc: Global,

@@ -37,7 +37,7 @@ release_series ordered list = given (first_in list) done λ x. look λ s.
 
 -- series by series
 unfoldable pub release_all : Bool → List ℕ → Run (Unit {0})
-release_all ordered list = for_series (goes_on_out ordered) (release_series ordered) 0 list
+release_all ordered list = for_series (goes_on_out ordered) (release_series ordered) list
 
 -- ---- step 6: the lines become items of lists of the kind
 

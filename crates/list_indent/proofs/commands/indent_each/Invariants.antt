@@ -11,8 +11,8 @@ use Rattle.list_indent.proofs.commands.indent_each.Given as goal
 abbrev pub invariant-loop-at : goal.invariant-loop-at
 invariant-loop-at l =
     (l.at ≤ length l.list)
-    × ((final (for_series goes_on indent_list 0 (labels_of (drop l.at l.list))) l.doc.state
-    ≡ final (for_series goes_on indent_list 0 (labels_of l.list)) l.initial.doc.state)
+    × ((final (for_series goes_on indent_list (labels_of (drop l.at l.list))) l.doc.state
+    ≡ final (for_series goes_on indent_list (labels_of l.list)) l.initial.doc.state)
     × Keeps l.initial.doc l.doc)
 
 abbrev pub decreases-loop-at : goal.decreases-loop-at

@@ -1,11 +1,9 @@
-use Rattle.std.proofs.Common.{sym, ap, ◌∙◌, subst}
-use Rattle.edit_doc.specs.Held.{Finds}
+use Rattle.std.proofs.Common.{sym, ap, ◌∙◌}
 use Rattle.edit_doc.proofs.Children.{none_held, pushed_held}
 use Rattle.inline_value.specs.Forcing.{ancestors}
-use Rattle.inline_value.specs.Pushing.{leading}
-use Rattle.list_indent.specs.Outdenting.{is_passed, beyond, if_indents, passed_by, indenter_by}
+use Rattle.list_indent.specs.Outdenting.{is_passed, climb, way_by}
 use Rattle.inline_value.proofs.Above.{ancestors_from}
-use Rattle.list_indent.proofs.Ancestors.{none_passed, none_end, stop_passed, stop_end, on_passed, on_end, lower}
+use Rattle.list_indent.proofs.Ancestors.{none_passed, none_next, stop_passed, stop_next, on_passed, on_next, lower}
 use Rattle.list_indent.proofs.outdenting.way_by.Goals as goal
 
 pub loop-at-init : goal.loop-at-init
@@ -16,33 +14,34 @@ loop-at-init c =
     record {
       held = c.parent-at.ensures.held;
       each = none_held d c.new-passed.result.items c.new-passed.ensures.items;
-      made = rw (c.new-passed.ensures.items, c.parent-at.ensures.is) (ap (leading test) (sym whole));
-      beyond = rw c.parent-at.ensures.is (ap (beyond test) (sym whole));
+      made = rw (c.new-passed.ensures.items, c.parent-at.ensures.is) (ap (λ line. (climb test line).0) (sym whole));
+      next = rw c.parent-at.ensures.is (ap (λ line. (climb test line).1) (sym whole));
     }
 
 pub returns-then-not-is_passed-clause-passed : goal.returns-then-not-is_passed-clause-passed
-unfolding passed_by
+unfolding way_by
 returns-then-not-is_passed-clause-passed c =
     let d = c.args.doc.now in
     let test = is_passed c.args.simple d.state in
     let i = c.loop-at.invariant in
-    stop_passed d test c.loop-at.passed.items (leading test (ancestors d.state.trees c.args.node.label)) (beyond test (ancestors d.state.trees c.args.node.label)) c.valid.ensures c.loop-at.at c.in-Some.ancestor c.in-Some.is i.held (sym c.is_passed.ensures ∙ c.if-not-is_passed.true) i.made
+    stop_passed d test c.loop-at.passed.items (climb test (ancestors d.state.trees c.args.node.label)) c.valid.ensures c.loop-at.at c.in-Some.ancestor c.in-Some.is i.held (sym c.is_passed.ensures ∙ c.if-not-is_passed.true) i.made
 
-pub returns-then-not-is_passed-clause-end : goal.returns-then-not-is_passed-clause-end
-unfolding indenter_by
-returns-then-not-is_passed-clause-end c =
+pub returns-then-not-is_passed-clause-next : goal.returns-then-not-is_passed-clause-next
+unfolding way_by
+returns-then-not-is_passed-clause-next c =
     let d = c.args.doc.now in
     let test = is_passed c.args.simple d.state in
     let i = c.loop-at.invariant in
-    let end = stop_end d test c.loop-at.passed.items (leading test (ancestors d.state.trees c.args.node.label)) (beyond test (ancestors d.state.trees c.args.node.label)) c.valid.ensures c.loop-at.at c.in-Some.ancestor c.in-Some.is i.held (sym c.is_passed.ensures ∙ c.if-not-is_passed.true) i.beyond in
-    subst (λ w. Finds d c.if_indents-end.result (if_indents c.args.simple d.state w)) (sym end) c.if_indents-end.ensures
+    record {
+      is = stop_next d test c.loop-at.passed.items (climb test (ancestors d.state.trees c.args.node.label)) c.valid.ensures c.loop-at.at c.in-Some.ancestor c.in-Some.is i.held (sym c.is_passed.ensures ∙ c.if-not-is_passed.true) i.next;
+      held = i.held;
+    }
 
 pub loop-at-smaller : goal.loop-at-smaller
 loop-at-smaller c =
     let d = c.args.doc.now in
     let test = is_passed c.args.simple d.state in
-    let i = c.loop-at.invariant in
-    lower d test c.loop-at.passed.items (leading test (ancestors d.state.trees c.args.node.label)) (beyond test (ancestors d.state.trees c.args.node.label)) c.valid.ensures c.loop-at.at c.in-Some.ancestor c.in-Some.is i.held c.parent-at-in-Some.result c.parent-at-in-Some.ensures
+    lower d test c.loop-at.passed.items (climb test (ancestors d.state.trees c.args.node.label)) c.valid.ensures c.loop-at.at c.in-Some.ancestor c.in-Some.is c.loop-at.invariant.held c.parent-at-in-Some.result c.parent-at-in-Some.ensures
 
 pub loop-at-preserved : goal.loop-at-preserved
 loop-at-preserved c =
@@ -50,30 +49,28 @@ loop-at-preserved c =
     let test = is_passed c.args.simple d.state in
     let i = c.loop-at.invariant in
     let r = c.in-Some.ancestor in
-    let whole = leading test (ancestors d.state.trees c.args.node.label) in
-    let last = beyond test (ancestors d.state.trees c.args.node.label) in
+    let whole = climb test (ancestors d.state.trees c.args.node.label) in
     let so = sym c.is_passed.ensures ∙ c.if-not-is_passed.false in
     record {
       held = c.parent-at-in-Some.ensures.held;
       each = pushed_held d c.loop-at.passed.items _ r i.each (rw c.in-Some.is at i.held) c.in_ok-push.ensures.items;
-      made = on_passed d test c.loop-at.passed.items whole last c.valid.ensures c.loop-at.at r c.in-Some.is i.held so c.parent-at-in-Some.result c.parent-at-in-Some.ensures _ c.in_ok-push.ensures.items i.made;
-      beyond = on_end d test c.loop-at.passed.items whole last c.valid.ensures c.loop-at.at r c.in-Some.is i.held so c.parent-at-in-Some.result c.parent-at-in-Some.ensures i.beyond;
+      made = on_passed d test c.loop-at.passed.items whole c.valid.ensures c.loop-at.at r c.in-Some.is i.held so c.parent-at-in-Some.result c.parent-at-in-Some.ensures _ c.in_ok-push.ensures.items i.made;
+      next = on_next d test c.loop-at.passed.items whole c.valid.ensures c.loop-at.at r c.in-Some.is i.held so c.parent-at-in-Some.result c.parent-at-in-Some.ensures i.next;
     }
 
 pub returns-clause-passed : goal.returns-clause-passed
-unfolding passed_by
+unfolding way_by
 returns-clause-passed c =
     let d = c.args.doc.now in
     let test = is_passed c.args.simple d.state in
-    none_passed d test c.loop-at.passed.items (leading test (ancestors d.state.trees c.args.node.label)) (beyond test (ancestors d.state.trees c.args.node.label)) c.loop-at.at c.in_default.is c.loop-at.invariant.made
+    none_passed d test c.loop-at.passed.items (climb test (ancestors d.state.trees c.args.node.label)) c.loop-at.at c.in_default.is c.loop-at.invariant.made
 
-pub returns-clause-end : goal.returns-clause-end
-unfolding indenter_by
-returns-clause-end c =
+pub returns-clause-next : goal.returns-clause-next
+unfolding way_by
+returns-clause-next c =
     let d = c.args.doc.now in
     let test = is_passed c.args.simple d.state in
-    let end = none_end d test c.loop-at.passed.items (leading test (ancestors d.state.trees c.args.node.label)) (beyond test (ancestors d.state.trees c.args.node.label)) c.loop-at.at c.in_default.is c.loop-at.invariant.beyond in
     record {
-      is = sym (ap (if_indents c.args.simple d.state) end);
+      is = sym (none_next d test c.loop-at.passed.items (climb test (ancestors d.state.trees c.args.node.label)) c.loop-at.at c.in_default.is c.loop-at.invariant.next);
       held = tt;
     }

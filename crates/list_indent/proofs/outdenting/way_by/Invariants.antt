@@ -2,8 +2,7 @@ use Rattle.std.proofs.Common.{◌≡◌, ◌++◌}
 use Rattle.edit_model.specs.Gives.{label_of, labels_of}
 use Rattle.edit_doc.specs.Held.{IfHeld, EachHeld}
 use Rattle.inline_value.specs.Forcing.{ancestors}
-use Rattle.inline_value.specs.Pushing.{leading}
-use Rattle.list_indent.specs.Outdenting.{is_passed, beyond}
+use Rattle.list_indent.specs.Outdenting.{is_passed, climb}
 use Rattle.inline_value.proofs.Above.{from, height}
 use Rattle.list_indent.proofs.outdenting.way_by.Given as goal
 
@@ -12,8 +11,8 @@ abbrev pub invariant-loop-at : goal.invariant-loop-at
 invariant-loop-at l = record {
   held : IfHeld l.doc l.at;
   each : EachHeld l.doc l.passed.items;
-  made : labels_of l.passed.items ++ leading (is_passed l.fn.simple l.doc.state) (from l.doc.state.trees (label_of l.at)) ≡ leading (is_passed l.fn.simple l.doc.state) (ancestors l.doc.state.trees l.fn.node.label);
-  beyond : beyond (is_passed l.fn.simple l.doc.state) (from l.doc.state.trees (label_of l.at)) ≡ beyond (is_passed l.fn.simple l.doc.state) (ancestors l.doc.state.trees l.fn.node.label);
+  made : labels_of l.passed.items ++ (climb (is_passed l.fn.simple l.doc.state) (from l.doc.state.trees (label_of l.at))).0 ≡ (climb (is_passed l.fn.simple l.doc.state) (ancestors l.doc.state.trees l.fn.node.label)).0;
+  next : (climb (is_passed l.fn.simple l.doc.state) (from l.doc.state.trees (label_of l.at))).1 ≡ (climb (is_passed l.fn.simple l.doc.state) (ancestors l.doc.state.trees l.fn.node.label)).1;
 }
 
 abbrev pub decreases-loop-at : goal.decreases-loop-at
