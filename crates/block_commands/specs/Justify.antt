@@ -1,6 +1,6 @@
 -- Justifying the selection (HTML Editing APIs, "justify the selection"): the blocks of the active
 -- range come to stand in a div that aligns them. The steps are those of docs/ALGORITHMS.md.
-use Rattle.std.specs.Prelude.{ℕ, Bool, true, false, ◌&&◌, ◌||◌, not, List, [], ◌∷◌, ◌++◌, take, drop, Option, is_some, bytes_eq, codes, if◌then◌else◌}
+use Rattle.std.specs.Prelude.{ℕ, Bool, true, false, ◌&&◌, ◌||◌, not, List, [], ◌∷◌, ◌++◌, is_some, bytes_eq, codes, if◌then◌else◌}
 use Rattle.std.specs.Option.{option_map_or}
 use Rattle.dom_model.specs.declared.attributes.Attribute.{Attribute}
 use Rattle.dom_model.specs.declared.Content.{Content}
@@ -13,7 +13,7 @@ use Rattle.command_value.specs.Alignment.{alignment_value}
 use Rattle.edit_model.specs.State.{State}
 use Rattle.edit_model.specs.Confined.{is_editable_for}
 use Rattle.edit_model.specs.Compositions.{attribute_list_of, set_tag_name}
-use Rattle.edit_model.specs.Run.{Run, ◌>>◌, answer, done, look, for_each, unset_attribute}
+use Rattle.edit_model.specs.Run.{Run, ◌>>=◌, ◌>>◌, answer, done, look, for_each, unset_attribute}
 use Rattle.wrap_split.specs.declared.rule.Blank.{Blank}
 use Rattle.wrap_split.specs.declared.rule.Criterion.TheVariants.{Aligned}
 use Rattle.wrap_split.specs.declared.rule.Recipe.TheVariants.{Make}
@@ -23,27 +23,24 @@ use Rattle.wrap_split.specs.Wrap.{wrap}
 use Rattle.inline_value.specs.Styling.{unset_style}
 use Rattle.edit_query.specs.Gathered.{outermost}
 use Rattle.block_commands.specs.Gathered.{contained}
-use Rattle.block_extend.specs.Series.{count_series, is_next}
-use Rattle.block_commands.specs.Series.{in_turns}
+use Rattle.block_extend.specs.Series.{is_next}
+use Rattle.block_commands.specs.Series.{take_series, in_turns}
 
--- ---- justify, step 1: elements that align what is in them give that up
+-- ---- step 1: elements that align what is in them give that up
 
--- an align attribute, or a style that declares text-align
 abbrev pub sets_alignment : List ℕ → Bool
 sets_alignment text = is_some (style.value_of (style.declarations_in text) (codes "text-align"))
 
+-- an align attribute, or a style that declares text-align
 abbrev pub has_alignment : List Attribute → Bool
 has_alignment list =
     is_some (value_of list (codes "align"))
     || option_map_or sets_alignment (value_of list (codes "style")) false
 
--- or a center
-unfoldable pub gives_alignment : State → ℕ → Bool
-gives_alignment s e =
-    has_alignment (attribute_list_of s.trees e) || has_name s.trees e (codes "center")
-
 unfoldable pub is_aligning : State → ℕ → Bool
-is_aligning s e = gives_alignment s e && is_editable_for s e
+is_aligning s e =
+    is_editable_for s e
+    && (has_alignment (attribute_list_of s.trees e) || has_name s.trees e (codes "center"))
 
 -- a div, span or center without attributes
 unfoldable pub is_plain : Forest Content → ℕ → Bool
@@ -52,27 +49,24 @@ is_plain f e =
     && (has_name f e (codes "div")
     || (has_name f e (codes "span") || has_name f e (codes "center")))
 
--- justify, step 1: a center becomes a div
-unfoldable pub name_div : ℕ → Run (Unit {0})
-name_div e = look λ s. if has_name s.trees e (codes "center") then
-    set_tag_name e (codes "div") >> done else done
-
--- justify, step 1: a plain element goes, and its children stay
+-- one that aligns no more: where it is plain it goes, and its children stay; otherwise a center
+-- becomes a div
 unfoldable pub drop_plain : ℕ → Run (Unit {0})
-drop_plain e = look λ s. if is_plain s.trees e then remove_keeping_children e else name_div e
+drop_plain e = look λ s.
+    if is_plain s.trees e then remove_keeping_children e
+    else (if has_name s.trees e (codes "center") then set_tag_name e (codes "div") >> done else done)
 
--- justify, step 1: one element
+-- one element
 unfoldable pub clear_alignment : ℕ → Run (Unit {0})
 clear_alignment e = do
   unset_attribute e (codes "align")
   unset_style e (codes "text-align")
   drop_plain e
 
--- justify, step 1: each element, in order
 unfoldable pub clear_alignments : Run (Unit {0})
 clear_alignments = look λ s. for_each (contained (is_aligning s) s) clear_alignment
 
--- ---- justify, step 2: the nodes that are aligned otherwise
+-- ---- step 2: the nodes that are aligned otherwise
 
 unfoldable pub is_misaligned : List ℕ → State → ℕ → Bool
 is_misaligned alignment s l =
@@ -80,7 +74,7 @@ is_misaligned alignment s l =
     && (allowed_in_name s.trees l (codes "div")
     && not (bytes_eq (alignment_value s.trees l) alignment))
 
--- ---- justify, step 3: they are wrapped, series by series
+-- ---- step 3: they are wrapped, series by series
 
 -- a div with the style `text-align: X;`
 abbrev pub aligned_div : List ℕ → Blank
@@ -93,27 +87,16 @@ aligned_div alignment = record {
   } ∷ [];
 }
 
--- justify, step 3: a series is wrapped
-unfoldable pub wrap_aligned : List ℕ → List ℕ → Run (Option ℕ)
-wrap_aligned alignment list = wrap (Aligned alignment) (Make (aligned_div alignment)) list
+-- one turn: the series that the list begins with is wrapped, and the rest of the list is answered
+unfoldable pub align_next : List ℕ → List ℕ → Run (List ℕ)
+align_next alignment list = look λ s.
+    let series = take_series (is_next s.trees) list in
+    wrap (Aligned alignment) (Make (aligned_div alignment)) series.0 >> answer series.1
 
--- justify, step 3: one turn, which answers what is left of the list
-unfoldable pub align_series : List ℕ → List ℕ → Run (List ℕ)
-align_series alignment list = look λ s.
-    let count = count_series (is_next s.trees) list in
-    wrap_aligned alignment (take count list) >> answer (drop count list)
+-- ---- the whole
 
--- justify, step 3: while the list is not empty
-unfoldable pub align_all : List ℕ → List ℕ → Run (Unit {0})
-align_all alignment list = in_turns (align_series alignment) list
-
--- justify, steps 2 and 3
-unfoldable pub align_range : List ℕ → Run (Unit {0})
-align_range alignment = look λ s. align_all alignment (outermost (is_misaligned alignment s) s)
-
--- justify, steps 1 to 3
 unfoldable pub justify : List ℕ → Run Bool
 justify alignment = do
   clear_alignments
-  align_range alignment
+  look λ s. in_turns (align_next alignment) (outermost (is_misaligned alignment s) s)
   answer true

@@ -1,17 +1,14 @@
--- Lists of nodes that are taken sibling by sibling, in the series of `block_extend/specs/Series`.
-use Rattle.std.specs.Prelude.{ℕ, Bool, true, false, ◌&&◌, not, List, [], ◌∷◌}
-use Rattle.dom_model.specs.Contents.{is_break}
-use Rattle.node_styles.specs.NameClasses.{is_single_line}
+-- Lists of nodes that are taken part by part from the front, in the series of
+-- `block_extend/specs/Series`.
+use Rattle.std.specs.Prelude.{ℕ, Bool, true, false, List, [], ◌∷◌, take, drop}
 use Rattle.edit_model.specs.Run.{Run, ◌>>◌, done, look, while_at_most}
 use Rattle.edit_model.specs.State.{State}
-use Rattle.block_extend.specs.Series.{is_next}
+use Rattle.block_extend.specs.Series.{count_series}
 use Rattle.wrap_split.specs.Walks.{turn_bound}
 
--- y is the next sibling of x, and on one line with it: y is no single-line container, and x is no
--- br
-unfoldable pub is_next_on_line : State → ℕ → ℕ → Bool
-is_next_on_line s x y =
-    is_next s.trees x y && (not (is_single_line s.trees y) && not (is_break s.trees x))
+-- takes the first series: its members, and the rest of the list
+abbrev pub take_series : (ℕ → ℕ → Bool) → List ℕ → List ℕ × List ℕ
+take_series on list = (take (count_series on list) list, drop (count_series on list) list)
 
 abbrev pub has_members : State → List ℕ → Bool
 has_members s [] = false

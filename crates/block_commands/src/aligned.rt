@@ -123,14 +123,7 @@ pub(crate) fn is_center(doc: &Doc, node: NodeRef) -> bool
     }
 }
 
-// Whether a style declares text-align.
-fn sets_alignment(text: &[char]) -> bool
-    ensures { result ≡ justify.sets_alignment text.now }
-{
-    find(text, b"text-align").is_some()
-}
-
-// Whether attributes align what is in an element.
+// Whether attributes align what is in an element: an align, or a style that declares text-align.
 fn has_alignment(attributes: &Attributes) -> bool
     ensures { result ≡ justify.has_alignment attributes.now }
 {
@@ -138,27 +131,12 @@ fn has_alignment(attributes: &Attributes) -> bool
         return true;
     }
     match attributes.get(b"style") {
-        Some(text) => sets_alignment(text.as_slice()),
+        Some(text) => find(text.as_slice(), b"text-align").is_some(),
         None => false,
     }
 }
 
-// Justify, step 1: an align attribute, a style that declares text-align, or a center.
-#[tactic(auto, unfolding(crate::specs::Justify::gives_alignment))]
-fn gives_alignment(doc: &Doc, node: NodeRef) -> bool
-    requires { Holds doc.now node }
-    ensures { result ≡ justify.gives_alignment doc.now.state node.label }
-{
-    match doc.content(node) {
-        Content::Element {
-            name: _,
-            attributes,
-        } => has_alignment(attributes) || is_center(doc, node),
-        _ => false,
-    }
-}
-
-/// The elements that give up their alignment.
+/// Justify, step 1: the elements that give up their alignment.
 #[derive(Clone, Copy)]
 pub(crate) struct Aligning;
 
@@ -169,7 +147,15 @@ impl Choice<Doc> for Aligning {
 
     #[tactic(auto, unfolding(crate::specs::Justify::is_aligning))]
     fn chooses(&self, doc: &Doc, node: NodeRef) -> bool {
-        gives_alignment(doc, node) && doc.is_editable_for(node)
+        match doc.content(node) {
+            Content::Element {
+                name: _,
+                attributes,
+            } => {
+                (has_alignment(attributes) || is_center(doc, node)) && doc.is_editable_for(node)
+            }
+            _ => false,
+        }
     }
 }
 

@@ -2,16 +2,15 @@
 
 ghost use Rattle.std.specs.Prelude.{◌≡◌};
 ghost use Rattle.css_value.specs.Values.{text_align_keyword};
-ghost use Rattle.edit_model.specs.Gives.{Gives, GivesMaybe, labels_of};
-ghost use Rattle.edit_doc.specs.Held.{Holds, EachHeld, Keeps};
-ghost use Rattle.edit_model.specs.Run.{for_each};
+ghost use Rattle.edit_model.specs.Gives.{Gives};
+ghost use Rattle.edit_doc.specs.Held.{Holds, Keeps};
 ghost use Rattle.edit_doc.specs.Whole.{IsOpen};
 ghost use Rattle.block_commands.specs.Justify as justify;
 
 use crate::aligned::{AlignedSibling, Aligning, Misaligned, aligned_div, is_center};
 use crate::gathered::contained;
-use crate::series::count_siblings;
 use crate::turns::{Turn, in_turns};
+use block_extend::{Link, count_series, is_next};
 use css_value::TextAlign;
 use dom_model::{Chars, Name};
 use edit_doc::{Doc, EditFault, NodeList, NodeRef};
@@ -20,21 +19,6 @@ use inline_value::unset_style;
 use node_tests::has_name;
 use std::alloc::Global;
 use wrap_split::{CopyMade, WrapRule, is_without_attributes, remove_keeping_children, wrap};
-
-// Step 1: a center becomes a div.
-#[tactic(auto, using(edit_model::proofs::Steps::steps, edit_model::proofs::Steps::exits), unfolding(crate::specs::Justify::name_div))]
-fn name_div(alloc: Global, doc: &mut Doc, node: NodeRef) -> Result<(), EditFault>
-    requires open { IsOpen doc.old }
-    requires node_held { Holds doc.old node }
-    ensures gives { Gives result doc.old.state doc.new.state (justify.name_div node.label) }
-    ensures keeps { Keeps doc.old doc.new }
-{
-    if is_center(doc, node) {
-        let name = Name::from_slice(alloc, b"div")?;
-        doc.set_tag_name(node, &name)?;
-    }
-    Ok(())
-}
 
 // Step 1: whether it is a div, span or center without attributes.
 #[tactic(auto, unfolding(crate::specs::Justify::is_plain))]
@@ -48,7 +32,8 @@ fn is_plain(doc: &Doc, node: NodeRef) -> bool
             || has_name(doc, node, b"center"))
 }
 
-// Step 1: such an element goes, and its children stay.
+// Step 1, when it aligns no more: where it is plain it goes, and its children stay; otherwise a
+// center becomes a div.
 #[tactic(auto, using(edit_model::proofs::Steps::steps, edit_model::proofs::Steps::exits), unfolding(crate::specs::Justify::drop_plain))]
 fn drop_plain(alloc: Global, doc: &mut Doc, node: NodeRef) -> Result<(), EditFault>
     requires open { IsOpen doc.old }
@@ -57,10 +42,13 @@ fn drop_plain(alloc: Global, doc: &mut Doc, node: NodeRef) -> Result<(), EditFau
     ensures keeps { Keeps doc.old doc.new }
 {
     if is_plain(doc, node) {
-        remove_keeping_children(alloc, doc, node)
-    } else {
-        name_div(alloc, doc, node)
+        return remove_keeping_children(alloc, doc, node);
     }
+    if is_center(doc, node) {
+        let name = Name::from_slice(alloc, b"div")?;
+        doc.set_tag_name(node, &name)?;
+    }
+    Ok(())
 }
 
 // Step 1, of one element.
@@ -77,103 +65,58 @@ fn clear_alignment(alloc: Global, doc: &mut Doc, node: NodeRef) -> Result<(), Ed
     drop_plain(alloc, doc, node)
 }
 
-// Step 1, of each element of a list.
-#[tactic(auto, using(edit_model::proofs::Steps::eachs, edit_model::proofs::Steps::exits))]
-fn clear_each(alloc: Global, doc: &mut Doc, list: &[NodeRef]) -> Result<(), EditFault>
-    requires open { IsOpen doc.old }
-    requires list_held { EachHeld doc.old list.now }
-    ensures gives { Gives result doc.old.state doc.new.state
-        (for_each (labels_of list.now) justify.clear_alignment) }
-    ensures keeps { Keeps doc.old doc.new }
-{
-    for node in list {
-        clear_alignment(alloc, doc, *node)?;
-    }
-    Ok(())
-}
-
 // Step 1.
-#[tactic(auto, using(edit_model::proofs::Steps::steps, edit_model::proofs::Steps::exits), unfolding(crate::specs::Justify::clear_alignments))]
+#[tactic(auto, using(edit_model::proofs::Steps::eachs, edit_model::proofs::Steps::exits), unfolding(crate::specs::Justify::clear_alignments))]
 fn clear_alignments(alloc: Global, doc: &mut Doc) -> Result<(), EditFault>
     requires open { IsOpen doc.old }
     ensures gives { Gives result doc.old.state doc.new.state justify.clear_alignments }
     ensures keeps { Keeps doc.old doc.new }
 {
     let list = contained(alloc, doc, &Aligning)?;
-    clear_each(alloc, doc, &list)
+    for node in &list {
+        clear_alignment(alloc, doc, *node)?;
+    }
+    Ok(())
 }
 
-// Step 3: a list is wrapped in a div that aligns so.
-#[tactic(auto, using(edit_model::proofs::Steps::steps, edit_model::proofs::Steps::exits), unfolding(crate::specs::Justify::wrap_aligned))]
-fn wrap_aligned(
-    alloc: Global,
-    doc: &mut Doc,
-    alignment: &[char],
-    list: &[NodeRef],
-) -> Result<Option<NodeRef>, EditFault>
-    requires open { IsOpen doc.old }
-    requires list_held { EachHeld doc.old list.now }
-    ensures gives { GivesMaybe result doc.old.state doc.new.state
-        (justify.wrap_aligned alignment.now (labels_of list.now)) }
-    ensures keeps { Keeps doc.old doc.new }
-{
-    let test = AlignedSibling {
-        alignment: Chars::from_slice(alloc, alignment)?,
-    };
-    let maker = CopyMade {
-        blank: aligned_div(alloc, alignment)?,
-    };
-    let members = NodeList::from_slice(alloc, list)?;
-    wrap(alloc, doc, members, &WrapRule::new(test, maker))
+/// Step 3: siblings go on a series.
+#[derive(Clone, Copy)]
+struct Siblings;
+
+impl Link<Doc> for Siblings {
+    ghost use Rattle.block_extend.specs.Series.{is_next};
+
+    ghost linked = { λ s d x y. is_next d.state.trees x y };
+
+    fn links(&self, doc: &Doc, last: NodeRef, node: NodeRef) -> bool {
+        is_next(doc, last, node)
+    }
 }
 
-// Step 3, one turn: the first series of a list is wrapped.
+// Step 3, one turn: the series that the list begins with is wrapped in a div that aligns it.
 #[derive(Clone, Copy)]
 struct AlignTurn<'a> {
     alignment: &'a [char],
 }
 
 impl<'a> Turn for AlignTurn<'a> {
-    ghost use Rattle.block_commands.specs.Justify.{align_series};
+    ghost use Rattle.block_commands.specs.Justify.{align_next};
 
-    ghost run = { λ s. align_series s.alignment.now };
+    ghost run = { λ s. align_next s.alignment.now };
 
-    #[tactic(auto, using(edit_model::proofs::Steps::steps, edit_model::proofs::Steps::exits, edit_query::proofs::Lists::labels_of_front, edit_query::proofs::Lists::labels_of_rest, crate::proofs::Counting::exit_count), unfolding(crate::specs::Justify::align_series))]
+    #[tactic(auto, using(edit_model::proofs::Steps::steps, edit_model::proofs::Steps::exits, edit_query::proofs::Lists::labels_mapped, edit_query::proofs::Lists::all_held, edit_query::proofs::Lists::labels_of_front, edit_query::proofs::Lists::labels_of_rest, crate::proofs::Counting::exit_count), unfolding(crate::specs::Justify::align_next))]
     fn take(&self, alloc: Global, doc: &mut Doc, list: &[NodeRef]) -> Result<usize, EditFault> {
-        let count = count_siblings(doc, list);
-        wrap_aligned(alloc, doc, self.alignment, &list[..count])?;
+        let test = AlignedSibling {
+            alignment: Chars::from_slice(alloc, self.alignment)?,
+        };
+        let maker = CopyMade {
+            blank: aligned_div(alloc, self.alignment)?,
+        };
+        let count = count_series(doc, list, &Siblings);
+        let members = NodeList::from_slice(alloc, &list[..count])?;
+        wrap(alloc, doc, members, &WrapRule::new(test, maker))?;
         Ok(count)
     }
-}
-
-// Step 3.
-#[tactic(auto, unfolding(crate::specs::Justify::align_all))]
-fn align_all(
-    alloc: Global,
-    doc: &mut Doc,
-    alignment: &[char],
-    list: &[NodeRef],
-) -> Result<(), EditFault>
-    requires open { IsOpen doc.old }
-    requires list_held { EachHeld doc.old list.now }
-    ensures gives { Gives result doc.old.state doc.new.state
-        (justify.align_all alignment.now (labels_of list.now)) }
-    ensures keeps { Keeps doc.old doc.new }
-{
-    in_turns(alloc, doc, &AlignTurn { alignment }, list)
-}
-
-// Steps 2 and 3.
-#[tactic(auto, using(edit_model::proofs::Steps::steps, edit_model::proofs::Steps::exits), unfolding(crate::specs::Justify::align_range))]
-fn align_range(alloc: Global, doc: &mut Doc, alignment: TextAlign) -> Result<(), EditFault>
-    requires open { IsOpen doc.old }
-    ensures gives { Gives result doc.old.state doc.new.state
-        (justify.align_range (text_align_keyword alignment)) }
-    ensures keeps { Keeps doc.old doc.new }
-{
-    let list = outermost(alloc, doc, &Misaligned { alignment })?;
-    let text = alignment.print(alloc)?;
-    align_all(alloc, doc, &text, list.as_slice())
 }
 
 /// Justifies the active range: its blocks come to stand in a div that aligns them. It answers true.
@@ -184,7 +127,9 @@ pub fn justify(alloc: Global, doc: &mut Doc, alignment: TextAlign) -> Result<boo
         (justify.justify (text_align_keyword alignment)) }
     ensures keeps { Keeps doc.old doc.new }
 {
-    clear_alignments(alloc, doc)?;
-    align_range(alloc, doc, alignment)?;
+    clear_alignments(alloc, doc)?; // step 1
+    let list = outermost(alloc, doc, &Misaligned { alignment })?; // step 2
+    let text = alignment.print(alloc)?;
+    in_turns(alloc, doc, &AlignTurn { alignment: &text }, list.as_slice())?; // step 3
     Ok(true)
 }

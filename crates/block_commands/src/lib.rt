@@ -8,7 +8,6 @@ mod gathered;
 mod justifying;
 mod lines;
 mod names;
-mod series;
 mod turns;
 
 pub use formatting::format_block;

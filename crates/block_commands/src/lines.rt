@@ -1,13 +1,18 @@
-//! The nodes that formatBlock is for, and the blocks that they leave. The steps are those of
-//! docs/ALGORITHMS.md.
+//! The nodes that formatBlock is for, the blocks that they leave, and the lines and blocks that they
+//! come to be. The steps are those of docs/ALGORITHMS.md.
 
 ghost use Rattle.std.specs.Prelude.{◌≡◌};
 ghost use Rattle.edit_doc.specs.Held.{Holds};
 ghost use Rattle.block_commands.specs.FormatBlock as format;
 
-use block_extend::{Choice, is_above_prohibited};
+use block_extend::{Choice, Link, is_above_prohibited, is_next};
+use dom_model::Name;
 use edit_doc::{Doc, NodeRef};
-use node_tests::{allowed_in_name, has_name, is_formattable_block, is_non_list_single_line};
+use node_tests::{
+    allowed_in_name, has_name, is_break, is_formattable_block, is_non_list_single_line,
+    is_single_line,
+};
+use wrap_split::{Meets, is_without_attributes};
 
 // Step 2: a line of its own but for li, or what may stand in a paragraph.
 #[tactic(auto, unfolding(crate::specs::FormatBlock::is_line))]
@@ -59,4 +64,40 @@ pub(crate) fn has_outer_block(doc: &Doc, node: NodeRef) -> bool
         at = doc.parent(above);
     }
     false
+}
+
+/// Step 4 b: siblings that go on a line.
+#[derive(Clone, Copy)]
+pub(crate) struct OnLine;
+
+impl Link<Doc> for OnLine {
+    ghost use Rattle.block_commands.specs.FormatBlock.{is_next_on_line};
+
+    ghost linked = { λ s d x y. is_next_on_line d.state x y };
+
+    #[tactic(auto, unfolding(crate::specs::FormatBlock::is_next_on_line))]
+    fn links(&self, doc: &Doc, last: NodeRef, node: NodeRef) -> bool {
+        is_next(doc, last, node) && !is_single_line(doc, node) && !is_break(doc, last)
+    }
+}
+
+/// Step 4 c: an element of the name without attributes fits, but for div and p none.
+#[derive(Drop)]
+pub(crate) struct SameBlock {
+    pub name: Name,
+}
+
+impl Meets for SameBlock {
+    ghost use Rattle.block_commands.specs.FormatBlock.{same_block};
+
+    ghost criterion = { λ s. same_block s.name };
+
+    #[tactic(auto, unfolding(wrap_split::specs::Target::meets))]
+    fn meets(&self, doc: &Doc, node: NodeRef) -> bool {
+        let name = self.name.as_slice();
+        if name == b"div".as_slice() || name == b"p".as_slice() {
+            return false;
+        }
+        has_name(doc, node, name) && is_without_attributes(doc, node)
+    }
 }

@@ -9,7 +9,7 @@ use Rattle.edit_model.specs.State.{State}
 use Rattle.edit_model.specs.Compositions.{set_tag_name}
 use Rattle.edit_model.specs.Valid.{IsValid}
 use Rattle.edit_model.specs.Run.{final, value, ◌>>=◌, answer, while_at_most}
-use Rattle.edit_model.proofs.Steps.{final-answer, final-look, value-answer, value-look, final_next}
+use Rattle.edit_model.proofs.Steps.{final-answer, final-look, value-answer, value-bind, value-look, final_next}
 use Rattle.edit_model.proofs.Tests.{label_is}
 use Rattle.edit_laws.specs.MoveLaws.{IsBare}
 use Rattle.edit_laws.specs.Order.{IsKeeping}
@@ -18,7 +18,7 @@ use Rattle.edit_laws.proofs.Around.{self_one}
 use Rattle.edit_laws.proofs.Renaming.{tag_name_keeps}
 use Rattle.edit_laws.proofs.SteadyRuns.{steady_parts}
 use Rattle.edit_actions.specs.Siblings.{first_parent}
-use Rattle.block_extend.specs.Series.{count_after, count_series, is_next}
+use Rattle.block_extend.specs.Series.{count_after, is_next}
 use Rattle.wrap_split.specs.declared.rule.Criterion.{Criterion}
 use Rattle.wrap_split.specs.declared.rule.Criterion.TheVariants.{Never}
 use Rattle.wrap_split.specs.declared.rule.Recipe.{Recipe}
@@ -126,31 +126,31 @@ module _ (s : State) (is : IsKeeping s) (items : List ℕ) (x : ℕ) (known : x 
   Told : State → Made → Type 0
   Told t made = Grew items t made.0
 
-  keeps_one : Ends s Told (made_one x)
+  keeps_one : (list : List ℕ) → Ends s Told (made_one list x)
   unfolding Told Grew
-  keeps_one = ends_answer (λ t made. Grew items t made.0) (Some x, 1) s (by next)
+  keeps_one list = ends_answer (λ t made. Grew items t made.0) (Some x, drop 1 list) s (by next)
     where
       by : Next s items x → (q : ℕ) × (n : ℕ) × Grown s (items ++ x ∷ []) q n
       by (rooted none root) = (0, s.next, subst (λ l. Grown s (l ++ x ∷ []) 0 s.next) (sym none) (root_grown s is.valid x known root))
       by (turned q n w) = (q, n, kept_grown s items x q n w)
 
-  renames : is_container s x ≡ true → Ends s Told (set_tag_name x (codes "li") >>= made_one)
+  renames : (list : List ℕ) → is_container s x ≡ true → Ends s Told (set_tag_name x (codes "li") >>= made_one list)
   unfolding is_container Told Grew
-  renames container =
-      ends_bind (λ t y. (q : ℕ) × (n : ℕ) × Grown t (items ++ y ∷ []) q n) (λ t made. (q : ℕ) × (n : ℕ) × Grown t (items ++ one_of made.0) q n) (set_tag_name x (codes "li")) made_one s is
+  renames list container =
+      ends_bind (λ t y. (q : ℕ) × (n : ℕ) × Grown t (items ++ y ∷ []) q n) (λ t made. (q : ℕ) × (n : ℕ) × Grown t (items ++ one_of made.0) q n) (set_tag_name x (codes "li")) (made_one list) s is
       (record { order = tag_name_keeps x (codes "li") s is (container_bare s x container) refl; holds = by next })
-      (λ t is_t y h. ends_answer (λ t made. (q : ℕ) × (n : ℕ) × Grown t (items ++ one_of made.0) q n) (Some y, 1) t h)
+      (λ t is_t y h. ends_answer (λ t made. (q : ℕ) × (n : ℕ) × Grown t (items ++ one_of made.0) q n) (Some y, drop 1 list) t h)
     where
       by : Next s items x → (q : ℕ) × (n : ℕ) × Grown (final (set_tag_name x (codes "li")) s) (items ++ value (set_tag_name x (codes "li")) s ∷ []) q n
       by (rooted none root) = let r = rootless x s root in rw (r.0, r.1) (0, s.next, subst (λ l. Grown s (l ++ x ∷ []) 0 s.next) (sym none) (root_grown s is.valid x known root))
       by (turned q n w) = (q, n, renamed_grown s items x q n w container)
 
-  wraps : (count : ℕ) (line : List ℕ) → Consecutive s (x ∷ line) → Ends s Told (wrap Never (Make (bare (codes "li"))) (x ∷ line) >>= (λ item. answer (item, count)))
+  wraps : (rest line : List ℕ) → Consecutive s (x ∷ line) → Ends s Told (wrap Never (Make (bare (codes "li"))) (x ∷ line) >>= (λ item. answer (item, rest)))
   unfolding Told Grew tail_of
-  wraps count line series =
-      ends_bind (λ t y. (q : ℕ) × (n : ℕ) × Grown t (items ++ one_of y) q n) (λ t made. (q : ℕ) × (n : ℕ) × Grown t (items ++ one_of made.0) q n) (wrap Never (Make (bare (codes "li"))) (x ∷ line)) (λ item. answer (item, count)) s is
+  wraps rest line series =
+      ends_bind (λ t y. (q : ℕ) × (n : ℕ) × Grown t (items ++ one_of y) q n) (λ t made. (q : ℕ) × (n : ℕ) × Grown t (items ++ one_of made.0) q n) (wrap Never (Make (bare (codes "li"))) (x ∷ line)) (λ item. answer (item, rest)) s is
       (record { order = consecutive_keeps Never (Make (bare (codes "li"))) tt refl s is (x ∷ line) series; holds = by next series })
-      (λ t is_t y h. ends_answer (λ t made. (q : ℕ) × (n : ℕ) × Grown t (items ++ one_of made.0) q n) (y, count) t h)
+      (λ t is_t y h. ends_answer (λ t made. (q : ℕ) × (n : ℕ) × Grown t (items ++ one_of made.0) q n) (y, rest) t h)
     where
       unchanged : first_parent s (x ∷ line) ≡ None → (q n : ℕ) → Grown s items q n → (q : ℕ) × (n : ℕ) × Grown (final (wrap Never (Make (bare (codes "li"))) (x ∷ line)) s) (items ++ one_of (value (wrap Never (Make (bare (codes "li"))) (x ∷ line)) s)) q n
       unchanged none q n g =
@@ -179,15 +179,16 @@ module _ (s : State) (is : IsKeeping s) (items : List ℕ) (x : ℕ) (known : x 
   unfolding make_item wrap_line Told Grew
   turn_ends xs = ends_look (λ t made. (q : ℕ) × (n : ℕ) × Grown t (items ++ one_of made.0) q n) _ s (by_container (is_container s x) refl)
     where
-      by_item : (v : Bool) → Ends s (λ t made. (q : ℕ) × (n : ℕ) × Grown t (items ++ one_of made.0) q n) (if v then made_one x else wrap_line (count_series (goes_on_line s) (x ∷ xs)) (x ∷ xs))
-      by_item true = keeps_one
+      by_item : (v : Bool) → Ends s (λ t made. (q : ℕ) × (n : ℕ) × Grown t (items ++ one_of made.0) q n) (if v then made_one (x ∷ xs) x else wrap_line (x ∷ xs))
+      by_item true = keeps_one (x ∷ xs)
       by_item false =
           let on = goes_on_line s in
           let k = count_after on x xs in
-          rw (add-one) (wraps (suc k) (take k xs) (series_consecutive s is.valid on (λ y z h. next_on_line s y z h) x xs))
+          ends_look (λ t made. (q : ℕ) × (n : ℕ) × Grown t (items ++ one_of made.0) q n) _ s
+          (rw (add-one) (wraps (drop k xs) (take k xs) (series_consecutive s is.valid on (λ y z h. next_on_line s y z h) x xs)))
 
-      by_container : (v : Bool) → is_container s x ≡ v → Ends s (λ t made. (q : ℕ) × (n : ℕ) × Grown t (items ++ one_of made.0) q n) (if v then (set_tag_name x (codes "li") >>= made_one) else (if is_item s x || is_list s x then made_one x else wrap_line (count_series (goes_on_line s) (x ∷ xs)) (x ∷ xs)))
-      by_container true e = renames e
+      by_container : (v : Bool) → is_container s x ≡ v → Ends s (λ t made. (q : ℕ) × (n : ℕ) × Grown t (items ++ one_of made.0) q n) (if v then (set_tag_name x (codes "li") >>= made_one (x ∷ xs)) else (if is_item s x || is_list s x then made_one (x ∷ xs) x else wrap_line (x ∷ xs)))
+      by_container true e = renames (x ∷ xs) e
       by_container false e = by_item (is_item s x || is_list s x)
 
 -- ---- the loop
@@ -203,6 +204,16 @@ times-drop zero xs l = omega arith
 times-drop (suc k) [] l = omega arith
 times-drop (suc k) (x ∷ xs) l = omega (arith, times-drop k xs l)
 
+-- what is left is of the list
+few_left : (list : List ℕ) (x : ℕ) (s : State) (l : ℕ) → times (value (make_item list x) s).1 l ≤ times list l
+unfolding make_item wrap_line
+few_left list x s l = rw value-look (by (is_container s x) (is_item s x || is_list s x))
+  where
+    by : (v w : Bool) → times (value (if v then (set_tag_name x (codes "li") >>= made_one list) else (if w then made_one list x else wrap_line list)) s).1 l ≤ times list l
+    by true w = rw (value-bind, value-answer) (times-drop 1 list l)
+    by false true = rw value-answer (times-drop 1 list l)
+    by false false = rw (value-look, value-bind, value-answer) (times-drop _ list l)
+
 next_ends : (s : State) → IsKeeping s → (c : Collected) → Items s c → goes_on s c ≡ true → Ends s Items (collect_next c)
 unfolding collect_next goes_on Told Grew
 next_ends s is (items, []) w goes = absurd (no_more (last_in items) goes)
@@ -213,10 +224,10 @@ next_ends s is (items, []) w goes = absurd (no_more (last_in items) goes)
 next_ends s is (items, x ∷ xs) w goes =
     let known : x < s.next = w.known x (omega (arith, self_one x)) in
     let turn = turn_ends s is items x known (next_of_items s is.valid items x w.q w.n w.grown known goes) xs in
-    ends_bind (λ t made. Grew items t made.0 × (s.next ≤ t.next)) Items (make_item (x ∷ xs) x) (λ made. answer (items ++ one_of made.0, drop made.1 (x ∷ xs))) s is
-    (record { order = turn.order; holds = (turn.holds, final_next (make_item (x ∷ xs) x) s) })
-    (λ t is_t made h. ends_answer Items (items ++ one_of made.0, drop made.1 (x ∷ xs)) t
-    (record { q = h.0.0; n = h.0.1; grown = h.0.2; known = λ l k. omega (arith, w.known l (omega (arith, k, times-drop made.1 (x ∷ xs) l)), h.1) }))
+    ends_bind (λ t made. Grew items t made.0 × ((l : ℕ) → times made.1 l ≤ times (x ∷ xs) l) × (s.next ≤ t.next)) Items (make_item (x ∷ xs) x) (λ made. answer (items ++ one_of made.0, made.1)) s is
+    (record { order = turn.order; holds = (turn.holds, few_left (x ∷ xs) x s, final_next (make_item (x ∷ xs) x) s) })
+    (λ t is_t made h. ends_answer Items (items ++ one_of made.0, made.1) t
+    (record { q = h.0.0; n = h.0.1; grown = h.0.2; known = λ l k. omega (arith, w.known l (omega (arith, k, h.1.0 l)), h.1.1) }))
 
 collect_turns : (bound : ℕ) (s : State) → IsKeeping s → (c : Collected) → Items s c → Ends s Items (while_at_most bound goes_on collect_next c)
 unfolding while_at_most
@@ -233,9 +244,9 @@ collect_ends s is list known = ends_look Items _ s (collect_turns (turn_bound s)
 
 -- ---- the states of contenteditable
 
-steady_wrap_line : (count : ℕ) (list : List ℕ) → Steady (wrap_line count list)
+steady_wrap_line : (list : List ℕ) → Steady (wrap_line list)
 unfolding wrap_line
-steady_wrap_line count list = search (steady_parts, steady_wrap Never (Make (bare (codes "li"))) refl)
+steady_wrap_line list = search (steady_parts, steady_wrap Never (Make (bare (codes "li"))) refl)
 
 steady_make_item : (list : List ℕ) (x : ℕ) → Steady (make_item list x)
 unfolding make_item

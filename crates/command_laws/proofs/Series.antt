@@ -10,7 +10,7 @@ use Rattle.wrap_split.specs.declared.rule.Criterion.{Criterion}
 use Rattle.wrap_split.specs.declared.rule.Recipe.{Recipe}
 use Rattle.wrap_split.specs.Wrap.{wrap}
 use Rattle.block_extend.specs.Series.{count_series, is_next}
-use Rattle.block_commands.specs.Series.{is_next_on_line}
+use Rattle.block_commands.specs.FormatBlock.{is_next_on_line}
 use Rattle.command_laws.specs.WrapLaws.{NamesNoThing, MakesNoThing}
 use Rattle.command_laws.proofs.Criteria.{first_part}
 use Rattle.command_laws.proofs.ListWalks.{consecutive_keeps, series_consecutive}

@@ -13,9 +13,10 @@ use Rattle.edit_engine.specs.Refusals.{LeavesRefused, RefusalsLeave}
 use Rattle.edit_query.specs.ListStates.{is_list_state, list_state}
 use Rattle.edit_query.specs.Queries.{state_of}
 use Rattle.html_names.specs.ElementNames as names
-use Rattle.block_commands.specs.FormatBlock.{block_name, is_formatted, format_list, format_to, format_block}
+use Rattle.block_commands.specs.FormatBlock.{block_name, is_formatted, split_blocks, format_next, format_range, format_block}
+use Rattle.block_commands.specs.Justify.{is_misaligned, clear_alignments, align_next, justify}
+use Rattle.block_commands.specs.Series.{in_turns}
 use Rattle.edit_query.specs.Gathered.{outermost}
-use Rattle.block_commands.specs.Justify.{clear_alignments, align_range, justify}
 use Rattle.list_indent.specs.Commands.{normalize_range, is_indentable, indent_nodes, indent, is_outdentable, outdent_nodes, outdent}
 use Rattle.list_toggle.specs.Ranges.{keep_range}
 use Rattle.list_toggle.specs.Toggle.{toggle_off, toggle_on, toggle_lists}
@@ -113,22 +114,22 @@ leaves_format =
     leaves_taken (unwrap_candidates >> splits)
     (true_after unwrap_candidates splits (true_after split_ends parts (true_after part_nodes clears (true_last clear_commands))))
 
-leaves_block_to : (name : List ℕ) → LeavesRefused (format_to name)
-unfolding format_to
-leaves_block_to name =
-    leaves_look (λ s. format_list name (outermost (is_formatted s) s) >> answer true) (λ t. leaves_true (format_list name (outermost (is_formatted t) t)))
-
-leaves_block : (v : List ℕ) → LeavesRefused (format_block v)
-unfolding format_block
-leaves_block v = leaves_if (names.is_formattable_block (block_name v)) (format_to (block_name v)) (leaves_block_to (block_name v))
-
 -- two runs, and then true
 leaves_two : (m n : Run (Unit {0})) → LeavesRefused (m >> (n >> answer true))
 leaves_two m n = leaves_taken (m >> (n >> answer true)) (true_after m (n >> answer true) (true_last n))
 
+leaves_block : (v : List ℕ) → LeavesRefused (format_block v)
+unfolding format_block format_range
+leaves_block v =
+    let name = block_name v in
+    leaves_if (names.is_formattable_block name) (format_range name)
+    (leaves_look (λ s. split_blocks (outermost (is_formatted s) s) >> (in_turns (format_next name) (outermost (is_formatted s) s) >> answer true))
+    (λ t. leaves_two (split_blocks (outermost (is_formatted t) t)) (in_turns (format_next name) (outermost (is_formatted t) t))))
+
 leaves_justify : (alignment : List ℕ) → LeavesRefused (justify alignment)
 unfolding justify
-leaves_justify alignment = leaves_two clear_alignments (align_range alignment)
+leaves_justify alignment =
+    leaves_two clear_alignments (look λ s. in_turns (align_next alignment) (outermost (is_misaligned alignment s) s))
 
 leaves_indent : LeavesRefused indent
 unfolding indent

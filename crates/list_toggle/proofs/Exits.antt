@@ -1,8 +1,8 @@
 -- The exits of calls that answer more than one thing.
-use Rattle.std.proofs.Common.{◌≡◌, ℕ, Option, sym, subst, Result, Ok, Err}
+use Rattle.std.proofs.Common.{◌≡◌, ℕ, Option, List, drop, sym, subst, Result, Ok, Err}
 use Rattle.std.specs.Result.{IsErrAnd}
 use Rattle.node_arena.specs.declared.NodeRef.{NodeRef}
-use Rattle.edit_model.specs.Gives.{Fails, GivesAs, label_of}
+use Rattle.edit_model.specs.Gives.{Fails, GivesAs, label_of, labels_of}
 use Rattle.edit_model.specs.Run.{Run, final}
 use Rattle.edit_model.specs.State.{State}
 use Rattle.edit_model.specs.declared.settings.EditFault.{EditFault}
@@ -14,6 +14,6 @@ exit_as shows (Ok v) e s t m h f = absurd h
 exit_as shows (Err y) e s t m h f = subst (λ x. Fails x (final m s)) (sym h) f
 
 -- an item that may be made, and how many members it takes
-pub exit_made : (r : Result (Option NodeRef × ℕ) EditFault) (e : EditFault) (s t : State) (m : Run Made) →
-    IsErrAnd r (λ y. y ≡ e) → Fails e (final m s) → GivesAs (λ made. (label_of made.0, made.1)) r s t m
-exit_made r e s t m h f = exit_as (λ made. (label_of made.0, made.1)) r e s t m h f
+pub exit_made : (xs : List NodeRef) (r : Result (Option NodeRef × ℕ) EditFault) (e : EditFault) (s t : State) (m : Run Made) →
+    IsErrAnd r (λ y. y ≡ e) → Fails e (final m s) → GivesAs (λ made. (label_of made.0, labels_of (drop made.1 xs))) r s t m
+exit_made xs r e s t m h f = exit_as (λ made. (label_of made.0, labels_of (drop made.1 xs))) r e s t m h f

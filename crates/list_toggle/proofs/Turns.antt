@@ -14,7 +14,6 @@ use Rattle.edit_model.specs.declared.settings.EditFault.{EditFault}
 use Rattle.edit_model.proofs.Steps.{final-bind, value-bind, final-answer, value-answer, final-look, value-look, fails-bind, final_while_turn, value_while_turn, final_while_stop, value_while_stop, while_end}
 use Rattle.wrap_split.specs.Walks.{turn_bound}
 use Rattle.wrap_split.specs.Wrap.{one_of}
-use Rattle.edit_query.proofs.Lists.{labels_of_rest}
 use Rattle.block_commands.proofs.Counting.{drop_more}
 use Rattle.list_toggle.specs.Collecting.{Made, Collected, is_container, make_item, goes_on, collect_next, collect_items}
 
@@ -36,7 +35,7 @@ container_is_element s l h = two_names (codes "p") (codes "div") (content_of s.t
 module _ (items more xs : List NodeRef) (l : ℕ) (s t : State) (item : Option NodeRef) (count : ℕ) (first : first_in (labels_of xs) ≡ Some l) where
   -- what follows the making of an item
   abbrev after : Made → Run Collected
-  after made = answer (labels_of items ++ one_of made.0, drop made.1 (labels_of xs))
+  after made = answer (labels_of items ++ one_of made.0, made.1)
 
   takes : collect_next (labels_of items, labels_of xs) ≡ (make_item (labels_of xs) l >>= after)
   unfolding collect_next
@@ -45,13 +44,13 @@ module _ (items more xs : List NodeRef) (l : ℕ) (s t : State) (item : Option N
   pub next_ends : final (make_item (labels_of xs) l) s ≡ t → final (collect_next (labels_of items, labels_of xs)) s ≡ t
   next_ends ends = ap (λ (m : Run Collected). final m s) takes ∙ (final-bind (make_item (labels_of xs) l) after s ∙ (final-answer _ (final (make_item (labels_of xs) l) s) ∙ ends))
 
-  pub next_answers : value (make_item (labels_of xs) l) s ≡ (label_of item, count) → labels_of more ≡ labels_of items ++ one_of (label_of item) → value (collect_next (labels_of items, labels_of xs)) s ≡ (labels_of more, labels_of (drop count xs))
+  pub next_answers : value (make_item (labels_of xs) l) s ≡ (label_of item, labels_of (drop count xs)) → labels_of more ≡ labels_of items ++ one_of (label_of item) → value (collect_next (labels_of items, labels_of xs)) s ≡ (labels_of more, labels_of (drop count xs))
   next_answers answers pushed =
       ap (λ (m : Run Collected). value m s) takes
       ∙ (value-bind (make_item (labels_of xs) l) after s
       ∙ (value-answer _ (final (make_item (labels_of xs) l) s)
-      ∙ (ap (λ (made : Made). (labels_of items ++ one_of made.0, drop made.1 (labels_of xs))) answers
-      ∙ (ap (λ ls. (ls, drop count (labels_of xs))) (sym pushed) ∙ ap (λ ls. (labels_of more, ls)) (sym (labels_of_rest xs count))))))
+      ∙ (ap (λ (made : Made). (labels_of items ++ one_of made.0, made.1)) answers
+      ∙ ap (λ ls. (ls, labels_of (drop count xs))) (sym pushed))))
 
 -- where it goes on, members are left
 pub goes_on_some : (s : State) (items : List ℕ) (xs : List NodeRef) → goes_on s (items, labels_of xs) ≡ true → 0 < length xs

@@ -1,10 +1,11 @@
 -- Toggle lists, step 6 a: siblings of a list become items, series by series. The steps are those of
 -- docs/ALGORITHMS.md.
-use Rattle.std.specs.Prelude.{ℕ, Bool, true, false, not, ◌&&◌, ◌||◌, List, [], ◌++◌, take, drop, codes, Option, Some, None, if◌then◌else◌}
+use Rattle.std.specs.Prelude.{ℕ, Bool, true, false, not, ◌&&◌, ◌||◌, List, [], ◌++◌, drop, codes, Option, Some, None, if◌then◌else◌}
 use Rattle.dom_model.specs.Contents.{has_name, is_break}
 use Rattle.dom_model.specs.Forest.{first_in, last_in}
 use Rattle.node_styles.specs.Blocks.{is_block}
-use Rattle.block_extend.specs.Series.{count_series, is_next}
+use Rattle.block_extend.specs.Series.{is_next}
+use Rattle.block_commands.specs.Series.{take_series}
 use Rattle.edit_model.specs.State.{State}
 use Rattle.edit_model.specs.Compositions.{set_tag_name}
 use Rattle.edit_model.specs.Run.{Run, ◌>>=◌, answer, look, given, while_at_most}
@@ -15,9 +16,10 @@ use Rattle.wrap_split.specs.Wrap.{wrap, one_of}
 use Rattle.inline_value.specs.Wrappers.{bare}
 use Rattle.list_indent.specs.Sublists.{is_list, is_item}
 
--- what a turn has made: an item, unless nothing was made, and how many members it took
+-- what a turn has made of first members: an item, unless nothing was made, and the members that are
+-- left
 abbrev pub Made : Type 0
-Made = Option ℕ × ℕ
+Made = Option ℕ × List ℕ
 
 -- the items so far, and the members that are left
 abbrev pub Collected : Type 0
@@ -29,8 +31,8 @@ unfoldable pub is_container : State → ℕ → Bool
 is_container s l = has_name s.trees l (codes "p") || has_name s.trees l (codes "div")
 
 -- x is the item, and one member is taken
-abbrev pub made_one : ℕ → Run Made
-made_one x = answer (Some x, 1)
+abbrev pub made_one : List ℕ → ℕ → Run Made
+made_one list x = answer (Some x, drop 1 list)
 
 -- a line: siblings that are inline, up to a br
 unfoldable pub goes_on_line : State → ℕ → ℕ → Bool
@@ -38,25 +40,24 @@ goes_on_line s x y =
     is_next s.trees x y
     && (not (is_block s.trees y) && (not (is_block s.trees x) && not (is_break s.trees x)))
 
--- so many members are wrapped in a new li
-unfoldable pub wrap_line : ℕ → List ℕ → Run Made
-wrap_line count list = do
-  item ← wrap Never (Make (bare (codes "li"))) (take count list)
-  answer (item, count)
+-- the line that the list begins with is wrapped in a new li
+unfoldable pub wrap_line : List ℕ → Run Made
+wrap_line list = look λ s.
+    let line = take_series (goes_on_line s) list in
+    wrap Never (Make (bare (codes "li"))) line.0 >>= λ item. answer (item, line.1)
 
 -- with the first member x: a p or div becomes an li, an item or a list stays as it is, and what
 -- else stands on the line goes into an li with it
 unfoldable pub make_item : List ℕ → ℕ → Run Made
 make_item list x = look λ s.
-    if is_container s x then set_tag_name x (codes "li") >>= made_one
-    else (if is_item s x || is_list s x then made_one x
-    else wrap_line (count_series (goes_on_line s) list) list)
+    if is_container s x then set_tag_name x (codes "li") >>= made_one list
+    else (if is_item s x || is_list s x then made_one list x else wrap_line list)
 
--- the item is appended, and the members taken are left out
+-- the item is appended
 unfoldable pub collect_next : Collected → Run Collected
 collect_next c = given (first_in c.1) (answer c) λ x. do
   made ← make_item c.1 x
-  answer (c.0 ++ one_of made.0, drop made.1 c.1)
+  answer (c.0 ++ one_of made.0, made.1)
 
 -- ---- the whole
 

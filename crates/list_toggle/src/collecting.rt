@@ -44,7 +44,7 @@ impl Link<Doc> for SameLine {
 
 // Step 6 a, with the first member: the item that it becomes or goes into, and how many members that
 // takes.
-#[tactic(auto, using(edit_model::proofs::Steps::steps, edit_model::proofs::Steps::exits, crate::proofs::Exits::exit_made, crate::proofs::Turns::container_is_element, edit_query::proofs::Lists::labels_of_front), unfolding(crate::specs::Collecting::wrap_line, crate::specs::Collecting::make_item))]
+#[tactic(auto, using(edit_model::proofs::Steps::steps, edit_model::proofs::Steps::exits, crate::proofs::Exits::exit_made, crate::proofs::Turns::container_is_element, edit_query::proofs::Lists::labels_of_front, edit_query::proofs::Lists::labels_of_rest), unfolding(crate::specs::Collecting::wrap_line, crate::specs::Collecting::make_item))]
 fn make_item(
     alloc: Global,
     doc: &mut Doc,
@@ -55,7 +55,8 @@ fn make_item(
     requires list_held { EachHeld doc.old list.now }
     requires first_held { Holds doc.old first }
     requires some { 0 < length list.now }
-    ensures gives { GivesAs (λ made. (label_of made.0, made.1)) result doc.old.state doc.new.state
+    ensures gives { GivesAs (λ made. (label_of made.0, labels_of (drop made.1 list.now)))
+        result doc.old.state doc.new.state
         (collect.make_item (labels_of list.now) first.label) }
     ensures held { IfOk result (λ made. IfHeld doc.new made.0) }
     ensures within { IfOk result (λ made. made.1 ≤ length list.now) }
