@@ -4,6 +4,7 @@ use Rattle.std.specs.Option.{option_map, option_and_then}
 use Rattle.std.proofs.lemmas.Bool.Decides.{nat_tests}
 use Rattle.std.proofs.lemmas.List.{append-nil}
 use Rattle.edit_io.specs.Faults.{Rose}
+use Rattle.edit_io.specs.Handed.{handed_more}
 use Rattle.edit_io.specs.Told.{with_front, with_end, IsAtEnd}
 use Rattle.edit_io.proofs.Told.{with_end-nil, with_front-some, with_front-none}
 use Rattle.script_read.specs.Reading.{number_of}
@@ -222,16 +223,16 @@ answered_whole want before after w0 w1 status answered f = elim f.cause [
   | inr (inr e) ↦ absurd (subst Answered e answered)
 ]
 
-pub answered_run : (old new : Option (List ℕ)) (bytes : List ℕ) (words : List (List ℕ)) (order : Order) (before after : Option (List ℕ)) (w0 w1 : ℕ) (status : Status) → IsOrder words order → order_of words ≡ Some order → reads_input order ≡ true → old ≡ with_front bytes new → IsAtEnd new → length bytes ≤ 8388608 → Follows (gives order bytes) before after w0 w1 status
-    → Answered status → IsAnswered words old new before after status
-answered_run old new bytes words order before after w0 w1 status asked is reads read end short f answered =
+pub answered_run : (old new : Option (List ℕ)) (h0 h1 : ℕ) (bytes : List ℕ) (words : List (List ℕ)) (order : Order) (before after : Option (List ℕ)) (w0 w1 : ℕ) (status : Status) → IsOrder words order → order_of words ≡ Some order → reads_input order ≡ true → old ≡ with_front bytes new → IsAtEnd new → h1 ≡ handed_more h0 (length bytes) → length bytes ≤ 8388608 → Follows (gives order bytes) before after w0 w1 status
+    → Answered status → IsAnswered words old new h0 h1 before after status
+answered_run old new h0 h1 bytes words order before after w0 w1 status asked is reads read end amount short f answered =
     let e = short_transcript words bytes order is short in
     let same = answered_whole (gives order bytes) before after w0 w1 status answered f in
     record {
       order = order;
       ordered = asked;
       text = bytes;
-      read = rw reads (read, end);
+      read = rw reads (read, end, amount);
       given = rw e (sym same);
       written = rw e (f.whole same);
     }
@@ -245,16 +246,39 @@ told_unread left words order before after r w0 w1 status is unread f =
     let e = unread_transcript words bytes order is unread in
     rw e (run_follows (gives order []) before after r r w0 w1 status (gives_answered order []) f))
 
-pub answered_unread : (left : Option (List ℕ)) (words : List (List ℕ)) (order : Order) (before after : Option (List ℕ)) (w0 w1 : ℕ) (status : Status) → IsOrder words order → order_of words ≡ Some order → reads_input order ≡ false → Follows (gives order []) before after w0 w1 status
-    → Answered status → IsAnswered words left left before after status
-answered_unread left words order before after w0 w1 status asked is unread f answered =
+pub answered_unread : (left : Option (List ℕ)) (h : ℕ) (words : List (List ℕ)) (order : Order) (before after : Option (List ℕ)) (w0 w1 : ℕ) (status : Status) → IsOrder words order → order_of words ≡ Some order → reads_input order ≡ false → Follows (gives order []) before after w0 w1 status
+    → Answered status → IsAnswered words left left h h before after status
+answered_unread left h words order before after w0 w1 status asked is unread f answered =
     let e = unread_transcript words [] order is unread in
     let same = answered_whole (gives order []) before after w0 w1 status answered f in
     record {
       order = order;
       ordered = asked;
       text = [];
-      read = rw unread (refl, refl);
+      read = rw unread (refl, refl, refl);
       given = rw e (sym same);
       written = rw e (f.whole same);
     }
+
+pub alone_unread : (words : List (List ℕ)) (order : Order) (before after : Option (List ℕ)) (w0 w1 : ℕ) (status : Status) → order_of words ≡ Some order → reads_input order ≡ false → Follows (gives order []) before after w0 w1 status
+    → Follows (transcript words []) before after w0 w1 status
+alone_unread words order before after w0 w1 status is unread f = rw (unread_transcript words [] order is unread) f
+
+-- no other order was asked for
+pub not_alone : {P : Type 0} (words : List (List ℕ)) (order other : Order) → order_of words ≡ Some order → reads_input order ≡ true → order_of words ≡ Some other → reads_input other ≡ false → P
+not_alone words order other is reads asked unread =
+    let e : Some order ≡ Some other = sym is ∙ asked in
+    let same : order ≡ other = cc in
+    absurd (let t : true ≡ false = sym reads ∙ ap reads_input same ∙ unread in cc)
+
+-- nor was none
+pub none_asked : {P : Type 0} (words : List (List ℕ)) (other : Order) → order_of words ≡ None → order_of words ≡ Some other → P
+none_asked words other none asked = absurd (let e : None ≡ Some other = sym none ∙ asked in cc)
+
+-- an order whose text was had is never too long
+pub never_long : {P : Type 0} (order : Order) (text : List ℕ) (before after : Option (List ℕ)) (w0 w1 : ℕ) (status : Status) → Follows (gives order text) before after w0 w1 status → status ≡ TooLong → P
+never_long order text before after w0 w1 status f long = elim f.cause [
+  | inl e ↦ absurd (subst Answered (sym e ∙ long) (gives_answered order text))
+  | inr (inl h) ↦ absurd (let e : WriteFault ≡ TooLong = sym h.0 ∙ long in cc)
+  | inr (inr m) ↦ absurd (let e : Memory ≡ TooLong = sym m ∙ long in cc)
+]

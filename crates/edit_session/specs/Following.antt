@@ -1,6 +1,7 @@
 -- How a run follows its transcript.
-use Rattle.std.specs.Prelude.{◌≡◌, ◌⊎◌, ℕ, ◌<◌, ◌≤◌, Bool, true, false, List, [], Option, Some, None}
+use Rattle.std.specs.Prelude.{◌≡◌, ◌⊎◌, ℕ, ◌<◌, ◌≤◌, Bool, true, false, List, [], length, Option, Some, None}
 use Rattle.edit_io.specs.Faults.{Rose}
+use Rattle.edit_io.specs.Handed.{handed_more}
 use Rattle.edit_io.specs.Told.{with_front, with_end, IsAtEnd, TakesPrefix}
 use Rattle.page_grammar.specs.Kind.{Kind}
 use Rattle.edit_session.specs.Words.{Order, Run, Check, Replay, Bulk, reads_input, IsOrder}
@@ -45,20 +46,25 @@ IsSilent ReadFault = Unit {0}
 IsSilent TooLong = Unit {0}
 IsSilent s = ⊥
 
--- the text that an order had: all that was left of the input, or none where it reads nothing
-abbrev pub WasRead : (reading : Bool) (before after : Option (List ℕ)) → List ℕ → Type 0
-WasRead true before after text = (before ≡ with_front text after) × IsAtEnd after
-WasRead false before after text = (after ≡ before) × (text ≡ [])
+-- The text that an order had: all that was left of the input, as many bytes as were handed out, or
+-- none where it reads nothing.
+abbrev pub WasRead : (reading : Bool) (before after : Option (List ℕ)) (handed handed_after : ℕ)
+    → List ℕ → Type 0
+WasRead true before after handed handed_after text =
+    (before ≡ with_front text after) × IsAtEnd after
+    × (handed_after ≡ handed_more handed (length text))
+WasRead false before after handed handed_after text =
+    (after ≡ before) × (handed_after ≡ handed) × (text ≡ [])
 
 -- The words ask for an order, its text was read, and the transcript of that has this status and is
 -- written whole.
 pub record IsAnswered
-    (words : List (List ℕ)) (left left_after taken taken_after : Option (List ℕ))
-    (status : Status) : Type 0 where
+    (words : List (List ℕ)) (left left_after : Option (List ℕ)) (handed handed_after : ℕ)
+    (taken taken_after : Option (List ℕ)) (status : Status) : Type 0 where
   pub order : Order
   pub ordered : IsOrder words order
   pub text : List ℕ
-  pub read : WasRead (reads_input order) left left_after text
+  pub read : WasRead (reads_input order) left left_after handed handed_after text
   pub given : (transcript words text).status ≡ status
   pub written : taken_after ≡ with_end taken (transcript words text).text
 

@@ -1,7 +1,8 @@
 //! The run of the program over any source and sink.
 
-ghost use Rattle.std.specs.Prelude.{◌≡◌, ◌<◌, ◌≤◌, ◌↔◌, ◌^◌, Result, length, map, string_bytes, IfOk, IfSome, Some, None, false};
+ghost use Rattle.std.specs.Prelude.{◌≡◌, ◌+◌, ◌<◌, ◌≤◌, ◌↔◌, ◌^◌, Result, [], length, map, string_bytes, IfOk, IfSome, Some, None, false};
 ghost use Rattle.edit_io.specs.Faults.{Rose};
+ghost use Rattle.edit_io.specs.Handed.{handed_more};
 ghost use Rattle.page_grammar.specs.Reading.{page_reading};
 ghost use Rattle.page_read.specs.Faults.{kind_of};
 ghost use Rattle.edit_session.specs.Bulk.{bulk_text};
@@ -388,6 +389,13 @@ pub fn run_session<I: Source, O: Sink>(
     ensures untouched { (order : asked.Order) → order_of (map string_bytes words.now) ≡ Some order
         → reads_input order ≡ false → input.new ≡ input.old }
 
+    // And it follows its transcript, whatever the source shows: no input is too long for it, and no
+    // read fails.
+    ensures alone { (order : asked.Order) → order_of (map string_bytes words.now) ≡ Some order
+        → reads_input order ≡ false → Follows (transcript (map string_bytes words.now) [])
+        (O.taken output.old) (O.taken output.new) (O.faults output.old) (O.faults output.new)
+        result }
+
     // Where the source shows its bytes, what is written is a prefix of their transcript, all of it
     // with the transcript's status, and any other status has its cause.
     ensures told { IfSome (I.left input.old) (λ bytes.
@@ -398,7 +406,13 @@ pub fn run_session<I: Source, O: Sink>(
     // With Done, PageRefused and StepRefused the input was read to its end, or not looked at where
     // the order reads none, and the transcript of what was read is written whole.
     ensures answered { Answered result → IsAnswered (map string_bytes words.now)
-        (I.left input.old) (I.left input.new) (O.taken output.old) (O.taken output.new) result }
+        (I.left input.old) (I.left input.new) (I.handed input.old) (I.handed input.new)
+        (O.taken output.old) (O.taken output.new) result }
+
+    // At most one byte past the limit is taken, and TooLong means that it was.
+    ensures bounded { I.handed input.new ≤ I.handed input.old + 8388609 }
+    ensures too_long { result ≡ Status.TooLong
+        → I.handed input.new ≡ handed_more (I.handed input.old) 8388609 }
     ensures read_fault { result ≡ Status.ReadFault
         → Rose (I.faults input.old) (I.faults input.new) }
     ensures write_fault { result ≡ Status.WriteFault
