@@ -57,11 +57,11 @@ module _ (d : Whole) (test : ℕ → Bool) (xs : List NodeRef) (whole : List ℕ
         let stop = climb_stop d.state.trees once r.label here test off in
         sym (append-nil (labels_of xs)) ∙ (ap (λ (w : List ℕ × Option ℕ). labels_of xs ++ w.0) (sym stop) ∙ made')
 
-    pub stop_next : test r.label ≡ false → at_next o → label_of o ≡ whole.1
+    pub stop_next : test r.label ≡ false → at_next o → Some r.label ≡ whole.1
     stop_next off next =
         let next' : at_next (Some r) = rw is at next in
         let stop = climb_stop d.state.trees once r.label here test off in
-        ap label_of is ∙ (ap (λ (w : List ℕ × Option ℕ). w.1) (sym stop) ∙ next')
+        ap (λ (w : List ℕ × Option ℕ). w.1) (sym stop) ∙ next'
 
     pub on_passed : test r.label ≡ true → (next : Option NodeRef) → Finds d next (parent_of d.state.trees r.label) → (new : List NodeRef) → new ≡ xs ++ (r ∷ []) → at_passed o xs → at_passed next new
     on_passed so next finds new more made =

@@ -40,8 +40,12 @@ unless_both l false b off = refl
 none_here : (simple : Bool) (s : State) (l : ℕ) → is_indentation s.trees l ≡ false → if_indents simple s (Some l) ≡ None
 none_here simple s l off = unless_both l (is_editable_for s l) (indents simple s l) (indents_none simple s l off)
 
+-- a way with the node x before it, which is passed or not
+abbrev before : Bool → ℕ → List ℕ × Option ℕ → List ℕ × Option ℕ
+before t x way = if t then (x ∷ way.0, way.1) else ([], Some x)
+
 either_none : (simple : Bool) (s : State) (t : Bool) (x : ℕ) (way : List ℕ × Option ℕ) → if_indents simple s way.1 ≡ None → if_indents simple s (Some x) ≡ None
-    → if_indents simple s (if t then (x ∷ way.0, way.1) else ([], Some x)).1 ≡ None
+    → if_indents simple s (before t x way).1 ≡ None
 either_none simple s true x way on off = on
 either_none simple s false x way on off = off
 

@@ -1,15 +1,17 @@
 //! Indenting a list of siblings. The steps are those of docs/ALGORITHMS.md.
 
+ghost use Rattle.std.specs.Prelude.{◌≡◌, IfOk, codes};
 ghost use Rattle.edit_model.specs.Gives.{Gives, label_of, labels_of};
 ghost use Rattle.edit_doc.specs.Whole.{IsOpen};
 ghost use Rattle.edit_doc.specs.Held.{IfHeld, EachHeld, Finds, Keeps};
+ghost use Rattle.inline_value.specs.Wrappers as wrappers;
 ghost use Rattle.list_indent.specs.Indenting.{if_list, fixed, indent_list};
 
 use crate::lists::is_list;
 use edit_actions::tag_of;
 use edit_doc::{Attributes, Doc, EditFault, NodeList, NodeRef};
 use inline_value::{bare, fix_ancestors};
-use std::alloc::Global;
+use std::alloc::{AllocError, Global};
 use wrap_split::{Blank, CopyMade, IndentationSibling, NamedSibling, WrapRule, wrap};
 
 fn if_list(doc: &Doc, node: Option<NodeRef>) -> Option<NodeRef>
@@ -32,6 +34,13 @@ pub fn fix(alloc: Global, doc: &mut Doc, node: Option<NodeRef>) -> Result<(), Ed
         Some(node) => fix_ancestors(alloc, doc, node),
         None => Ok(()),
     }
+}
+
+// What a blockquote is made of.
+fn blockquote(alloc: Global) -> Result<Blank, AllocError>
+    ensures { IfOk result (λ blank. blank ≡ wrappers.bare (codes "blockquote")) }
+{
+    bare(alloc, b"blockquote")
 }
 
 /// Indents a list of siblings: in a list they come to stand in a list of the same name, elsewhere
@@ -57,7 +66,7 @@ pub fn indent_list(alloc: Global, doc: &mut Doc, list: NodeList) -> Result<(), E
         wrap(alloc, doc, list, &rule)?; // step 2
         return Ok(());
     }
-    let blank = bare(alloc, b"blockquote")?;
+    let blank = blockquote(alloc)?;
     let rule = WrapRule::new(IndentationSibling, CopyMade { blank });
     let made = wrap(alloc, doc, list, &rule)?; // step 3
     fix(alloc, doc, made)

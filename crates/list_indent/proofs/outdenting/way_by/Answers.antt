@@ -34,7 +34,7 @@ returns-then-not-is_passed-clause-next c =
     let i = c.loop-at.invariant in
     record {
       is = stop_next d test c.loop-at.passed.items (climb test (ancestors d.state.trees c.args.node.label)) c.valid.ensures c.loop-at.at c.in-Some.ancestor c.in-Some.is i.held (sym c.is_passed.ensures ∙ c.if-not-is_passed.true) i.next;
-      held = i.held;
+      held = rw c.in-Some.is at i.held;
     }
 
 pub loop-at-smaller : goal.loop-at-smaller
