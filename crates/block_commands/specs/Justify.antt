@@ -1,6 +1,6 @@
 -- Justifying the selection (HTML Editing APIs, "justify the selection"): the blocks of the active
 -- range come to stand in a div that aligns them. The steps are those of docs/ALGORITHMS.md.
-use Rattle.std.specs.Prelude.{ℕ, Bool, true, false, ◌&&◌, ◌||◌, not, List, [], ◌∷◌, ◌++◌, is_some, bytes_eq, codes, if◌then◌else◌}
+use Rattle.std.specs.Prelude.{ℕ, Bool, true, false, ◌&&◌, ◌||◌, not, List, [], ◌∷◌, ◌++◌, is_some, bytes_eq, codes, Option, if◌then◌else◌}
 use Rattle.std.specs.Option.{option_map_or}
 use Rattle.dom_model.specs.declared.attributes.Attribute.{Attribute}
 use Rattle.dom_model.specs.declared.Content.{Content}
@@ -87,11 +87,14 @@ aligned_div alignment = record {
   } ∷ [];
 }
 
+abbrev pub wrap_aligned : List ℕ → List ℕ → Run (Option ℕ)
+wrap_aligned alignment series = wrap (Aligned alignment) (Make (aligned_div alignment)) series
+
 -- one turn: the series that the list begins with is wrapped, and the rest of the list is answered
 unfoldable pub align_next : List ℕ → List ℕ → Run (List ℕ)
 align_next alignment list = look λ s.
     let series = take_series (is_next s.trees) list in
-    wrap (Aligned alignment) (Make (aligned_div alignment)) series.0 >> answer series.1
+    wrap_aligned alignment series.0 >> answer series.1
 
 -- ---- the whole
 

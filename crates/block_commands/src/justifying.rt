@@ -2,8 +2,8 @@
 
 ghost use Rattle.std.specs.Prelude.{◌≡◌};
 ghost use Rattle.css_value.specs.Values.{text_align_keyword};
-ghost use Rattle.edit_model.specs.Gives.{Gives};
-ghost use Rattle.edit_doc.specs.Held.{Holds, Keeps};
+ghost use Rattle.edit_model.specs.Gives.{Gives, GivesMaybe, labels_of};
+ghost use Rattle.edit_doc.specs.Held.{Holds, EachHeld, Keeps};
 ghost use Rattle.edit_doc.specs.Whole.{IsOpen};
 ghost use Rattle.block_commands.specs.Justify as justify;
 
@@ -93,6 +93,30 @@ impl Link<Doc> for Siblings {
     }
 }
 
+// Step 3: a series is wrapped in a div that aligns it.
+#[tactic(auto, using(edit_model::proofs::Steps::steps, edit_model::proofs::Steps::exits))]
+fn wrap_aligned(
+    alloc: Global,
+    doc: &mut Doc,
+    alignment: &[char],
+    series: &[NodeRef],
+) -> Result<Option<NodeRef>, EditFault>
+    requires open { IsOpen doc.old }
+    requires series_held { EachHeld doc.old series.now }
+    ensures gives { GivesMaybe result doc.old.state doc.new.state
+        (justify.wrap_aligned alignment.now (labels_of series.now)) }
+    ensures keeps { Keeps doc.old doc.new }
+{
+    let test = AlignedSibling {
+        alignment: Chars::from_slice(alloc, alignment)?,
+    };
+    let maker = CopyMade {
+        blank: aligned_div(alloc, alignment)?,
+    };
+    let members = NodeList::from_slice(alloc, series)?;
+    wrap(alloc, doc, members, &WrapRule::new(test, maker))
+}
+
 // Step 3, one turn: the series that the list begins with is wrapped in a div that aligns it.
 #[derive(Clone, Copy)]
 struct AlignTurn<'a> {
@@ -104,17 +128,10 @@ impl<'a> Turn for AlignTurn<'a> {
 
     ghost run = { λ s. align_next s.alignment.now };
 
-    #[tactic(auto, using(edit_model::proofs::Steps::steps, edit_model::proofs::Steps::exits, edit_query::proofs::Lists::labels_mapped, edit_query::proofs::Lists::all_held, edit_query::proofs::Lists::labels_of_front, edit_query::proofs::Lists::labels_of_rest, crate::proofs::Counting::exit_count), unfolding(crate::specs::Justify::align_next))]
+    #[tactic(auto, using(edit_model::proofs::Steps::steps, edit_model::proofs::Steps::exits, edit_query::proofs::Lists::labels_of_front, edit_query::proofs::Lists::labels_of_rest, crate::proofs::Counting::exit_count), unfolding(crate::specs::Justify::align_next))]
     fn take(&self, alloc: Global, doc: &mut Doc, list: &[NodeRef]) -> Result<usize, EditFault> {
-        let test = AlignedSibling {
-            alignment: Chars::from_slice(alloc, self.alignment)?,
-        };
-        let maker = CopyMade {
-            blank: aligned_div(alloc, self.alignment)?,
-        };
         let count = count_series(doc, list, &Siblings);
-        let members = NodeList::from_slice(alloc, &list[..count])?;
-        wrap(alloc, doc, members, &WrapRule::new(test, maker))?;
+        wrap_aligned(alloc, doc, self.alignment, &list[..count])?;
         Ok(count)
     }
 }
