@@ -230,11 +230,14 @@ module _ (old new : Editing) (at : Option Pair) (joining : Bool) (c : Command) (
       theirs : (recorded true old.state ended old.history).undo ≡ joined_in ended old.history.undo
       theirs = rw off refl
 
+      entries : {j : Bool} → joining ≡ j → (recorded joining old.state ended old.history).undo ≡ (recorded j old.state ended old.history).undo
+      entries is = ap (λ j. (recorded j old.state ended old.history).undo) is
+
       by_joining : (j : Bool) → joining ≡ j → HasEntry old (after_run old joining c ended) ended ⊎ HasJoined old (after_run old joining c ended) ended
-      by_joining false is = inl (record { older = own.0; is = rw is own.1 })
+      by_joining false is = inl (record { older = own.0; is = entries is ∙ own.1 })
       by_joining true is =
           let last = last_there old.history.undo (stands.joinable (joins is)).some in
-          inr (record { joinable = joins is; last = last.0; older = last.1; was = last.2; is = rw is (theirs ∙ ap (joined_in ended) last.2) })
+          inr (record { joinable = joins is; last = last.0; older = last.1; was = last.2; is = entries is ∙ (theirs ∙ ap (joined_in ended) last.2) })
 
   some_edit : (b ended : State) (l : ℕ) → IsTakenOut b ended l → 0 < length ended.edits
   some_edit b ended l out =
@@ -287,10 +290,13 @@ module _ (old new : Editing) (at : Option Pair) (joining : Bool) (c : Command) (
   given_by_own ended is = by_edits (eqb (length ended.edits) 0) refl
     where
       by_edits : (b : Bool) → eqb (length ended.edits) 0 ≡ b → GivesBack false old (after_run old joining c ended)
-      by_edits true none = inl (rw (is, none) refl)
+      by_edits true none =
+          let same : recorded false old.state ended old.history ≡ old.history = rw none refl in
+          inl (ap (λ j. recorded j old.state ended old.history) is ∙ same)
       by_edits false some =
           let own = entry_there old.history.depth (entry_of old.state ended) old.history.undo stands.depth in
-          let first : (after_run old joining c ended).history.undo ≡ entry_of old.state ended ∷ own.0 = rw (is, some) own.1 in
+          let plain : (recorded false old.state ended old.history).undo ≡ entry_of old.state ended ∷ own.0 = rw some own.1 in
+          let first : (after_run old joining c ended).history.undo ≡ entry_of old.state ended ∷ own.0 = ap (λ j. (recorded j old.state ended old.history).undo) is ∙ plain in
           let u = undone_at (after_run old joining c ended).history (after_run old joining c ended).state (entry_of old.state ended) own.0 first in
           inr (record {
             document = ap (λ (s : State). s.trees) u ∙ whole;
@@ -304,14 +310,17 @@ module _ (old new : Editing) (at : Option Pair) (joining : Bool) (c : Command) (
   given_by_last ended is = by_edits (eqb (length ended.edits) 0) refl
     where
       by_edits : (b : Bool) → eqb (length ended.edits) 0 ≡ b → GivesBack true old (after_run old joining c ended)
-      by_edits true none = inl (rw (is, none) refl)
+      by_edits true none =
+          let same : recorded true old.state ended old.history ≡ old.history = rw none refl in
+          inl (ap (λ j. recorded j old.state ended old.history) is ∙ same)
       by_edits false some =
           let there = last_there old.history.undo (stands.joinable (joins is)).some in
           let e = there.0 in
           let rest = there.1 in
           let was = there.2 in
           let longer : Entry = record { before = e.before; after = view_of ended; edits = e.edits ++ ended.edits; made = e.made ++ used ended.edits ended.made } in
-          let first : (after_run old joining c ended).history.undo ≡ longer ∷ rest = rw (is, some) (ap (joined_in ended) was) in
+          let plain : (recorded true old.state ended old.history).undo ≡ longer ∷ rest = rw some (ap (joined_in ended) was) in
+          let first : (after_run old joining c ended).history.undo ≡ longer ∷ rest = ap (λ j. (recorded j old.state ended old.history).undo) is ∙ plain in
           let u = undone_at (after_run old joining c ended).history (after_run old joining c ended).state longer rest first in
           let before = undone_at old.history old.state e rest was in
           inr (record {
