@@ -1,4 +1,7 @@
-/** The composer in Chromium, used by mouse and keyboard, as hosts/web/serve serves it, or the script that HEDIT_SERVE names. */
+/**
+ * The composer in Chromium, used by mouse and keyboard, as hosts/web/serve serves it, or the script
+ * that HEDIT_SERVE names.
+ */
 import assert from "node:assert/strict";
 import { spawn } from "node:child_process";
 import { once } from "node:events";
