@@ -35,7 +35,7 @@
  */
 import { BadArgument, HeditError, PageRefused } from "./hedit.js";
 import { Commands, HABITS, lockedPart } from "./region_commands.js";
-import { historyKey, isOfBrowser, meaningOf } from "./region_input.js";
+import { Halves, commandOfKey, isOfBrowser, meaningOf } from "./region_input.js";
 import { Steps } from "./region_steps.js";
 import { View, difference, isCaret, isSame, isText } from "./region_view.js";
 
@@ -147,6 +147,8 @@ export class Region extends EventTarget {
   #selected = null;
 
   #steps = new Steps();
+
+  #halves = new Halves();
 
   /**
    * What the browser changed while an input method composes, and how many steps there were before.
@@ -403,7 +405,7 @@ export class Region extends EventTarget {
 
   /** @param {KeyboardEvent} event */
   #key(event) {
-    const command = historyKey(event);
+    const command = commandOfKey(event);
     if (command) {
       event.preventDefault();
       this.exec(command);
@@ -446,9 +448,10 @@ export class Region extends EventTarget {
    * @param {{ text: string, isAimed: boolean }} meaning
    */
   #insert(event, { text, isAimed }) {
+    const whole = this.#halves.join(text);
     this.#act(() => {
       this.#aim(event, isAimed);
-      return text !== "" && this.#commands.type(text);
+      return whole !== "" && this.#commands.type(whole);
     });
   }
 
