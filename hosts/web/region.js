@@ -178,6 +178,9 @@ export class Region extends EventTarget {
     this.#editor = editor;
     this.#isDebugged = debug;
     this.#view = new View(editor, element, root);
+    if (choices.html === undefined) {
+      this.#view.adopt();
+    }
     this.#view.follow();
     const habits = { ...HABITS, ...choices };
     this.#commands = new Commands(editor, this.#view, habits, [...denied], undoDepth);

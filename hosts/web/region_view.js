@@ -36,6 +36,9 @@ const BLOCKS = new Set(
   ).split(" "),
 );
 
+/** From how many changes on it is worth to have the browser look at all of them at once. */
+const MANY_CHANGES = 100;
+
 /**
  * Whether an address runs JavaScript.
  * @param {string} address
@@ -195,6 +198,9 @@ export class View {
   /** Where the browser is asked how it writes a style. */
   #style;
 
+  /** Whether the next frame scrolls. */
+  #isRevealing = false;
+
   /**
    * @param {Editor} editor
    * @param {HTMLElement} element
@@ -318,6 +324,37 @@ export class View {
   }
 
   /**
+   * Takes the nodes below a node of the page for the engine's that they are like, up to the first that
+   * is of another kind, so that they stay.
+   * @param {number} label
+   * @param {Node} node
+   */
+  adopt(label = this.#root, node = this.#element) {
+    let child = node.firstChild;
+    for (const each of this.#editor.children(label)) {
+      if (!child || !this.#isLike(each, child)) {
+        return;
+      }
+      this.#keep(each, child);
+      if (!isCharacters(child)) {
+        this.adopt(each, child);
+      }
+      child = child.nextSibling;
+    }
+  }
+
+  /**
+   * Whether a node of the page is of the kind of the engine's of a label.
+   * @param {number} label
+   * @param {Node} node
+   */
+  #isLike(label, node) {
+    return node instanceof Element
+      ? node instanceof HTMLElement && node.localName === this.#editor.nodeName(label)
+      : node.nodeType === this.#editor.node(label).kind;
+  }
+
+  /**
    * Does to the page what the engine's last call changed, and looks at nothing else. At first, and
    * where a call was missed, the two are compared. Says whether the engine's page is another one.
    */
@@ -331,10 +368,28 @@ export class View {
       this.mend(this.#root);
       return true;
     }
-    for (const change of this.#editor.changes()) {
+    const changes = this.#editor.changes();
+    const resume = changes.length > MANY_CHANGES ? this.#rest() : null;
+    for (const change of changes) {
       this.#followOne(change);
     }
+    resume?.();
     return true;
+  }
+
+  /**
+   * Has the element that is edited be edited no more, and gives what has it be edited again: Firefox
+   * tells the input method of each change in it, which takes as long as what stands before.
+   */
+  #rest() {
+    const host = this.#element.ownerDocument.activeElement;
+    const name = "contenteditable";
+    const value = this.#element.contains(host) ? host?.getAttribute(name) : null;
+    if (typeof value !== "string" || !navigator.userAgent.includes("Gecko/")) {
+      return null;
+    }
+    host?.removeAttribute(name);
+    return () => host?.setAttribute(name, value);
   }
 
   /** @param {Change} change */
@@ -590,8 +645,19 @@ export class View {
     }
   }
 
-  /** Scrolls to where the focus of the page's selection is, as a browser does after input. */
+  /**
+   * Scrolls to where the focus of the page's selection is, as a browser does after input: in the next
+   * frame, in which the page is laid out anyway.
+   */
   reveal() {
+    if (!this.#isRevealing) {
+      this.#isRevealing = true;
+      requestAnimationFrame(() => this.#scroll());
+    }
+  }
+
+  #scroll() {
+    this.#isRevealing = false;
     const selection = this.#element.ownerDocument.getSelection();
     if (!selection?.focusNode || !this.#element.contains(selection.focusNode)) {
       return;

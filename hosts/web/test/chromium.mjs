@@ -70,7 +70,8 @@ export class Chromium {
   /** What pages said on their consoles, and the errors that they didn't catch. @type {string[]} */
   complaints = [];
 
-  static async launch() {
+  /** Runs it; where it isn't paced, a frame comes as soon as there is something to show. */
+  static async launch({ isPaced = true } = {}) {
     const profile = await makeProfile();
     const words = [
       "--headless",
@@ -79,6 +80,7 @@ export class Chromium {
       "--remote-debugging-pipe",
       `--user-data-dir=${profile}`,
       ...(getuid() === 0 ? ["--no-sandbox"] : []),
+      ...(isPaced ? [] : ["--disable-frame-rate-limit", "--disable-gpu-vsync"]),
     ];
     const child = spawn(PROGRAM, words, { stdio: ["ignore", "ignore", "ignore", "pipe", "pipe"] });
     return new Chromium(child, profile);

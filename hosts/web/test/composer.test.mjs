@@ -10,7 +10,7 @@ import { tmpdir } from "node:os";
 import { join } from "node:path";
 import { after, afterEach, before, describe, it } from "node:test";
 import { fileURLToPath } from "node:url";
-import { BROWSERS } from "./browsers.mjs";
+import { BROWSERS, IS_WHOLE } from "./browsers.mjs";
 
 const SERVE = process.env.HEDIT_SERVE ?? fileURLToPath(new URL("../serve", import.meta.url));
 
@@ -37,7 +37,10 @@ const ALIGNMENTS = [
   ["Justify", "justify"],
 ];
 
-for (const { Browser, name: browserName, skip } of BROWSERS) {
+/** In Firefox each page takes seconds to come. */
+const TRIED = BROWSERS.filter(({ name }) => IS_WHOLE || name === "Chromium");
+
+for (const { Browser, name: browserName, skip } of TRIED) {
   describe(`the composer in ${browserName}`, { skip }, () => {
     let server;
     let address;

@@ -112,9 +112,11 @@ export class Firefox {
   /** What pages said on their consoles, and the errors that they didn't catch. @type {string[]} */
   complaints = [];
 
-  static async launch() {
+  /** Runs it; where it isn't paced, a frame comes as soon as there is something to show. */
+  static async launch({ isPaced = true } = {}) {
     const profile = await makeProfile();
-    const lines = Object.entries(PREFERENCES).map(
+    const preferences = { ...PREFERENCES, ...(isPaced ? {} : { "layout.frame_rate": 0 }) };
+    const lines = Object.entries(preferences).map(
       ([name, value]) => `user_pref("${name}", ${JSON.stringify(value)});\n`,
     );
     await writeFile(join(profile, "user.js"), lines.join(""));

@@ -4,6 +4,12 @@ import { readFile } from "node:fs/promises";
 import { createServer } from "node:http";
 import { text } from "node:stream/consumers";
 
+/** So that pages have a fine clock. */
+const ISOLATED = {
+  "Cross-Origin-Opener-Policy": "same-origin",
+  "Cross-Origin-Embedder-Policy": "require-corp",
+};
+
 /**
  * The file of an address: `/` is the page, and the others are modules and the engine.
  * @param {string} address
@@ -39,9 +45,10 @@ export async function serve(page) {
       response.end();
       return;
     }
-    const [name, type] = fileOf(String(request.url), page);
+    const [path] = String(request.url).split("?");
+    const [name, type] = fileOf(path, page);
     const content = await read(name);
-    response.writeHead(content ? 200 : 404, content && { "Content-Type": type });
+    response.writeHead(content ? 200 : 404, content && { ...ISOLATED, "Content-Type": type });
     response.end(content);
   });
   server.listen(0, "127.0.0.1");
