@@ -6,8 +6,10 @@
  *     node bench/keys.mjs [PARAGRAPHS] [ROUNDS]
  *
  * The two are measured in turn, in one run of each browser. A key's time goes from its event to the end
- * of the frame that shows what it did, with frames that wait for no screen. It ends with status 1 where
- * an aim is missed: a key takes no longer than the browser's own, and a load at most 100 ms more.
+ * of the frame that shows what it did, with frames that wait for no screen; beside it stands what the
+ * page's main thread took of the processor, which doesn't tell of what else the machine does. It ends
+ * with status 1 where an aim is missed: a key takes no longer than the browser's own, and no more of
+ * the processor, and a load at most 100 ms more.
  */
 import { argv, exit } from "node:process";
 import { BROWSERS } from "../hosts/web/test/browsers.mjs";
@@ -43,34 +45,37 @@ async function open(browser, address, kind, paragraphs) {
   return { page, opened };
 }
 
-/** Presses a key some times, and gives how long each took. */
+/** Presses a key some times, and gives how long each took, and how much of the processor. */
 async function strike(page, key, times) {
   await page.evaluate(() => void window.times.splice(0));
+  const before = await page.processor();
   for (let count = 1; count <= times; count += 1) {
     await page.strike(key);
     await page.until((wanted) => window.times.length >= wanted, count);
   }
-  return page.evaluate(() => window.times.splice(0));
+  const each = ((await page.processor()) - before) / times;
+  const taken = await page.evaluate(() => window.times.splice(0));
+  return taken.map((time) => ({ time, processor: each }));
 }
 
 async function measureKeys(browser, address, kind, found) {
   const { page, opened } = await open(browser, address, kind, PARAGRAPHS);
-  found.push(["opening", opened]);
+  found.push({ what: "opening", time: opened });
   await page.click(`#host > p:nth-child(${Math.ceil(PARAGRAPHS / 2)})`);
   await strike(page, "x", WARMING);
-  for (const [name, key, times] of KEYS) {
-    found.push(...(await strike(page, key, times)).map((time) => [name, time]));
+  for (const [what, key, times] of KEYS) {
+    found.push(...(await strike(page, key, times)).map((taken) => ({ what, ...taken })));
   }
   await page.close();
 }
 
 async function measureLoad(browser, address, kind, found) {
   const { page, opened } = await open(browser, address, kind, SMALL);
-  found.push(["load", opened]);
+  found.push({ what: "load", time: opened });
   await page.close();
 }
 
-async function measure({ Browser, name }, address) {
+async function measureAll({ Browser }, address) {
   const browser = await Browser.launch({ isPaced: false });
   const found = { browser: [], region: [] };
   for (let round = 0; round < ROUNDS; round += 1) {
@@ -81,19 +86,29 @@ async function measure({ Browser, name }, address) {
     }
   }
   await browser.close();
-  const timesOf = (kind, what) => found[kind].filter(([each]) => each === what).map(([, time]) => time);
+  return found;
+}
+
+/** Prints what was found, and gives the aims that are missed. */
+function judge(found) {
   const missed = [];
-  const rows = [...KEYS.map(([what]) => what), "opening", "load"];
-  for (const what of rows) {
-    const [own, ours] = KINDS.map((kind) => timesOf(kind, what));
-    const [half, ourHalf] = [own, ours].map((times) => quantile(times, 0.5));
-    const [most, ourMost] = [own, ours].map((times) => quantile(times, 0.9));
-    console.log(
-      `  ${what.padEnd(12)} browser ${shown(half)}, nine in ten ${shown(most)};` +
-        ` region ${shown(ourHalf)}, nine in ten ${shown(ourMost)}`,
-    );
-    if (what === "load" ? ourHalf > half + MOST_LOAD : what !== "opening" && ourHalf > half) {
-      missed.push(`${name}: ${what}`);
+  for (const what of [...KEYS.map(([name]) => name), "opening", "load"]) {
+    const halves = KINDS.map((kind) => {
+      const taken = found[kind].filter((each) => each.what === what);
+      const of = (name) => quantile(taken.map((each) => each[name]), 0.5);
+      return { time: of("time"), processor: of("processor") };
+    });
+    const told = halves.map(({ time, processor }, place) => {
+      const more = processor === undefined ? "" : `, ${shown(processor)} of the processor`;
+      return `${KINDS[place]} ${shown(time)}${more}`;
+    });
+    console.log(`  ${what.padEnd(12)} ${told.join("; ")}`);
+    const [own, ours] = halves;
+    const isKey = what !== "opening" && what !== "load";
+    if (isKey && (ours.time > own.time || ours.processor > own.processor)) {
+      missed.push(what);
+    } else if (what === "load" && ours.time > own.time + MOST_LOAD) {
+      missed.push(what);
     }
   }
   return missed;
@@ -104,7 +119,8 @@ const missed = [];
 console.log(`keys in a page of ${PARAGRAPHS} paragraphs, of ${ROUNDS} rounds`);
 for (const each of BROWSERS) {
   console.log(each.skip ? `${each.name} is skipped: ${each.skip}` : each.name);
-  missed.push(...(each.skip ? [] : await measure(each, server.address)));
+  const found = each.skip ? null : await measureAll(each, server.address);
+  missed.push(...(found ? judge(found) : []).map((what) => `${each.name}: ${what}`));
 }
 server.close();
 console.log(missed.length === 0 ? "no aim is missed" : `missed: ${missed.join("; ")}`);

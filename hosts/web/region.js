@@ -759,13 +759,13 @@ export class Region extends EventTarget {
    */
   #show(always = false) {
     const engine = this.#editor.selection();
-    this.#selected = engine && { page: engine, engine };
+    this.#selected = engine && { page: this.#view.shown(engine), engine };
     const page = this.#element.ownerDocument;
     const selection = page.getSelection();
     const active = page.activeElement;
     const around = [active, selection?.anchorNode ?? null];
     const isHere = around.some((node) => this.#element.contains(node));
-    const isShown = !always && isSame(engine, this.#pageSelection());
+    const isShown = !always && isSame(this.#selected?.page ?? null, this.#pageSelection());
     if (!engine || !selection || isShown || !(always || isHere)) {
       return;
     }

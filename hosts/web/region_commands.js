@@ -362,6 +362,15 @@ export class Commands {
     }
   }
 
+  /** Puts a caret that a command left between blocks into the one where the browser shows it. */
+  #enterBlock() {
+    const selection = this.#editor.selection();
+    const shown = selection && isCaret(selection) ? this.#view.inBlock(selection) : selection;
+    if (shown && !isSame(shown, selection)) {
+      this.select(shown);
+    }
+  }
+
   /**
    * Selects a part of a text, in units.
    * @param {Text} text
@@ -398,6 +407,7 @@ export class Commands {
    * @param {string} text
    */
   type(text) {
+    this.#enterBlock();
     if (this.#habits.plainAcrossBlocks) {
       this.#forgetStyles();
     }
@@ -503,6 +513,7 @@ export class Commands {
   // Enter.
 
   #insertParagraph() {
+    this.#enterBlock();
     const style = this.#habits.keepStyle && this.#isCaret() ? this.#style() : null;
     const isDone = this.exec("insertParagraph");
     if (isDone && this.#habits.keepSpaces) {

@@ -36,6 +36,11 @@ const BLOCKS = new Set(
   ).split(" "),
 );
 
+/** Elements that show nothing that stands in them. */
+const VOID = new Set(
+  "area base br col embed hr img input link meta param source track wbr".split(" "),
+);
+
 /** From how many changes on it is worth to have the browser look at all of them at once. */
 const MANY_CHANGES = 100;
 
@@ -267,7 +272,8 @@ export class View {
 
   /**
    * The engine's point of a place in the page; null where it isn't in the element. A place in a node
-   * that shows none of the engine's is just before it.
+   * that shows none of the engine's, or nothing that stands in it, is just before it, and one in a rule
+   * behind it: there Firefox puts a caret that comes to a rule.
    * @param {Node | null} node
    * @param {number} offset
    * @returns {Point | null}
@@ -278,9 +284,10 @@ export class View {
     }
     let [at, units] = [node, offset];
     let label = this.label(at);
-    while (label === undefined) {
+    while (label === undefined || (at instanceof Element && VOID.has(at.localName))) {
       const parent = /** @type {Node} */ (at.parentNode);
       units = [...parent.childNodes].indexOf(/** @type {ChildNode} */ (at));
+      units += Number(label !== undefined && at.nodeName === "HR");
       at = parent;
       label = this.label(at);
     }
@@ -301,6 +308,19 @@ export class View {
       return { node: /** @type {Node} */ (this.#element), offset: 0 };
     }
     return { node, offset: isCharacters(node) ? toUnits(node.data, offset) : offset };
+  }
+
+  /**
+   * A selection of the engine's as it is read back where the page shows it.
+   * @param {Selection} selection
+   * @returns {Selection}
+   */
+  shown({ anchor, focus }) {
+    const [from, to] = [anchor, focus].map((point) => {
+      const { node, offset } = this.place(point);
+      return this.point(node, offset) ?? point;
+    });
+    return { anchor: from, focus: to };
   }
 
   /**

@@ -279,6 +279,13 @@ class ChromiumPage extends Page {
     await this.#browser.send("Browser.setDownloadBehavior", target);
   }
 
+  /** How many milliseconds of processor the page's main thread has taken. */
+  async processor() {
+    await this.send("Performance.enable", { timeDomain: "threadTicks" });
+    const { metrics } = await this.send("Performance.getMetrics");
+    return metrics.find(({ name }) => name === "TaskDuration").value * 1000;
+  }
+
   /** The roles and the names of the page's nodes, as a screen reader is told them. */
   async accessible() {
     const { nodes } = await this.send("Accessibility.getFullAXTree");

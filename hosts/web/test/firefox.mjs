@@ -347,6 +347,17 @@ class FirefoxPage extends Page {
     await this.#browser.send("browser.setDownloadBehavior", { downloadBehavior, userContexts });
   }
 
+  /** How many milliseconds of processor the page's main thread has taken. */
+  processor() {
+    return this.#browser.evaluateInWindow(async () => {
+      const { osPid } = gBrowser.selectedBrowser.browsingContext.currentWindowGlobal;
+      const { children } = await ChromeUtils.requestProcInfo();
+      const { threads } = children.find(({ pid }) => pid === osPid);
+      const main = threads.find(({ tid }) => tid === osPid) ?? threads[0];
+      return main.cpuTime / 1e6;
+    });
+  }
+
   async reload() {
     await this.#browser.send("browsingContext.reload", { context: this.#context, wait: "none" });
   }

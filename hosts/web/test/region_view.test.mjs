@@ -5,6 +5,7 @@ import { describe, it } from "node:test";
 import { HABITS, Region } from "../region.js";
 import { BROWSERS } from "./browsers.mjs";
 import { RegionPage } from "./region_page.mjs";
+import { serve } from "./server.mjs";
 
 describe("region.d.ts", async () => {
   const types = await readFile(new URL("../region.d.ts", import.meta.url), "utf8");
@@ -17,6 +18,41 @@ describe("region.d.ts", async () => {
     const each = [...habits.matchAll(/readonly (\w+): boolean/g)].map(([, name]) => name);
     assert.deepEqual(each.sort(), Object.keys(HABITS).sort());
   });
+});
+
+describe("the page of docs/FOR_MAKERS.md", async () => {
+  const documents = new URL("../../../docs/FOR_MAKERS.md", import.meta.url);
+  const [, text] = (await readFile(documents, "utf8")).split("\n## In a web page\n");
+  const [, markup] = /```html\n(.*?)```/s.exec(text);
+
+  for (const { Browser, name, skip } of BROWSERS) {
+    it(`has a region in ${name}`, { skip }, async (t) => {
+      const server = await serve("", markup);
+      const browser = await Browser.launch();
+      t.after(async () => {
+        await browser.close();
+        server.close();
+      });
+      const page = await browser.open(server.address);
+      const looks = () => [
+        document.querySelector("#mail").innerHTML,
+        document.querySelector("#bold").getAttribute("aria-pressed"),
+      ];
+      await page.until(() => document.querySelector("#mail p"));
+      await page.click("#mail p");
+      do {
+        await page.press("Home");
+        await page.press("End");
+      } while ((await page.evaluate(looks))[1] === null);
+      await page.type(" now");
+      await page.press("Control+Shift+ArrowLeft");
+      await page.click("#bold");
+      assert.deepEqual(await page.evaluate(looks), ["<p>Call Ann <b>now</b></p>", "true"]);
+      await page.click("#mail p");
+      await page.press("Control+z", 2);
+      assert.deepEqual(await page.evaluate(looks), ["<p>Call Ann</p>", "false"]);
+    });
+  }
 });
 
 for (const { Browser, name, skip } of BROWSERS) {

@@ -30,10 +30,11 @@ function fileOf(address, page) {
 const read = (name) => name && readFile(new URL(name, import.meta.url)).catch(() => undefined);
 
 /**
- * Serves a page of this folder, and hears what it tells.
+ * Serves a page of this folder, or one of some markup, and hears what it tells.
  * @param {string} page
+ * @param {string} [markup]
  */
-export async function serve(page) {
+export async function serve(page, markup) {
   /** @type {(said: string) => void} */
   let tell;
   const answer = new Promise((resolve) => {
@@ -47,7 +48,7 @@ export async function serve(page) {
     }
     const [path] = String(request.url).split("?");
     const [name, type] = fileOf(path, page);
-    const content = await read(name);
+    const content = name === page && markup ? markup : await read(name);
     response.writeHead(content ? 200 : 404, content && { ...ISOLATED, "Content-Type": type });
     response.end(content);
   });
