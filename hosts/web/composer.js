@@ -108,16 +108,22 @@ function rested(call, pause) {
   };
 }
 
-/** Shows as selected what was, while a panel has the focus. */
+/** Shows as selected what was, while a panel has the focus, where the browser can. */
 function markSelected() {
   const selection = /** @type {Selection} */ (document.getSelection());
-  if (selection.rangeCount > 0) {
-    CSS.highlights?.set("selected", new Highlight(selection.getRangeAt(0).cloneRange()));
+  const { Highlight } = /** @type {any} */ (window);
+  if (selection.rangeCount > 0 && Highlight) {
+    highlights()?.set("selected", new Highlight(selection.getRangeAt(0).cloneRange()));
   }
 }
 
 function unmarkSelected() {
-  CSS.highlights?.delete("selected");
+  highlights()?.delete("selected");
+}
+
+/** @returns {Map<string, unknown> | undefined} */
+function highlights() {
+  return /** @type {any} */ (CSS).highlights;
 }
 
 /**
@@ -154,7 +160,7 @@ function edge(editor, isLast) {
   let label = editor.labelAt([0]);
   for (;;) {
     const children = [...editor.children(label)];
-    const child = isLast ? children.findLast(isOpen) : children.find(isOpen);
+    const child = children.filter(isOpen).at(isLast ? -1 : 0);
     if (child === undefined) {
       return { label, offset: isLast ? editor.node(label).length : 0 };
     }

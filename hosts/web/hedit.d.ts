@@ -156,6 +156,7 @@ export declare class HeditError extends Error {
 
 /** The text is no page: what stands before `at` begins one. */
 export declare class PageRefused extends HeditError {
+  constructor(at: number, kind: PageKind);
   /** In UTF-16 units of a string, in bytes of a Uint8Array. */
   readonly at: number;
   readonly kind: PageKind;

@@ -99,6 +99,32 @@ export const VERSION = "0.9.0";
 const NO_NODE = 0xffff_ffff;
 
 /**
+ * @param {DataView} data
+ * @param {number} at
+ */
+function readNumber(data, at) {
+  return data.getUint32(at, true);
+}
+
+/**
+ * @param {DataView} data
+ * @param {number} at
+ */
+function readLabel(data, at) {
+  const label = readNumber(data, at);
+  return label === NO_NODE ? null : label;
+}
+
+/**
+ * @param {DataView} data
+ * @param {number} at
+ * @returns {Point}
+ */
+function readPoint(data, at) {
+  return { label: readNumber(data, at), offset: readNumber(data, at + 4) };
+}
+
+/**
  * Whether a place is a point.
  * @param {Place | Point} place
  * @returns {place is Point}
@@ -161,17 +187,19 @@ export class Editor {
   }
 
   /**
-   * What a call writes into a record of so many bytes; undefined where the answer is false.
+   * What `read` gives of the record of so many bytes that a call writes; undefined where the answer is
+   * false.
+   * @template T
    * @param {string} name
    * @param {number} size
+   * @param {(data: DataView, at: number) => T} read
    * @param {(loan: Loan) => unknown[]} words
    */
-  #record(name, size, words = () => []) {
+  #record(name, size, read, words = () => []) {
     return this.#library.borrow((loan) => {
       const record = loan.room(size);
       const status = this.#call(name, ...words(loan), record);
-      const bytes = this.#library.bytes(record, size);
-      return answer(status) ? new DataView(bytes.slice().buffer) : undefined;
+      return answer(status) ? read(this.#library.data, Number(record)) : undefined;
     });
   }
 
@@ -207,8 +235,10 @@ export class Editor {
         size,
       );
       answer(status);
-      const view = new DataView(bytes.buffer, bytes.byteOffset, bytes.length);
-      return Array.from({ length: bytes.length / size }, (_, place) => read(view, place * size));
+      const [{ data }, start] = [this.#library, bytes.byteOffset];
+      return Array.from({ length: bytes.length / size }, (_, place) =>
+        read(data, start + place * size),
+      );
     });
   }
 
@@ -348,7 +378,7 @@ export class Editor {
       );
       answer(status);
       return {
-        flag: this.#library.view(flag, 4).getUint32(0, true) === 1,
+        flag: this.#library.data.getUint32(Number(flag), true) === 1,
         text: DECODER.decode(bytes),
       };
     });
@@ -437,16 +467,15 @@ export class Editor {
    * @returns {Counts}
    */
   counts() {
-    const record = /** @type {DataView} */ (this.#record("hedit_numbers", 40));
-    const count = (/** @type {number} */ at) => Number(record.getBigUint64(at, true));
-    return {
-      nodes: record.getUint32(0, true),
-      nextLabel: record.getUint32(4, true),
-      chars: count(8),
-      edits: count(16),
-      undo: count(24),
-      redo: count(32),
-    };
+    const counts = this.#record("hedit_numbers", 40, (data, at) => ({
+      nodes: data.getUint32(at, true),
+      nextLabel: data.getUint32(at + 4, true),
+      chars: Number(data.getBigUint64(at + 8, true)),
+      edits: Number(data.getBigUint64(at + 16, true)),
+      undo: Number(data.getBigUint64(at + 24, true)),
+      redo: Number(data.getBigUint64(at + 32, true)),
+    }));
+    return /** @type {Counts} */ (counts);
   }
 
   /**
@@ -454,8 +483,9 @@ export class Editor {
    * a call, the call changed nothing.
    */
   revision() {
-    const record = /** @type {DataView} */ (this.#record("hedit_revision", 8));
-    return Number(record.getBigUint64(0, true));
+    const read = (/** @type {DataView} */ data, /** @type {number} */ at) =>
+      Number(data.getBigUint64(at, true));
+    return /** @type {number} */ (this.#record("hedit_revision", 8, read));
   }
 
   /**
@@ -478,15 +508,11 @@ export class Editor {
    * @returns {Selection | null}
    */
   selection() {
-    const record = this.#record("hedit_selection", 16);
-    if (!record) {
-      return null;
-    }
-    const point = (/** @type {number} */ at) => ({
-      label: record.getUint32(at, true),
-      offset: record.getUint32(at + 4, true),
+    const both = (/** @type {DataView} */ data, /** @type {number} */ at) => ({
+      anchor: readPoint(data, at),
+      focus: readPoint(data, at + 8),
     });
-    return { anchor: point(0), focus: point(8) };
+    return this.#record("hedit_selection", 16, both) ?? null;
   }
 
   /**
@@ -510,8 +536,8 @@ export class Editor {
    * @param {readonly number[]} path
    */
   labelAt(path) {
-    const record = this.#record("hedit_label_at", 4, (loan) => loan.path(path));
-    return /** @type {DataView} */ (record).getUint32(0, true);
+    const label = this.#record("hedit_label_at", 4, readNumber, (loan) => loan.path(path));
+    return /** @type {number} */ (label);
   }
 
   /**
@@ -521,7 +547,7 @@ export class Editor {
    */
   pathOf(label) {
     const number = placeNumber(label);
-    return this.#items("hedit_path_of", 4, (view, at) => view.getUint32(at, true), () => [number]);
+    return this.#items("hedit_path_of", 4, readNumber, () => [number]);
   }
 
   /**
@@ -531,21 +557,17 @@ export class Editor {
    */
   node(label) {
     const number = placeNumber(label);
-    const record = /** @type {DataView} */ (this.#record("hedit_node", 28, () => [number]));
-    const beside = (/** @type {number} */ at) => {
-      const there = record.getUint32(at, true);
-      return there === NO_NODE ? null : there;
-    };
-    return {
+    const read = (/** @type {DataView} */ data, /** @type {number} */ at) => ({
       label,
-      kind: /** @type {Node["kind"]} */ (record.getUint32(0, true)),
-      length: record.getUint32(4, true),
-      parent: beside(8),
-      firstChild: beside(12),
-      lastChild: beside(16),
-      previous: beside(20),
-      next: beside(24),
-    };
+      kind: /** @type {Node["kind"]} */ (data.getUint32(at, true)),
+      length: data.getUint32(at + 4, true),
+      parent: readLabel(data, at + 8),
+      firstChild: readLabel(data, at + 12),
+      lastChild: readLabel(data, at + 16),
+      previous: readLabel(data, at + 20),
+      next: readLabel(data, at + 24),
+    });
+    return /** @type {Node} */ (this.#record("hedit_node", 28, read, () => [number]));
   }
 
   /**
@@ -613,11 +635,7 @@ export class Editor {
    */
   find(text, label = 0) {
     const number = placeNumber(label);
-    const point = (/** @type {DataView} */ view, /** @type {number} */ at) => ({
-      label: view.getUint32(at, true),
-      offset: view.getUint32(at + 4, true),
-    });
-    return this.#items("hedit_find", 8, point, (loan) => [number, ...loan.text(text)]);
+    return this.#items("hedit_find", 8, readPoint, (loan) => [number, ...loan.text(text)]);
   }
 
   /**

@@ -11,16 +11,23 @@ import { bytesOf, unitsInBytes } from "./hedit_text.js";
 
 /** @typedef {import("./hedit.js").Place} Place */
 
-/** What one call borrows of the module's memory. */
+/** How many bytes are kept for what calls borrow, so that most of them need no block of the heap. */
+const SCRATCH_SIZE = 16_384;
+
+/** What one call borrows of the module's memory. One that begins within another ends within it. */
 export class Loan {
   #library;
 
   /** @type {bigint[]} */
   #blocks = [];
 
+  /** How much of the scratch was taken before. */
+  #taken;
+
   /** @param {Library} library */
   constructor(library) {
     this.#library = library;
+    this.#taken = library.taken;
   }
 
   /**
@@ -28,6 +35,10 @@ export class Loan {
    * @param {number} size
    */
   room(size) {
+    const scratch = this.#library.takeScratch(size);
+    if (scratch !== null) {
+      return scratch;
+    }
     const at = this.#library.allocate(size);
     this.#blocks.push(at);
     return at;
@@ -77,11 +88,11 @@ export class Loan {
    */
   printed(capacity, call, size = 1) {
     const length = this.room(8);
-    this.#library.view(length, 8).setBigUint64(0, 0n);
+    this.#library.data.setBigUint64(Number(length), 0n);
     for (;;) {
       const buffer = this.room(capacity * size);
       const status = call(buffer, BigInt(capacity), length);
-      const written = Number(this.#library.view(length, 8).getBigUint64(0, true));
+      const written = Number(this.#library.data.getBigUint64(Number(length), true));
       if (status !== Status.TOO_SMALL) {
         return { status, bytes: this.#library.bytes(buffer, written * size) };
       }
@@ -90,6 +101,7 @@ export class Loan {
   }
 
   end() {
+    this.#library.giveScratch(this.#taken);
     for (const at of this.#blocks) {
       this.#library.release(at);
     }
@@ -97,13 +109,23 @@ export class Loan {
 }
 
 /**
- * The calls of the module and its memory. A pointer is a BigInt. Views are taken anew each time,
- * since a memory that grows detaches them.
+ * The calls of the module and its memory. A pointer is a BigInt. A memory that grows detaches what
+ * views it, so these are taken anew.
  */
 export class Library {
   #calls;
 
   #memory;
+
+  #data;
+
+  /**
+   * The pointer to the scratch: null before it is asked for, 0n where there was no memory for it.
+   * @type {bigint | null}
+   */
+  #scratch = null;
+
+  #taken = 0;
 
   /**
    * Why the module stopped in the middle of a call.
@@ -118,6 +140,7 @@ export class Library {
   constructor(exports) {
     this.#calls = /** @type {Record<string, (...words: unknown[]) => any>} */ (exports);
     this.#memory = /** @type {WebAssembly.Memory} */ (exports.memory);
+    this.#data = new DataView(this.#memory.buffer);
   }
 
   /**
@@ -161,12 +184,41 @@ export class Library {
     return new Uint8Array(this.#memory.buffer, Number(at), length);
   }
 
+  /** The whole memory, until it grows. */
+  get data() {
+    const { buffer } = this.#memory;
+    if (this.#data.buffer !== buffer) {
+      this.#data = new DataView(buffer);
+    }
+    return this.#data;
+  }
+
+  /** How many bytes of the scratch are taken. */
+  get taken() {
+    return this.#taken;
+  }
+
   /**
-   * @param {bigint} at
-   * @param {number} length
+   * A pointer to so many bytes of the scratch; null where it has no room for them.
+   * @param {number} size
    */
-  view(at, length) {
-    return new DataView(this.#memory.buffer, Number(at), length);
+  takeScratch(size) {
+    this.#scratch ??= /** @type {bigint} */ (this.call("allocate", BigInt(SCRATCH_SIZE)));
+    const start = this.#taken;
+    const end = start + Math.ceil(size / 16) * 16;
+    if (this.#scratch === 0n || end > SCRATCH_SIZE) {
+      return null;
+    }
+    this.#taken = end;
+    return this.#scratch + BigInt(start);
+  }
+
+  /**
+   * Gives back all of the scratch but so many bytes.
+   * @param {number} taken
+   */
+  giveScratch(taken) {
+    this.#taken = taken;
   }
 
   /**
@@ -195,7 +247,7 @@ export class Library {
    */
   open(editor, page, labelCap, undoDepth) {
     const handle = this.allocate(8);
-    this.view(handle, 8).setBigUint64(0, 0n);
+    this.data.setBigUint64(Number(handle), 0n);
     try {
       this.borrow((loan) => {
         const bytes = bytesOf(page);
@@ -203,9 +255,9 @@ export class Library {
         const words = [...loan.array(bytes), labelCap, BigInt(undoDepth), refusal];
         const status = this.call("hedit_open", handle, ...words);
         if (status === Status.PAGE_REFUSED) {
-          const view = this.view(refusal, 16);
-          const at = Number(view.getBigUint64(0, true));
-          const kind = Object.values(PageKind)[view.getUint32(8, true) - 1];
+          const [data, place] = [this.data, Number(refusal)];
+          const at = Number(data.getBigUint64(place, true));
+          const kind = Object.values(PageKind)[data.getUint32(place + 8, true) - 1];
           throw new PageRefused(typeof page === "string" ? unitsInBytes(bytes, at) : at, kind);
         }
         answer(status);

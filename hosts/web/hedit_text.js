@@ -14,6 +14,16 @@ const ENCODER = new TextEncoder();
 export const DECODER = new TextDecoder("utf-8", { fatal: true, ignoreBOM: true });
 
 /**
+ * Whether a text has half of a surrogate pair.
+ * @param {string} text
+ */
+function hasHalf(text) {
+  // Some engines that JavaScript runs in have no `isWellFormed` yet.
+  const { isWellFormed } = /** @type {{ isWellFormed?: () => boolean }} */ (String.prototype);
+  return isWellFormed ? !isWellFormed.call(text) : /\p{Surrogate}/u.test(text);
+}
+
+/**
  * @param {Text} text
  * @returns {Uint8Array}
  */
@@ -24,7 +34,7 @@ export function bytesOf(text) {
   if (typeof text !== "string") {
     throw new TypeError(`a text is a string or a Uint8Array, and not ${typeof text}`);
   }
-  if (/\p{Surrogate}/u.test(text)) {
+  if (hasHalf(text)) {
     throw new BadArgument("the text has half of a surrogate pair");
   }
   return ENCODER.encode(text);

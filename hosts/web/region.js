@@ -35,7 +35,7 @@
  */
 import { BadArgument, HeditError, PageRefused } from "./hedit.js";
 import { Commands, HABITS, lockedPart } from "./region_commands.js";
-import { historyKey, isOfBrowser, meaningOf } from "./region_input.js";
+import { Halves, commandOfKey, isOfBrowser, meaningOf } from "./region_input.js";
 import { Steps } from "./region_steps.js";
 import { View, difference, isCaret, isSame, isText } from "./region_view.js";
 
@@ -148,6 +148,8 @@ export class Region extends EventTarget {
 
   #steps = new Steps();
 
+  #halves = new Halves();
+
   /**
    * What the browser changed while an input method composes, and how many steps there were before.
    * @type {{ records: MutationRecord[], steps: number } | null}
@@ -176,6 +178,9 @@ export class Region extends EventTarget {
     this.#editor = editor;
     this.#isDebugged = debug;
     this.#view = new View(editor, element, root);
+    if (choices.html === undefined) {
+      this.#view.adopt();
+    }
     this.#view.follow();
     const habits = { ...HABITS, ...choices };
     this.#commands = new Commands(editor, this.#view, habits, [...denied], undoDepth);
@@ -403,7 +408,7 @@ export class Region extends EventTarget {
 
   /** @param {KeyboardEvent} event */
   #key(event) {
-    const command = historyKey(event);
+    const command = commandOfKey(event);
     if (command) {
       event.preventDefault();
       this.exec(command);
@@ -446,9 +451,10 @@ export class Region extends EventTarget {
    * @param {{ text: string, isAimed: boolean }} meaning
    */
   #insert(event, { text, isAimed }) {
+    const whole = this.#halves.join(text);
     this.#act(() => {
       this.#aim(event, isAimed);
-      return text !== "" && this.#commands.type(text);
+      return whole !== "" && this.#commands.type(whole);
     });
   }
 
@@ -753,13 +759,13 @@ export class Region extends EventTarget {
    */
   #show(always = false) {
     const engine = this.#editor.selection();
-    this.#selected = engine && { page: engine, engine };
+    this.#selected = engine && { page: this.#view.shown(engine), engine };
     const page = this.#element.ownerDocument;
     const selection = page.getSelection();
     const active = page.activeElement;
     const around = [active, selection?.anchorNode ?? null];
     const isHere = around.some((node) => this.#element.contains(node));
-    const isShown = !always && isSame(engine, this.#pageSelection());
+    const isShown = !always && isSame(this.#selected?.page ?? null, this.#pageSelection());
     if (!engine || !selection || isShown || !(always || isHere)) {
       return;
     }

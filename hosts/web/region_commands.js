@@ -2,7 +2,7 @@
  * What the user of a region does, as commands of the engine, for region.js. Here are the habits: what
  * a region does beside what a command does, so that users of browsers find what they know.
  */
-import { BadPlace, toCharacters } from "./hedit.js";
+import { BadArgument, BadPlace, toCharacters } from "./hedit.js";
 import { isBlock, isCaret, isCharacters, isSame, isText } from "./region_view.js";
 
 /** @typedef {import("./hedit.js").Counts} Counts */
@@ -58,7 +58,19 @@ export const HABITS = Object.freeze({
 
 /** @typedef {{ block: string, states: [string, boolean][], values: [string, string][] }} Style */
 
-const CLUSTERS = new Intl.Segmenter(undefined, { granularity: "grapheme" });
+/** @type {Intl.Segmenter | undefined} */
+let segmenter = undefined;
+
+/**
+ * What a user sees as one character, at a unit of a text. The browser takes a while to make the
+ * segmenter, so that it waits for its first use.
+ * @param {string} text
+ * @param {number} unit
+ */
+function clusterAt(text, unit) {
+  segmenter ??= new Intl.Segmenter(undefined, { granularity: "grapheme" });
+  return /** @type {Intl.SegmentData} */ (segmenter.segment(text).containing(unit));
+}
 
 const NO_BREAK_SPACE = "\u00a0";
 
@@ -78,12 +90,21 @@ const ALIGNMENTS = new Map([
 ]);
 
 /**
+ * The most UTF-16 units of a line that is put in at once: the engine keeps the text before each
+ * character, and so takes memory and time by the square.
+ */
+const LONGEST_LINE = 20_000;
+
+/**
  * A text as `insertText` takes it: its lines end with a line feed, and half of a surrogate pair is
- * replaced.
+ * replaced. Throws BadArgument where a line is too long.
  * @param {string} text
  */
 function plain(text) {
   const lines = text.replace(/\r\n?/g, "\n").replaceAll("\0", "");
+  if (lines.length > LONGEST_LINE && lines.split("\n").some(({ length }) => length > LONGEST_LINE)) {
+    throw new BadArgument(`a line has more than ${LONGEST_LINE.toLocaleString("en")} characters`);
+  }
   return lines.replace(/\p{Surrogate}/gu, "\ufffd");
 }
 
@@ -341,6 +362,15 @@ export class Commands {
     }
   }
 
+  /** Puts a caret that a command left between blocks into the one where the browser shows it. */
+  #enterBlock() {
+    const selection = this.#editor.selection();
+    const shown = selection && isCaret(selection) ? this.#view.inBlock(selection) : selection;
+    if (shown && !isSame(shown, selection)) {
+      this.select(shown);
+    }
+  }
+
   /**
    * Selects a part of a text, in units.
    * @param {Text} text
@@ -377,6 +407,7 @@ export class Commands {
    * @param {string} text
    */
   type(text) {
+    this.#enterBlock();
     if (this.#habits.plainAcrossBlocks) {
       this.#forgetStyles();
     }
@@ -482,6 +513,7 @@ export class Commands {
   // Enter.
 
   #insertParagraph() {
+    this.#enterBlock();
     const style = this.#habits.keepStyle && this.#isCaret() ? this.#style() : null;
     const isDone = this.exec("insertParagraph");
     if (isDone && this.#habits.keepSpaces) {
@@ -614,9 +646,7 @@ export class Commands {
     if (!text) {
       return false;
     }
-    const { segment, index } = /** @type {Intl.SegmentData} */ (
-      CLUSTERS.segment(text.node.data).containing(text.offset - 1)
-    );
+    const { segment, index } = clusterAt(text.node.data, text.offset - 1);
     if (toCharacters(segment, segment.length) < 2) {
       return false;
     }
@@ -682,9 +712,7 @@ export class Commands {
       return false;
     }
     const { node, offset } = place;
-    const { segment } = /** @type {Intl.SegmentData} */ (
-      CLUSTERS.segment(node.data.slice(offset)).containing(0)
-    );
+    const { segment } = clusterAt(node.data.slice(offset), 0);
     const [first] = segment;
     const length = this.#habits.wholeClusters ? segment.length : first.length;
     this.#selectIn(node, offset, offset + length);

@@ -96,15 +96,46 @@ function extentOf(kind) {
 }
 
 /**
- * What a key asks for: undo or redo, of which a browser says nothing where it has nothing to undo
- * itself.
+ * The whole characters of what is typed: of one that takes two UTF-16 units, a key of Firefox gives
+ * each in an input of its own.
+ */
+export class Halves {
+  #first = "";
+
+  /**
+   * A text with the half before it. A half at its end is kept for the next text.
+   * @param {string} text
+   */
+  join(text) {
+    const all = /^[\udc00-\udfff]/.test(text) ? this.#first + text : text;
+    const isHalf = /[\ud800-\udbff]$/.test(all);
+    this.#first = isHalf ? all.slice(-1) : "";
+    return isHalf ? all.slice(0, -1) : all;
+  }
+}
+
+/** The commands of keys that are pressed with Control, or with Command on Apple's machines. */
+const OF_KEYS = new Map([
+  ["z", "undo"],
+  ["b", "bold"],
+  ["i", "italic"],
+  ["u", "underline"],
+]);
+
+/**
+ * The command that a key asks for, null where it asks for none: undo and redo, of which a browser says
+ * nothing where it has nothing to undo itself, and the styles that Firefox has no keys for.
  * @param {KeyboardEvent} event
  */
-export function historyKey(event) {
-  const key = event.key.toLowerCase();
-  const isHeld = (event.ctrlKey || event.metaKey) && !event.altKey && !event.isComposing;
-  if (!isHeld || (key !== "z" && key !== "y")) {
+export function commandOfKey(event) {
+  const isApple = /^(Mac|iPhone|iPad)/.test(navigator.platform);
+  const isHeld = (isApple ? event.metaKey : event.ctrlKey) && !event.altKey && !event.isComposing;
+  if (!isHeld || event.defaultPrevented) {
     return null;
   }
-  return key === "y" || event.shiftKey ? "redo" : "undo";
+  // On a keyboard of another script the letter is known by its place.
+  const letter = /^[a-z]$/i.test(event.key) ? event.key : event.code.replace("Key", "");
+  const key = letter.toLowerCase();
+  const isRedo = event.shiftKey ? key === "z" : key === "y" && !isApple;
+  return isRedo ? "redo" : event.shiftKey ? null : (OF_KEYS.get(key) ?? null);
 }

@@ -36,6 +36,14 @@ const BLOCKS = new Set(
   ).split(" "),
 );
 
+/** Elements that show nothing that stands in them. */
+const VOID = new Set(
+  "area base br col embed hr img input link meta param source track wbr".split(" "),
+);
+
+/** From how many changes on it is worth to have the browser look at all of them at once. */
+const MANY_CHANGES = 100;
+
 /**
  * Whether an address runs JavaScript.
  * @param {string} address
@@ -195,6 +203,9 @@ export class View {
   /** Where the browser is asked how it writes a style. */
   #style;
 
+  /** Whether the next frame scrolls. */
+  #isRevealing = false;
+
   /**
    * @param {Editor} editor
    * @param {HTMLElement} element
@@ -261,7 +272,8 @@ export class View {
 
   /**
    * The engine's point of a place in the page; null where it isn't in the element. A place in a node
-   * that shows none of the engine's is just before it.
+   * that shows none of the engine's, or nothing that stands in it, is just before it, and one in a rule
+   * behind it: there Firefox puts a caret that comes to a rule.
    * @param {Node | null} node
    * @param {number} offset
    * @returns {Point | null}
@@ -272,9 +284,10 @@ export class View {
     }
     let [at, units] = [node, offset];
     let label = this.label(at);
-    while (label === undefined) {
+    while (label === undefined || (at instanceof Element && VOID.has(at.localName))) {
       const parent = /** @type {Node} */ (at.parentNode);
       units = [...parent.childNodes].indexOf(/** @type {ChildNode} */ (at));
+      units += Number(label !== undefined && at.nodeName === "HR");
       at = parent;
       label = this.label(at);
     }
@@ -298,6 +311,19 @@ export class View {
   }
 
   /**
+   * A selection of the engine's as it is read back where the page shows it.
+   * @param {Selection} selection
+   * @returns {Selection}
+   */
+  shown({ anchor, focus }) {
+    const [from, to] = [anchor, focus].map((point) => {
+      const { node, offset } = this.place(point);
+      return this.point(node, offset) ?? point;
+    });
+    return { anchor: from, focus: to };
+  }
+
+  /**
    * A caret between blocks, put into the block behind it, or at the end into the one before it: that
    * is where a browser shows it.
    * @param {Selection} caret
@@ -318,6 +344,37 @@ export class View {
   }
 
   /**
+   * Takes the nodes below a node of the page for the engine's that they are like, up to the first that
+   * is of another kind, so that they stay.
+   * @param {number} label
+   * @param {Node} node
+   */
+  adopt(label = this.#root, node = this.#element) {
+    let child = node.firstChild;
+    for (const each of this.#editor.children(label)) {
+      if (!child || !this.#isLike(each, child)) {
+        return;
+      }
+      this.#keep(each, child);
+      if (!isCharacters(child)) {
+        this.adopt(each, child);
+      }
+      child = child.nextSibling;
+    }
+  }
+
+  /**
+   * Whether a node of the page is of the kind of the engine's of a label.
+   * @param {number} label
+   * @param {Node} node
+   */
+  #isLike(label, node) {
+    return node instanceof Element
+      ? node instanceof HTMLElement && node.localName === this.#editor.nodeName(label)
+      : node.nodeType === this.#editor.node(label).kind;
+  }
+
+  /**
    * Does to the page what the engine's last call changed, and looks at nothing else. At first, and
    * where a call was missed, the two are compared. Says whether the engine's page is another one.
    */
@@ -331,10 +388,28 @@ export class View {
       this.mend(this.#root);
       return true;
     }
-    for (const change of this.#editor.changes()) {
+    const changes = this.#editor.changes();
+    const resume = changes.length > MANY_CHANGES ? this.#rest() : null;
+    for (const change of changes) {
       this.#followOne(change);
     }
+    resume?.();
     return true;
+  }
+
+  /**
+   * Has the element that is edited be edited no more, and gives what has it be edited again: Firefox
+   * tells the input method of each change in it, which takes as long as what stands before.
+   */
+  #rest() {
+    const host = this.#element.ownerDocument.activeElement;
+    const name = "contenteditable";
+    const value = this.#element.contains(host) ? host?.getAttribute(name) : null;
+    if (typeof value !== "string" || !navigator.userAgent.includes("Gecko/")) {
+      return null;
+    }
+    host?.removeAttribute(name);
+    return () => host?.setAttribute(name, value);
   }
 
   /** @param {Change} change */
@@ -590,8 +665,19 @@ export class View {
     }
   }
 
-  /** Scrolls to where the focus of the page's selection is, as a browser does after input. */
+  /**
+   * Scrolls to where the focus of the page's selection is, as a browser does after input: in the next
+   * frame, in which the page is laid out anyway.
+   */
   reveal() {
+    if (!this.#isRevealing) {
+      this.#isRevealing = true;
+      requestAnimationFrame(() => this.#scroll());
+    }
+  }
+
+  #scroll() {
+    this.#isRevealing = false;
     const selection = this.#element.ownerDocument.getSelection();
     if (!selection?.focusNode || !this.#element.contains(selection.focusNode)) {
       return;

@@ -1,20 +1,15 @@
 /** Chromium, driven by the DevTools protocol over a pipe, with the input of a mouse and a keyboard. */
-import { execFileSync, spawn } from "node:child_process";
+import { spawn } from "node:child_process";
 import { once } from "node:events";
-import { mkdtemp, rm } from "node:fs/promises";
-import { tmpdir } from "node:os";
-import { join } from "node:path";
 import { getuid } from "node:process";
 import { setTimeout as sleep } from "node:timers/promises";
+import { Page, expressionOf, makeProfile, removeProfile, shifted } from "./page.mjs";
 
 const PROGRAM = "chromium";
 
-/** How long a page has to show what is waited for, in milliseconds. */
-const PATIENCE = 30_000;
-
 const MODIFIERS = { Alt: 1, Control: 2, Meta: 4, Shift: 8 };
 
-/** The codes of keys that aren't letters or digits, and what Shift makes of digits. */
+/** The codes of keys that aren't letters or digits. */
 const KEYS = {
   Enter: ["Enter", 13, "\r"],
   Tab: ["Tab", 9],
@@ -39,18 +34,6 @@ const KEYS = {
   "\\": ["Backslash", 220, "\\"],
 };
 
-const SHIFTED_DIGITS = ")!@#$%^&*(";
-
-/** Why the tests of a browser are skipped; false where they aren't. */
-export function missing() {
-  try {
-    execFileSync(PROGRAM, ["--version"], { stdio: "ignore" });
-    return false;
-  } catch {
-    return `there is no ${PROGRAM}`;
-  }
-}
-
 /**
  * What a key event says of a key.
  * @param {string} key
@@ -62,16 +45,15 @@ function keyOf(key, isShifted) {
     return { key, code, windowsVirtualKeyCode: number, text };
   }
   const upper = key.toUpperCase();
-  if (/^\d$/.test(key)) {
-    const shown = isShifted ? SHIFTED_DIGITS[Number(key)] : key;
-    return { key: shown, code: `Digit${key}`, windowsVirtualKeyCode: key.charCodeAt(0), text: shown };
-  }
-  const shown = isShifted ? upper : key.toLowerCase();
-  return { key: shown, code: `Key${upper}`, windowsVirtualKeyCode: upper.charCodeAt(0), text: shown };
+  const [typed, kind] = [shifted(key, isShifted), /^\d$/.test(key) ? "Digit" : "Key"];
+  const windowsVirtualKeyCode = upper.charCodeAt(0);
+  return { key: typed, code: `${kind}${upper}`, windowsVirtualKeyCode, text: typed };
 }
 
-/** A running browser. */
-export class Browser {
+/** A running Chromium. */
+export class Chromium {
+  static program = PROGRAM;
+
   #child;
 
   #profile;
@@ -88,8 +70,9 @@ export class Browser {
   /** What pages said on their consoles, and the errors that they didn't catch. @type {string[]} */
   complaints = [];
 
-  static async launch() {
-    const profile = await mkdtemp(join(tmpdir(), "hedit-"));
+  /** Runs it; where it isn't paced, a frame comes as soon as there is something to show. */
+  static async launch({ isPaced = true } = {}) {
+    const profile = await makeProfile();
     const words = [
       "--headless",
       "--disable-gpu",
@@ -97,9 +80,10 @@ export class Browser {
       "--remote-debugging-pipe",
       `--user-data-dir=${profile}`,
       ...(getuid() === 0 ? ["--no-sandbox"] : []),
+      ...(isPaced ? [] : ["--disable-frame-rate-limit", "--disable-gpu-vsync"]),
     ];
     const child = spawn(PROGRAM, words, { stdio: ["ignore", "ignore", "ignore", "pipe", "pipe"] });
-    return new Browser(child, profile);
+    return new Chromium(child, profile);
   }
 
   constructor(child, profile) {
@@ -165,7 +149,7 @@ export class Browser {
     const { targetId } = await this.send("Target.createTarget", blank);
     const attach = { targetId, flatten: true };
     const { sessionId } = await this.send("Target.attachToTarget", attach);
-    const page = new Page(this, sessionId, browserContextId);
+    const page = new ChromiumPage(this, sessionId, browserContextId);
     await page.send("Runtime.enable");
     await page.send("Log.enable");
     await page.send("Page.enable");
@@ -182,12 +166,12 @@ export class Browser {
     await Promise.race([this.send("Browser.close").catch(() => {}), sleep(2000)]);
     this.#child.kill();
     await this.#exit;
-    await rm(this.#profile, { recursive: true, force: true, maxRetries: 9, retryDelay: 200 });
+    await removeProfile(this.#profile);
   }
 }
 
-/** A page of a browser. */
-export class Page {
+/** A page of Chromium. */
+class ChromiumPage extends Page {
   #browser;
 
   #session;
@@ -195,6 +179,7 @@ export class Page {
   #context;
 
   constructor(browser, session, context) {
+    super();
     this.#browser = browser;
     this.#session = session;
     this.#context = context;
@@ -205,17 +190,8 @@ export class Page {
     return this.#browser.send(method, params, this.#session);
   }
 
-  get context() {
-    return this.#context;
-  }
-
-  /**
-   * What a function gives in the page.
-   * @param {string | ((...words: any[]) => any)} call
-   */
   async evaluate(call, ...words) {
-    const expression =
-      typeof call === "string" ? call : `(${call})(${words.map((word) => JSON.stringify(word))})`;
+    const expression = expressionOf(call, words);
     const options = { expression, awaitPromise: true, returnByValue: true };
     const { result, exceptionDetails } = await this.send("Runtime.evaluate", options);
     if (exceptionDetails) {
@@ -224,90 +200,48 @@ export class Page {
     return result.value;
   }
 
-  /** Waits until a function gives something in the page that is true there, and gives it. */
-  async until(call, ...words) {
-    const end = Date.now() + PATIENCE;
-    for (;;) {
-      const value = await this.evaluate(call, ...words).catch(() => undefined);
-      if (value) {
-        return value;
-      }
-      if (Date.now() > end) {
-        throw new Error(`the page doesn't come to ${call} of ${JSON.stringify(words)}`);
-      }
-      await sleep(25);
-    }
-  }
-
-  /** Waits until what was done is shown. */
-  async settle() {
-    await this.evaluate(
-      () => new Promise((resolve) => requestAnimationFrame(() => requestAnimationFrame(resolve))),
-    );
-  }
-
-  /** @param {"light" | "dark"} value */
   async setScheme(value) {
     const features = [{ name: "prefers-color-scheme", value }];
     await this.send("Emulation.setEmulatedMedia", { features });
   }
 
-  /** The middle of an element, once it stands in the window. */
-  middle(selector) {
-    return this.evaluate((wanted) => {
-      const element = document.querySelector(wanted);
-      element.scrollIntoView({ block: "nearest", inline: "nearest" });
-      const { left, top, width, height } = element.getBoundingClientRect();
-      return { x: left + width / 2, y: top + height / 2 };
-    }, selector);
+  #mouse(type, at, rest) {
+    return this.send("Input.dispatchMouseEvent", { type, ...at, ...rest });
   }
 
-  /**
-   * Presses the mouse's left button at a place, and lets it go.
-   * @param {{ x: number, y: number }} at
-   * @param {number} clickCount
-   */
-  async clickAt({ x, y }, clickCount = 1) {
-    await this.send("Input.dispatchMouseEvent", { type: "mouseMoved", x, y });
+  async clickAt(at, clickCount = 1) {
+    await this.#mouse("mouseMoved", at);
     for (let count = 1; count <= clickCount; count += 1) {
-      const click = { x, y, button: "left", clickCount: count };
-      await this.send("Input.dispatchMouseEvent", { ...click, type: "mousePressed", buttons: 1 });
-      await this.send("Input.dispatchMouseEvent", { ...click, type: "mouseReleased" });
+      const click = { button: "left", clickCount: count };
+      await this.#mouse("mousePressed", at, { ...click, buttons: 1 });
+      await this.#mouse("mouseReleased", at, click);
     }
     await this.settle();
   }
 
-  async click(selector) {
-    await this.clickAt(await this.middle(selector));
+  async drag(places) {
+    const held = { button: "left", buttons: 1, clickCount: 1 };
+    await this.#mouse("mousePressed", places[0], held);
+    for (const at of places.slice(1)) {
+      await this.#mouse("mouseMoved", at, held);
+    }
+    await this.#mouse("mouseReleased", places.at(-1), { ...held, buttons: 0 });
+    await this.settle();
   }
 
-  /**
-   * Presses keys, as in `Control+Shift+7`.
-   * @param {string} keys
-   * @param {number} times
-   */
-  async press(keys, times = 1) {
-    const names = keys.split("+");
-    const held = names.slice(0, -1);
-    const modifiers = held.reduce((bits, name) => bits | MODIFIERS[name], 0);
-    const { text, ...key } = keyOf(names.at(-1), held.includes("Shift"));
+  async strike(name, held = []) {
+    const modifiers = held.reduce((bits, each) => bits | MODIFIERS[each], 0);
+    const { text, ...key } = keyOf(name, held.includes("Shift"));
     const types = text !== undefined && !(modifiers & ~MODIFIERS.Shift);
-    for (let count = 0; count < times; count += 1) {
-      const down = types ? { type: "keyDown", text } : { type: "rawKeyDown" };
-      await this.send("Input.dispatchKeyEvent", { ...key, modifiers, ...down });
-      await this.send("Input.dispatchKeyEvent", { ...key, modifiers, type: "keyUp" });
-    }
-    await this.settle();
+    const down = types ? { type: "keyDown", text } : { type: "rawKeyDown" };
+    await this.send("Input.dispatchKeyEvent", { ...key, modifiers, ...down });
+    await this.send("Input.dispatchKeyEvent", { ...key, modifiers, type: "keyUp" });
   }
 
-  /**
-   * Types a text, a line feed as Enter.
-   * @param {string} text
-   */
   async type(text) {
     for (const character of text) {
       if (character === "\n") {
-        await this.press("Enter");
+        await this.strike("Enter");
       } else {
         const key = { key: character, text: character };
         await this.send("Input.dispatchKeyEvent", { ...key, type: "keyDown" });
@@ -317,7 +251,51 @@ export class Page {
     await this.settle();
   }
 
-  /** A picture of the window, as the bytes of a PNG. */
+  async compose(text, taken) {
+    const composed = { text, selectionStart: text.length, selectionEnd: text.length };
+    const replaced = taken && { replacementStart: taken[0], replacementEnd: taken[1] };
+    await this.send("Input.imeSetComposition", { ...composed, ...replaced });
+    await this.settle();
+  }
+
+  async commit(text) {
+    await this.send("Input.insertText", { text });
+    await this.settle();
+  }
+
+  async cancel() {
+    await this.compose("");
+    await this.commit("");
+  }
+
+  async allowClipboard() {
+    const permissions = ["clipboardReadWrite", "clipboardSanitizedWrite"];
+    const browserContextId = this.#context;
+    await this.#browser.send("Browser.grantPermissions", { permissions, browserContextId });
+  }
+
+  async saveTo(folder) {
+    const target = { browserContextId: this.#context, behavior: "allow", downloadPath: folder };
+    await this.#browser.send("Browser.setDownloadBehavior", target);
+  }
+
+  /** How many milliseconds of processor the page's main thread has taken. */
+  async processor() {
+    await this.send("Performance.enable", { timeDomain: "threadTicks" });
+    const { metrics } = await this.send("Performance.getMetrics");
+    return metrics.find(({ name }) => name === "TaskDuration").value * 1000;
+  }
+
+  /** The roles and the names of the page's nodes, as a screen reader is told them. */
+  async accessible() {
+    const { nodes } = await this.send("Accessibility.getFullAXTree");
+    return nodes.map(({ role, name }) => ({ role: role?.value, name: name?.value }));
+  }
+
+  async reload() {
+    await this.send("Page.reload");
+  }
+
   async shot() {
     const { data } = await this.send("Page.captureScreenshot", { format: "png" });
     return Buffer.from(data, "base64");

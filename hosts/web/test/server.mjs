@@ -4,6 +4,12 @@ import { readFile } from "node:fs/promises";
 import { createServer } from "node:http";
 import { text } from "node:stream/consumers";
 
+/** So that pages have a fine clock. */
+const ISOLATED = {
+  "Cross-Origin-Opener-Policy": "same-origin",
+  "Cross-Origin-Embedder-Policy": "require-corp",
+};
+
 /**
  * The file of an address: `/` is the page, and the others are modules and the engine.
  * @param {string} address
@@ -24,10 +30,11 @@ function fileOf(address, page) {
 const read = (name) => name && readFile(new URL(name, import.meta.url)).catch(() => undefined);
 
 /**
- * Serves a page of this folder, and hears what it tells.
+ * Serves a page of this folder, or one of some markup, and hears what it tells.
  * @param {string} page
+ * @param {string} [markup]
  */
-export async function serve(page) {
+export async function serve(page, markup) {
   /** @type {(said: string) => void} */
   let tell;
   const answer = new Promise((resolve) => {
@@ -39,9 +46,10 @@ export async function serve(page) {
       response.end();
       return;
     }
-    const [name, type] = fileOf(String(request.url), page);
-    const content = await read(name);
-    response.writeHead(content ? 200 : 404, content && { "Content-Type": type });
+    const [path] = String(request.url).split("?");
+    const [name, type] = fileOf(path, page);
+    const content = name === page && markup ? markup : await read(name);
+    response.writeHead(content ? 200 : 404, content && { ...ISOLATED, "Content-Type": type });
     response.end(content);
   });
   server.listen(0, "127.0.0.1");
