@@ -1,4 +1,4 @@
-use Rattle.std.proofs.Common.{◌≡◌, Option, Some, Result, Ok, Err, sym, ap, ◌∙◌, subst}
+use Rattle.std.proofs.Common.{false, ◌≡◌, Option, Some, Result, Ok, Err, sym, ap, ◌∙◌, subst}
 use Rattle.live_range.specs.declared.places.Pair.{Pair}
 use Rattle.html_names.specs.declared.commands.Command.TheVariants.{InsertText}
 use Rattle.edit_engine.specs.Editing.{EditorValue}
