@@ -1,4 +1,4 @@
-use Rattle.std.proofs.Common.{◌≡◌, Option, Some, Err, sym, ap, ◌∙◌, subst, refl, inl}
+use Rattle.std.proofs.Common.{false, ◌≡◌, Option, Some, Err, sym, ap, ◌∙◌, subst, refl, inl}
 use Rattle.std.specs.Prelude.{MatchOption}
 use Rattle.live_range.specs.declared.places.Pair.{Pair}
 use Rattle.html_names.specs.declared.commands.Command.TheVariants.{InsertText}
