@@ -31,12 +31,14 @@ use Rattle.edit_laws.proofs.Selections.{selection_at_rest}
 use Rattle.edit_laws.proofs.SteadyRuns.{states_on}
 use Rattle.edit_laws.proofs.StayingKinds.{kinds_at_rest}
 use Rattle.edit_laws.proofs.Subsequences.{keeps_refl}
+use Rattle.making_laws.proofs.KnownPages.{commands_make_known, own_known}
 use Rattle.edit_doc.specs.Whole.{Whole, IsDoc}
 use Rattle.edit_engine.specs.declared.answers.Answer.{Answer}
 use Rattle.edit_engine.specs.declared.answers.Answer.TheVariants.{Yes, No}
 use Rattle.edit_engine.specs.declared.answers.ExecFault.{ExecFault}
 use Rattle.edit_engine.specs.declared.answers.ExecFault.TheVariants as fault
 use Rattle.edit_engine.specs.Commands.{row_of, action_of, is_enabled_in}
+use Rattle.edit_engine.specs.Bringing.{BringsKnown}
 use Rattle.edit_engine.specs.Confinement.{KeepsOutside, KeepsHtml, KeepsMarks, KeepsSelection, HasEntry, HasJoined, IsGone, KeepsIslands, KeepsCharacters, GivesBack}
 use Rattle.edit_engine.specs.Editing.{Editing, IsJoinable, IsResting}
 use Rattle.edit_engine.specs.Going.{goes_on}
@@ -48,6 +50,7 @@ use Rattle.edit_engine.proofs.AffectedHosts.{host_at_is_host}
 use Rattle.edit_engine.proofs.Fitness.{fit_at}
 use Rattle.edit_engine.proofs.HtmlParts.{html_around}
 use Rattle.edit_engine.proofs.Outcomes.{shown}
+use Rattle.edit_engine.proofs.Tameness.{tame_at}
 
 -- ---- what an answer tells
 
@@ -162,6 +165,16 @@ module _ (old new : Editing) (at : Option Pair) (joining : Bool) (c : Command) (
       let r = reaches m (begun host k old.state) in
       let kinds = kinds_at_rest old.state t host k law r in
       subst (λ (e : Editing). KeepsLabels old e × DrawsLabels old e) run.is (record { kinds = kinds.0; next = next_along r }, kinds.1)
+
+  -- ---- what is brought in
+
+  pub known_kept : (new ≡ old) ⊎ IsRun old new at joining c v → BringsKnown old new
+  unfolding begun final
+  known_kept (inl same) = subst (λ (e : Editing). BringsKnown old e) (sym same) (own_known old.state.trees)
+  known_kept (inr run) =
+      let b = begun host k old.state in
+      let tame = (tame_at at c v).stays old.state.trees b (valid_begun host k old.state law) (own_known old.state.trees) in
+      subst (λ (e : Editing). BringsKnown old e) run.is (commands_make_known old.state (final m b) host k law (m.by_actions b) tame)
 
   -- ---- the HTML around the host
 

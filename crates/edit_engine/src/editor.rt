@@ -8,6 +8,7 @@ ghost use Rattle.edit_doc.specs.Kept.{HoldsOnlyNeeded};
 ghost use Rattle.edit_doc.specs.Whole.{HasNoLoose, IsClosed, first_edits};
 ghost use Rattle.command_gate.specs.Denied.{is_denied};
 ghost use Rattle.node_paths.specs.Paths.{label_at};
+ghost use Rattle.edit_engine.specs.Bringing.{BringsKnown};
 ghost use Rattle.edit_engine.specs.Changes.{CanFollow, changes_of};
 ghost use Rattle.edit_engine.specs.Commands.{action_of};
 ghost use Rattle.edit_engine.specs.Confinement.{KeepsOutside, KeepsHtml, KeepsSelection, KeepsMarks, KeepsIslands, KeepsCharacters, GivesBack, joins_last};
@@ -106,6 +107,7 @@ impl Editor {
         ensures html { KeepsHtml (affected_host self.old.editing.state) self.old.editing self.new.editing }
         ensures labels { KeepsLabels self.old.editing self.new.editing }
         ensures drawn { DrawsLabels self.old.editing self.new.editing }
+        ensures known { BringsKnown self.old.editing self.new.editing }
         ensures selection { KeepsSelection self.old.editing self.new.editing }
         ensures marks { KeepsMarks (affected_host self.old.editing.state) self.old.editing self.new.editing }
         ensures islands { KeepsIslands (affected_host self.old.editing.state) self.old.editing self.new.editing }
@@ -135,6 +137,7 @@ impl Editor {
         ensures html { KeepsHtml (affected_host self.old.editing.state) self.old.editing self.new.editing }
         ensures labels { KeepsLabels self.old.editing self.new.editing }
         ensures drawn { DrawsLabels self.old.editing self.new.editing }
+        ensures known { BringsKnown self.old.editing self.new.editing }
         ensures selection { KeepsSelection self.old.editing self.new.editing }
         ensures marks { KeepsMarks (affected_host self.old.editing.state) self.old.editing self.new.editing }
         ensures islands { KeepsIslands (affected_host self.old.editing.state) self.old.editing self.new.editing }
@@ -161,6 +164,7 @@ impl Editor {
         ensures html { KeepsHtml (affected_host self.old.editing.state) self.old.editing self.new.editing }
         ensures labels { KeepsLabels self.old.editing self.new.editing }
         ensures drawn { DrawsLabels self.old.editing self.new.editing }
+        ensures known { BringsKnown self.old.editing self.new.editing }
         ensures selection { KeepsSelection self.old.editing self.new.editing }
         ensures marks { KeepsMarks (affected_host self.old.editing.state) self.old.editing self.new.editing }
         ensures islands { KeepsIslands (affected_host self.old.editing.state) self.old.editing self.new.editing }
@@ -203,6 +207,7 @@ impl Editor {
         ensures html { KeepsHtml (host_of_pair self.old.editing.state.trees (pair_from anchor focus)) self.old.editing self.new.editing }
         ensures labels { KeepsLabels self.old.editing self.new.editing }
         ensures drawn { DrawsLabels self.old.editing self.new.editing }
+        ensures known { BringsKnown self.old.editing self.new.editing }
         ensures selection { KeepsSelection self.old.editing self.new.editing }
         ensures marks { KeepsMarks (host_of_pair self.old.editing.state.trees (pair_from anchor focus)) self.old.editing self.new.editing }
         ensures islands { KeepsIslands (host_of_pair self.old.editing.state.trees (pair_from anchor focus)) self.old.editing self.new.editing }
@@ -235,6 +240,7 @@ impl Editor {
         ensures html { KeepsHtml (host_of_pair self.old.editing.state.trees range) self.old.editing self.new.editing }
         ensures labels { KeepsLabels self.old.editing self.new.editing }
         ensures drawn { DrawsLabels self.old.editing self.new.editing }
+        ensures known { BringsKnown self.old.editing self.new.editing }
         ensures selection { KeepsSelection self.old.editing self.new.editing }
         ensures marks { KeepsMarks (host_of_pair self.old.editing.state.trees range) self.old.editing self.new.editing }
         ensures islands { KeepsIslands (host_of_pair self.old.editing.state.trees range) self.old.editing self.new.editing }
@@ -269,6 +275,7 @@ impl Editor {
         ensures html { KeepsHtml (affected_host self.old.editing.state) self.old.editing self.new.editing }
         ensures labels { KeepsLabels self.old.editing self.new.editing }
         ensures drawn { DrawsLabels self.old.editing self.new.editing }
+        ensures known { BringsKnown self.old.editing self.new.editing }
         ensures selection { KeepsSelection self.old.editing self.new.editing }
         ensures marks { KeepsMarks (affected_host self.old.editing.state) self.old.editing self.new.editing }
         ensures islands { KeepsIslands (affected_host self.old.editing.state) self.old.editing self.new.editing }

@@ -4,7 +4,7 @@ use Rattle.html_names.specs.declared.commands.Command.TheVariants.{InsertText}
 use Rattle.edit_engine.specs.Confinement.{joins_last}
 use Rattle.edit_engine.specs.Editing.{EditorValue}
 use Rattle.edit_engine.specs.Going.{joins_by}
-use Rattle.edit_engine.proofs.Confining.{standing, outside_kept, html_kept, labels_kept, selection_kept, marks_kept, islands_kept, same_back, same_characters}
+use Rattle.edit_engine.proofs.Confining.{standing, outside_kept, html_kept, labels_kept, known_kept, selection_kept, marks_kept, islands_kept, same_back, same_characters}
 use Rattle.edit_engine.proofs.GoingOn.{joins_on}
 use Rattle.edit_engine.proofs.Outcomes.{denied_outcome, allowed_outcome}
 use Rattle.edit_engine.proofs.editor.Editor.exec_gated.Goals as goal
@@ -26,6 +26,7 @@ returns-then-denies g c =
       html = html_kept old old None joining InsertText v joins stands (inl refl);
       labels = (labels_kept old old None joining InsertText v joins stands (inl refl)).0;
       drawn = (labels_kept old old None joining InsertText v joins stands (inl refl)).1;
+      known = known_kept old old None joining InsertText v joins stands (inl refl);
       selection = selection_kept old old None joining InsertText v joins stands (inl refl);
       marks = marks_kept old old None joining InsertText v joins stands (inl refl);
       islands = islands_kept old old None joining InsertText v joins stands (inl refl);
@@ -48,6 +49,7 @@ returns g c =
       html = c.exec.ensures.html;
       labels = c.exec.ensures.labels;
       drawn = c.exec.ensures.drawn;
+      known = c.exec.ensures.known;
       selection = c.exec.ensures.selection;
       marks = c.exec.ensures.marks;
       islands = c.exec.ensures.islands;

@@ -6,7 +6,7 @@ use Rattle.edit_engine.specs.Confinement.{GivesBack, joins_last}
 use Rattle.edit_engine.specs.Editing.{EditorValue}
 use Rattle.edit_engine.specs.Execution.{Tells, outcome_by}
 use Rattle.edit_engine.specs.Going.{joins_by}
-use Rattle.edit_engine.proofs.Confining.{standing, changes, outside_kept, html_kept, labels_kept, selection_kept, marks_kept, islands_kept, characters_kept, given_back, same_back, same_characters}
+use Rattle.edit_engine.proofs.Confining.{standing, changes, outside_kept, html_kept, labels_kept, known_kept, selection_kept, marks_kept, islands_kept, characters_kept, given_back, same_back, same_characters}
 use Rattle.edit_engine.proofs.GoingOn.{joins_on}
 use Rattle.edit_engine.proofs.Outcomes.{named_outcome, unnamed_outcome}
 use Rattle.edit_engine.proofs.editor.Editor.exec_named.Goals as goal
@@ -29,6 +29,7 @@ returns-in-Some c =
       html = html_kept old new None joining command v joins stands k;
       labels = (labels_kept old new None joining command v joins stands k).0;
       drawn = (labels_kept old new None joining command v joins stands k).1;
+      known = known_kept old new None joining command v joins stands k;
       selection = selection_kept old new None joining command v joins stands k;
       marks = marks_kept old new None joining command v joins stands k;
       islands = islands_kept old new None joining command v joins stands k;
@@ -52,6 +53,7 @@ returns-in-None c =
       html = html_kept old old None joining InsertText v joins stands (inl refl);
       labels = (labels_kept old old None joining InsertText v joins stands (inl refl)).0;
       drawn = (labels_kept old old None joining InsertText v joins stands (inl refl)).1;
+      known = known_kept old old None joining InsertText v joins stands (inl refl);
       selection = selection_kept old old None joining InsertText v joins stands (inl refl);
       marks = marks_kept old old None joining InsertText v joins stands (inl refl);
       islands = islands_kept old old None joining InsertText v joins stands (inl refl);

@@ -1,4 +1,4 @@
-use Rattle.std.proofs.Common.{◌≡◌, Option, Some, Err, sym, ap, ◌∙◌, subst, refl, inl}
+use Rattle.std.proofs.Common.{false, ◌≡◌, Option, Some, Err, sym, ap, ◌∙◌, subst, refl, inl}
 use Rattle.std.specs.Prelude.{MatchOption}
 use Rattle.live_range.specs.declared.places.Pair.{Pair}
 use Rattle.html_names.specs.declared.commands.Command.TheVariants.{InsertText}
@@ -10,7 +10,7 @@ use Rattle.edit_engine.specs.Execution.{TellsReplaced, replaced_outcome}
 use Rattle.edit_engine.specs.Going.{joins_by}
 use Rattle.edit_engine.specs.Places.{pair_from, placed_pair}
 use Rattle.edit_engine.specs.declared.answers.ReplaceFault.TheVariants.{BadPlace}
-use Rattle.edit_engine.proofs.Confining.{standing, outside_kept, html_kept, labels_kept, selection_kept, marks_kept, islands_kept, same_back}
+use Rattle.edit_engine.proofs.Confining.{standing, outside_kept, html_kept, labels_kept, known_kept, selection_kept, marks_kept, islands_kept, same_back}
 use Rattle.edit_engine.proofs.GoingOn.{joins_on}
 use Rattle.edit_engine.proofs.Seeing.{placed_is}
 use Rattle.edit_engine.proofs.editor.Editor.replace.Goals as goal
@@ -34,6 +34,7 @@ returns-in-Some c =
       html = subst (λ (p : Pair). KeepsHtml (host_of_pair f p) old.editing new.editing) same c.replace_range.ensures.html;
       labels = c.replace_range.ensures.labels;
       drawn = c.replace_range.ensures.drawn;
+      known = c.replace_range.ensures.known;
       selection = c.replace_range.ensures.selection;
       marks = subst (λ (p : Pair). KeepsMarks (host_of_pair f p) old.editing new.editing) same c.replace_range.ensures.marks;
       islands = subst (λ (p : Pair). KeepsIslands (host_of_pair f p) old.editing new.editing) same c.replace_range.ensures.islands;
@@ -58,6 +59,7 @@ returns-in-None c =
       html = html_kept old old at joining InsertText text joins stands (inl refl);
       labels = (labels_kept old old at joining InsertText text joins stands (inl refl)).0;
       drawn = (labels_kept old old at joining InsertText text joins stands (inl refl)).1;
+      known = known_kept old old at joining InsertText text joins stands (inl refl);
       selection = selection_kept old old at joining InsertText text joins stands (inl refl);
       marks = marks_kept old old at joining InsertText text joins stands (inl refl);
       islands = islands_kept old old at joining InsertText text joins stands (inl refl);

@@ -1,4 +1,4 @@
-use Rattle.std.proofs.Common.{◌≡◌, Option, Some, Result, Ok, Err, sym, ap, ◌∙◌, subst}
+use Rattle.std.proofs.Common.{false, ◌≡◌, Option, Some, Result, Ok, Err, sym, ap, ◌∙◌, subst}
 use Rattle.live_range.specs.declared.places.Pair.{Pair}
 use Rattle.html_names.specs.declared.commands.Command.TheVariants.{InsertText}
 use Rattle.edit_engine.specs.Editing.{EditorValue}
@@ -7,7 +7,7 @@ use Rattle.edit_engine.specs.Going.{joins_by}
 use Rattle.edit_engine.specs.declared.answers.Answer.{Answer}
 use Rattle.edit_engine.specs.declared.answers.ExecFault.{ExecFault}
 use Rattle.edit_engine.specs.declared.answers.ReplaceFault.{ReplaceFault}
-use Rattle.edit_engine.proofs.Confining.{standing, changes, outside_kept, html_kept, labels_kept, selection_kept, marks_kept, islands_kept, given_back}
+use Rattle.edit_engine.proofs.Confining.{standing, changes, outside_kept, html_kept, labels_kept, known_kept, selection_kept, marks_kept, islands_kept, given_back}
 use Rattle.edit_engine.proofs.GoingOn.{joins_on}
 use Rattle.edit_engine.proofs.Outcomes.{replaced_by, tells_replaced}
 use Rattle.edit_engine.proofs.editor.Editor.replace_range.Goals as goal
@@ -29,6 +29,7 @@ returns-in-Ok c =
       html = html_kept old new at joining InsertText v joins stands k;
       labels = (labels_kept old new at joining InsertText v joins stands k).0;
       drawn = (labels_kept old new at joining InsertText v joins stands k).1;
+      known = known_kept old new at joining InsertText v joins stands k;
       selection = selection_kept old new at joining InsertText v joins stands k;
       marks = marks_kept old new at joining InsertText v joins stands k;
       islands = islands_kept old new at joining InsertText v joins stands k;
@@ -55,6 +56,7 @@ returns-in-Err c =
       html = html_kept old new at joining InsertText v joins stands k;
       labels = (labels_kept old new at joining InsertText v joins stands k).0;
       drawn = (labels_kept old new at joining InsertText v joins stands k).1;
+      known = known_kept old new at joining InsertText v joins stands k;
       selection = selection_kept old new at joining InsertText v joins stands k;
       marks = marks_kept old new at joining InsertText v joins stands k;
       islands = islands_kept old new at joining InsertText v joins stands k;

@@ -1,4 +1,4 @@
-use Rattle.std.proofs.Common.{◌≡◌, sym, ap, ◌∙◌, subst, Ok, Err, Option, Some, IfSome, inr}
+use Rattle.std.proofs.Common.{◌≡◌, true, false, sym, ap, ◌∙◌, subst, Ok, Err, Option, Some, IfSome, inr}
 use Rattle.live_range.specs.declared.places.Pair.{Pair}
 use Rattle.undo_log.specs.declared.log.Committed.{Committed}
 use Rattle.edit_model.specs.Valid.{IsPlacedPair}
