@@ -227,7 +227,7 @@ next_ends s is (items, x ∷ xs) w goes =
     ends_bind (λ t made. Grew items t made.0 × ((l : ℕ) → times made.1 l ≤ times (x ∷ xs) l) × (s.next ≤ t.next)) Items (make_item (x ∷ xs) x) (λ made. answer (items ++ one_of made.0, made.1)) s is
     (record { order = turn.order; holds = (turn.holds, few_left (x ∷ xs) x s, final_next (make_item (x ∷ xs) x) s) })
     (λ t is_t made h. ends_answer Items (items ++ one_of made.0, made.1) t
-    (record { q = h.0.0; n = h.0.1; grown = h.0.2; known = λ l k. omega (arith, w.known l (omega (arith, k, h.1.0 l)), h.1.1) }))
+    (record { q = h.0.0; n = h.0.1; grown = h.0.2; known = λ l k. omega (arith, w.known l (omega (arith, k, h.1 l)), h.2) }))
 
 collect_turns : (bound : ℕ) (s : State) → IsKeeping s → (c : Collected) → Items s c → Ends s Items (while_at_most bound goes_on collect_next c)
 unfolding while_at_most

@@ -124,7 +124,7 @@ module _ (item : ℕ) where
 
 -- ---- the states of contenteditable
 
-steady_leaves : (item c : ℕ) → Steady (move_after item c >> answer None)
+steady_leaves : (item c : ℕ) → Steady {T = Option ℕ} (move_after item c >> answer None)
 steady_leaves item c = search (steady_parts, steady_move_after)
 
 steady_new : Steady (make_element (codes "li") [])
