@@ -344,34 +344,37 @@ export class View {
   }
 
   /**
-   * Takes the nodes below a node of the page for the engine's that they are like, up to the first that
+   * Takes the nodes of the element for the engine's that they are like, each up to the first child that
    * is of another kind, so that they stay.
-   * @param {number} label
-   * @param {Node} node
    */
-  adopt(label = this.#root, node = this.#element) {
-    let child = node.firstChild;
-    for (const each of this.#editor.children(label)) {
-      if (!child || !this.#isLike(each, child)) {
+  adopt() {
+    this.#adoptFrom(this.#editor.node(this.#root).firstChild, this.#element.firstChild);
+  }
+
+  /**
+   * @param {number | null} label
+   * @param {Node | null} node
+   */
+  #adoptFrom(label, node) {
+    while (label !== null && node) {
+      const { kind, firstChild, next } = this.#editor.node(label);
+      const isElement = kind === NodeKind.ELEMENT;
+      if (node.nodeType !== kind || (isElement && !this.#isNamed(label, node))) {
         return;
       }
-      this.#keep(each, child);
-      if (!isCharacters(child)) {
-        this.adopt(each, child);
-      }
-      child = child.nextSibling;
+      this.#keep(label, node);
+      this.#adoptFrom(firstChild, node.firstChild);
+      [label, node] = [next, node.nextSibling];
     }
   }
 
   /**
-   * Whether a node of the page is of the kind of the engine's of a label.
+   * Whether an element has the name of the engine's of a label.
    * @param {number} label
    * @param {Node} node
    */
-  #isLike(label, node) {
-    return node instanceof Element
-      ? node instanceof HTMLElement && node.localName === this.#editor.nodeName(label)
-      : node.nodeType === this.#editor.node(label).kind;
+  #isNamed(label, node) {
+    return node instanceof HTMLElement && node.localName === this.#editor.nodeName(label);
   }
 
   /**
