@@ -247,7 +247,7 @@ class Steps(unittest.TestCase):
     def test_what_comes_between_parts_them(self) -> None:
         self.editor.select(*NAME)
         self.editor.exec("bold")
-        self.editor.select(*NAME)
+        self.editor.select(((0, 1, 0), 0), ((0, 1, 0), 3))
         self.editor.exec_joined("italic")
         self.assertEqual(self.editor.counts().undo, 2)
 
