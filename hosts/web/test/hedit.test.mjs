@@ -203,7 +203,7 @@ describe("several commands as one step", () => {
     assert.equal(editor.undo(), true);
     assert.equal(editor.html(), '<p contenteditable="">Call Ann</p>\n');
     editor.exec("bold");
-    editor.select(...NAME);
+    editor.select(at([0, 1, 0], 0), at([0, 1, 0], 3));
     editor.execJoined("italic");
     assert.equal(editor.counts().undo, 2);
   });
