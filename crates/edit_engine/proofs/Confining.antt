@@ -39,7 +39,7 @@ use Rattle.edit_engine.specs.declared.answers.ExecFault.{ExecFault}
 use Rattle.edit_engine.specs.declared.answers.ExecFault.TheVariants as fault
 use Rattle.edit_engine.specs.Commands.{row_of, action_of, is_enabled_in}
 use Rattle.edit_engine.specs.Bringing.{BringsKnown}
-use Rattle.edit_engine.specs.Confinement.{KeepsOutside, KeepsHtml, KeepsMarks, KeepsSelection, HasEntry, HasJoined, IsGone, KeepsIslands, KeepsCharacters, GivesBack}
+use Rattle.edit_engine.specs.Confinement.{KeepsOutside, KeepsHtml, KeepsMarks, KeepsSelection, HasEntry, HasJoined, IsTakenBy, KeepsIslands, KeepsCharacters, GivesBack}
 use Rattle.edit_engine.specs.Editing.{Editing, IsJoinable, IsResting}
 use Rattle.edit_engine.specs.Going.{goes_on}
 use Rattle.edit_engine.specs.declared.going.Going.{Going}
@@ -257,21 +257,29 @@ module _ (old new : Editing) (at : Option Pair) (joining : Bool) (c : Command) (
       let same : length ended.edits ≡ length (out.then_at.edits ++ (Remove out.root ∷ out.later)) = ap length out.listed in
       omega (arith, same, length-append out.then_at.edits (Remove out.root ∷ out.later))
 
-  island_of : (h l : ℕ) → IslandKept (begun (Some h) k old.state) (final m (begun (Some h) k old.state)) old.state.trees (rested (final m (begun (Some h) k old.state))).trees h l → StaysBelow old.state.trees (after_run old joining c (final m (begun (Some h) k old.state))).state.trees h l ⊎ IsGone old (after_run old joining c (final m (begun (Some h) k old.state))) h l
+  -- what the run of the command took out
+  TakenBy : Editing → (h l : ℕ) → Type 0
+  TakenBy e h l = StaysBelow old.state.trees e.state.trees h l ⊎ IsTakenBy at (Some c) v old e h l
+
+  island_of : (h l : ℕ) → IslandKept (begun (Some h) k old.state) (final m (begun (Some h) k old.state)) old.state.trees (rested (final m (begun (Some h) k old.state))).trees h l → TakenBy (after_run old joining c (final m (begun (Some h) k old.state))) h l
   island_of h l (inl stays) = inl stays
   island_of h l (inr gone) =
       let ended = final m (begun (Some h) k old.state) in
       let r = recorded_entry ended (some_edit (begun (Some h) k old.state) ended l gone.1) in
-      inr (record { out = gone.0; keeping = k; ended = ended; entry = r; taken = gone.1 })
+      inr (record { out = gone.0; entry = r; taken = gone.1 })
 
-  pub islands_kept : (new ≡ old) ⊎ IsRun old new at joining c v → KeepsIslands host old new
+  -- where nothing changed, each island is there, whatever the command
+  pub same_islands : (o : Option Command) → KeepsIslands host at o v old old
+  same_islands o h l is island = inl (still_there h l is island)
+
+  pub islands_kept : (new ≡ old) ⊎ IsRun old new at joining c v → KeepsIslands host at (Some c) v old new
   unfolding final
-  islands_kept (inl same) h l is island = subst (λ (e : Editing). StaysBelow old.state.trees e.state.trees h l ⊎ IsGone old e h l) (sym same) (inl (still_there h l is island))
+  islands_kept (inl same) h l is island = subst (λ (e : Editing). TakenBy e h l) (sym same) (inl (still_there h l is island))
   islands_kept (inr run) h l is island =
       let b = begun (Some h) k old.state in
       let at_host : after_run old joining c (final m b) ≡ new = ap (λ o. after_run old joining c (final m (begun o k old.state))) (sym is) ∙ run.is in
       let leaves = states_on (m.by_actions b) ((fit_at at c v).steady.leaves b (valid_begun (Some h) k old.state law)) in
-      subst (λ (e : Editing). StaysBelow old.state.trees e.state.trees h l ⊎ IsGone old e h l) at_host
+      subst (λ (e : Editing). TakenBy e h l) at_host
       (island_of h l (islands_at_rest old.state (final m b) h k law whole (hosted h is) (m.by_actions b) leaves l island))
 
   -- ---- characters

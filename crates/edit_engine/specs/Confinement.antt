@@ -1,5 +1,5 @@
 -- What every execution of a command in a host keeps, whatever it answers.
-use Rattle.std.specs.Prelude.{◌≡◌, ◌⊎◌, ℕ, Bool, true, false, List, ◌∷◌, Option, Some, IsSome}
+use Rattle.std.specs.Prelude.{◌≡◌, ◌⊎◌, ℕ, Bool, true, false, List, ◌∷◌, Option, Some, None, IsSome}
 use Rattle.std.specs.List.{AllZip}
 use Rattle.std.specs.Option.{option_map_or}
 use Rattle.html_names.specs.Commands.{command_named}
@@ -14,8 +14,9 @@ use Rattle.edit_model.specs.Outside.{outside_by, is_island}
 use Rattle.edit_laws.specs.BelowHost.{below}
 use Rattle.edit_laws.specs.Islands.{StaysBelow, IsTakenOut}
 use Rattle.edit_laws.specs.Order.{KeepsLeaves}
-use Rattle.edit_engine.specs.Commands.{row_of}
+use Rattle.edit_engine.specs.Commands.{row_of, action_of}
 use Rattle.edit_engine.specs.Editing.{Editing, undone}
+use Rattle.edit_engine.specs.Execution.{run_at, ran}
 use Rattle.edit_engine.specs.Going.{goes_on, joins_by}
 use Rattle.edit_engine.specs.HtmlAround.{KeepsHtmlAround}
 
@@ -51,21 +52,28 @@ pub record HasJoined (old new : Editing) (ended : State) : Type 0 where
   pub was : old.history.undo ≡ last ∷ older
   pub is : new.history.undo ≡ joined_in ended (last ∷ older)
 
--- The node isn't in the document any more: a command took it out, with a tree whose root was
--- editable for the host or made by the command. The removal is one of the edits of the last entry:
--- those of the state in which the command ended are there.
-pub record IsGone (old new : Editing) (h l : ℕ) : Type 0 where
+-- The node isn't in the document any more: on the way between these two states a command took it out,
+-- with a tree whose root was editable for the host or made by the command. The removal is one of the
+-- edits of the last entry: those of the state in which the command ended are there.
+pub record IsGone (old new : Editing) (l : ℕ) (began ended : State) : Type 0 where
   pub out : IsWithin new.state.trees 0 l → ⊥
-  pub keeping : Bool
-  pub ended : State
   pub entry : HasEntry old new ended ⊎ HasJoined old new ended
-  pub taken : IsTakenOut (begun (Some h) keeping old.state) ended l
+  pub taken : IsTakenOut began ended l
 
--- each island of the host stands below it, with an equal tree, or is gone
-abbrev pub KeepsIslands : Option ℕ → Editing → Editing → Type 0
-KeepsIslands host old new =
+-- the run of the command was that, in the host, at the selection or at a range; a name that is none
+-- of a command takes nothing out
+abbrev pub IsTakenBy : Option Pair → Option Command → List ℕ → Editing → Editing → (h l : ℕ) → Type 0
+IsTakenBy at None v old new h l = ⊥
+IsTakenBy at (Some c) v old new h l =
+    IsGone old new l (begun (Some h) (row_of c).keeping old.state)
+    (ran (Some h) old.state (row_of c).keeping (run_at at (action_of c v)))
+
+-- each island of the host stands below it, with an equal tree, or the command took it out
+abbrev pub KeepsIslands : (host : Option ℕ) → Option Pair → Option Command → List ℕ → Editing → Editing
+    → Type 0
+KeepsIslands host at c v old new =
     (h l : ℕ) → host ≡ Some h → is_island old.state.trees h l ≡ true
-    → StaysBelow old.state.trees new.state.trees h l ⊎ IsGone old new h l
+    → StaysBelow old.state.trees new.state.trees h l ⊎ IsTakenBy at c v old new h l
 
 -- where the name is that of a keeping command, what stands below the host bears the same
 -- characters, images and rules in the same order, and at most blanks may be missing

@@ -7,6 +7,7 @@ ghost use Rattle.edit_model.specs.Valid.{IsPlacedPair};
 ghost use Rattle.edit_doc.specs.Kept.{HoldsOnlyNeeded};
 ghost use Rattle.edit_doc.specs.Whole.{HasNoLoose, IsClosed, first_edits};
 ghost use Rattle.command_gate.specs.Denied.{is_denied};
+ghost use Rattle.html_names.specs.Commands.{command_named};
 ghost use Rattle.node_paths.specs.Paths.{label_at};
 ghost use Rattle.edit_engine.specs.Bringing.{BringsKnown};
 ghost use Rattle.edit_engine.specs.Changes.{CanFollow, changes_of};
@@ -110,7 +111,8 @@ impl Editor {
         ensures known { BringsKnown self.old.editing self.new.editing }
         ensures selection { KeepsSelection self.old.editing self.new.editing }
         ensures marks { KeepsMarks (affected_host self.old.editing.state) self.old.editing self.new.editing }
-        ensures islands { KeepsIslands (affected_host self.old.editing.state) self.old.editing self.new.editing }
+        ensures islands { KeepsIslands (affected_host self.old.editing.state) None
+            (command_named name.now) value.now self.old.editing self.new.editing }
         ensures characters { KeepsCharacters (affected_host self.old.editing.state) name.now self.old.editing self.new.editing }
         ensures given_back { GivesBack (joins_last false self.old.editing name.now)
             self.old.editing self.new.editing }
@@ -140,7 +142,8 @@ impl Editor {
         ensures known { BringsKnown self.old.editing self.new.editing }
         ensures selection { KeepsSelection self.old.editing self.new.editing }
         ensures marks { KeepsMarks (affected_host self.old.editing.state) self.old.editing self.new.editing }
-        ensures islands { KeepsIslands (affected_host self.old.editing.state) self.old.editing self.new.editing }
+        ensures islands { KeepsIslands (affected_host self.old.editing.state) None
+            (command_named name.now) value.now self.old.editing self.new.editing }
         ensures characters { KeepsCharacters (affected_host self.old.editing.state) name.now self.old.editing self.new.editing }
         ensures given_back { GivesBack (joins_last true self.old.editing name.now)
             self.old.editing self.new.editing }
@@ -167,7 +170,8 @@ impl Editor {
         ensures known { BringsKnown self.old.editing self.new.editing }
         ensures selection { KeepsSelection self.old.editing self.new.editing }
         ensures marks { KeepsMarks (affected_host self.old.editing.state) self.old.editing self.new.editing }
-        ensures islands { KeepsIslands (affected_host self.old.editing.state) self.old.editing self.new.editing }
+        ensures islands { KeepsIslands (affected_host self.old.editing.state) None
+            (command_named name.now) value.now self.old.editing self.new.editing }
         ensures characters { KeepsCharacters (affected_host self.old.editing.state) name.now self.old.editing self.new.editing }
         ensures given_back { GivesBack (joins_last joined self.old.editing name.now)
             self.old.editing self.new.editing }
@@ -210,7 +214,8 @@ impl Editor {
         ensures known { BringsKnown self.old.editing self.new.editing }
         ensures selection { KeepsSelection self.old.editing self.new.editing }
         ensures marks { KeepsMarks (host_of_pair self.old.editing.state.trees (pair_from anchor focus)) self.old.editing self.new.editing }
-        ensures islands { KeepsIslands (host_of_pair self.old.editing.state.trees (pair_from anchor focus)) self.old.editing self.new.editing }
+        ensures islands { KeepsIslands (host_of_pair self.old.editing.state.trees (pair_from anchor focus))
+            (Some (pair_from anchor focus)) (Some Command.InsertText) text.now self.old.editing self.new.editing }
         ensures given_back { GivesBack (joins_by false self.old.editing.going Command.InsertText)
             self.old.editing self.new.editing }
         ensures needed { HoldsOnlyNeeded (document self.new) }
@@ -243,7 +248,8 @@ impl Editor {
         ensures known { BringsKnown self.old.editing self.new.editing }
         ensures selection { KeepsSelection self.old.editing self.new.editing }
         ensures marks { KeepsMarks (host_of_pair self.old.editing.state.trees range) self.old.editing self.new.editing }
-        ensures islands { KeepsIslands (host_of_pair self.old.editing.state.trees range) self.old.editing self.new.editing }
+        ensures islands { KeepsIslands (host_of_pair self.old.editing.state.trees range) (Some range)
+            (Some Command.InsertText) text.now self.old.editing self.new.editing }
         ensures given_back { GivesBack (joins_by false self.old.editing.going Command.InsertText)
             self.old.editing self.new.editing }
         ensures needed { HoldsOnlyNeeded (document self.new) }
@@ -278,7 +284,8 @@ impl Editor {
         ensures known { BringsKnown self.old.editing self.new.editing }
         ensures selection { KeepsSelection self.old.editing self.new.editing }
         ensures marks { KeepsMarks (affected_host self.old.editing.state) self.old.editing self.new.editing }
-        ensures islands { KeepsIslands (affected_host self.old.editing.state) self.old.editing self.new.editing }
+        ensures islands { KeepsIslands (affected_host self.old.editing.state) None
+            (command_named name.now) value.now self.old.editing self.new.editing }
         ensures characters { KeepsCharacters (affected_host self.old.editing.state) name.now self.old.editing self.new.editing }
         ensures given_back { GivesBack (joins_last false self.old.editing name.now)
             self.old.editing self.new.editing }

@@ -1,10 +1,11 @@
 use Rattle.std.proofs.Common.{◌≡◌, true, false, true≢false, None, sym, ap, ◌∙◌, inl, refl}
 use Rattle.command_gate.specs.Denied.{is_denied}
+use Rattle.html_names.specs.Commands.{command_named}
 use Rattle.html_names.specs.declared.commands.Command.TheVariants.{InsertText}
 use Rattle.edit_engine.specs.Confinement.{joins_last}
 use Rattle.edit_engine.specs.Editing.{EditorValue}
 use Rattle.edit_engine.specs.Going.{joins_by}
-use Rattle.edit_engine.proofs.Confining.{standing, outside_kept, html_kept, labels_kept, known_kept, selection_kept, marks_kept, islands_kept, same_back, same_characters}
+use Rattle.edit_engine.proofs.Confining.{standing, outside_kept, html_kept, labels_kept, known_kept, selection_kept, marks_kept, same_islands, same_back, same_characters}
 use Rattle.edit_engine.proofs.GoingOn.{joins_on}
 use Rattle.edit_engine.proofs.Outcomes.{denied_outcome, allowed_outcome}
 use Rattle.edit_engine.proofs.editor.Editor.exec_gated.Goals as goal
@@ -29,7 +30,7 @@ returns-then-denies g c =
       known = known_kept old old None joining InsertText v joins stands (inl refl);
       selection = selection_kept old old None joining InsertText v joins stands (inl refl);
       marks = marks_kept old old None joining InsertText v joins stands (inl refl);
-      islands = islands_kept old old None joining InsertText v joins stands (inl refl);
+      islands = same_islands old old None joining InsertText v joins stands (command_named name);
       characters = same_characters old name;
       given_back = same_back (joins_last false old name) old old refl;
       needed = c.kept_nodes.ensures;

@@ -1,12 +1,14 @@
-use Rattle.std.proofs.Common.{◌≡◌, Bool, false, None, sym, ap, subst, ◌∙◌, inl, refl}
+use Rattle.std.proofs.Common.{◌≡◌, Bool, false, Option, None, sym, ap, subst, ◌∙◌, inl, refl}
 use Rattle.std.specs.Option.{option_map_or}
 use Rattle.html_names.specs.Commands.{command_named}
+use Rattle.html_names.specs.declared.commands.Command.{Command}
 use Rattle.html_names.specs.declared.commands.Command.TheVariants.{InsertText}
-use Rattle.edit_engine.specs.Confinement.{GivesBack, joins_last}
+use Rattle.edit_actions.specs.ActiveRange.{affected_host}
+use Rattle.edit_engine.specs.Confinement.{KeepsIslands, GivesBack, joins_last}
 use Rattle.edit_engine.specs.Editing.{EditorValue}
 use Rattle.edit_engine.specs.Execution.{Tells, outcome_by}
 use Rattle.edit_engine.specs.Going.{joins_by}
-use Rattle.edit_engine.proofs.Confining.{standing, changes, outside_kept, html_kept, labels_kept, known_kept, selection_kept, marks_kept, islands_kept, characters_kept, given_back, same_back, same_characters}
+use Rattle.edit_engine.proofs.Confining.{standing, changes, outside_kept, html_kept, labels_kept, known_kept, selection_kept, marks_kept, islands_kept, same_islands, characters_kept, given_back, same_back, same_characters}
 use Rattle.edit_engine.proofs.GoingOn.{joins_on}
 use Rattle.edit_engine.proofs.Outcomes.{named_outcome, unnamed_outcome}
 use Rattle.edit_engine.proofs.editor.Editor.exec_named.Goals as goal
@@ -32,7 +34,7 @@ returns-in-Some c =
       known = known_kept old new None joining command v joins stands k;
       selection = selection_kept old new None joining command v joins stands k;
       marks = marks_kept old new None joining command v joins stands k;
-      islands = islands_kept old new None joining command v joins stands k;
+      islands = subst (λ (o : Option Command). KeepsIslands (affected_host old.state) None o v old new) (sym named) (islands_kept old new None joining command v joins stands k);
       characters = characters_kept old new None joining command v joins stands name named k;
       given_back = subst (λ (j : Bool). GivesBack j old new) (sym (ap (λ o. option_map_or (joins_by c.args.joined old.going) o false) named)) (given_back old new None joining command v joins stands k);
       needed = c.kept_nodes.ensures;
@@ -56,7 +58,7 @@ returns-in-None c =
       known = known_kept old old None joining InsertText v joins stands (inl refl);
       selection = selection_kept old old None joining InsertText v joins stands (inl refl);
       marks = marks_kept old old None joining InsertText v joins stands (inl refl);
-      islands = islands_kept old old None joining InsertText v joins stands (inl refl);
+      islands = same_islands old old None joining InsertText v joins stands (command_named name);
       characters = same_characters old name;
       given_back = same_back (joins_last c.args.joined old name) old old refl;
       needed = c.kept_nodes-in-None.ensures;
