@@ -21,3 +21,4 @@ pub mod ReplayedSteps
 pub mod ReplayedEntries
 pub mod Logging
 pub mod PlainRuns
+pub mod Ignoring

@@ -23,3 +23,4 @@ pub mod Refusals
 pub mod WorkedIslands
 pub mod Replaying
 pub mod PlainRuns
+pub mod Independence

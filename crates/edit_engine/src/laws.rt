@@ -1,5 +1,6 @@
 //! The laws of commands. Each is the contract of a function that does nothing.
 
+ghost use Rattle.edit_engine.specs.Independence.{HistoryIsIgnored};
 ghost use Rattle.edit_engine.specs.PlainRuns.{RunsArePlain};
 ghost use Rattle.edit_engine.specs.Refusals.{RefusalsLeave};
 ghost use Rattle.edit_engine.specs.WorkedIslands.{LockedSpanIsIsland};
@@ -19,4 +20,10 @@ pub fn locked_span_is_island()
 /// What a run makes are elements and texts, and each of its edits of characters is one of a text.
 pub fn runs_are_plain()
     ensures { RunsArePlain }
+{}
+
+/// What a command comes to doesn't depend on the history: of two editors in one state it is refused
+/// in both for one cause, or answers the same and leaves both in one state.
+pub fn history_is_ignored()
+    ensures { HistoryIsIgnored }
 {}
