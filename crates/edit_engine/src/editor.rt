@@ -104,16 +104,20 @@ impl Editor {
     pub fn exec(&mut self, alloc: Global, name: &str, value: &[char]) -> Result<Answer, ExecFault>
         ensures tells { Tells result self.old.editing self.new.editing
             (outcome self.old.editing name.now value.now) }
-        ensures confined { KeepsOutside (affected_host self.old.editing.state) self.old.editing self.new.editing }
-        ensures html { KeepsHtml (affected_host self.old.editing.state) self.old.editing self.new.editing }
+        ensures confined { KeepsOutside (affected_host self.old.editing.state)
+            self.old.editing self.new.editing }
+        ensures html { KeepsHtml (affected_host self.old.editing.state)
+            self.old.editing self.new.editing }
         ensures labels { KeepsLabels self.old.editing self.new.editing }
         ensures drawn { DrawsLabels self.old.editing self.new.editing }
         ensures known { BringsKnown self.old.editing self.new.editing }
         ensures selection { KeepsSelection self.old.editing self.new.editing }
-        ensures marks { KeepsMarks (affected_host self.old.editing.state) self.old.editing self.new.editing }
+        ensures marks { KeepsMarks (affected_host self.old.editing.state)
+            self.old.editing self.new.editing }
         ensures islands { KeepsIslands (affected_host self.old.editing.state) None
             (command_named name.now) value.now self.old.editing self.new.editing }
-        ensures characters { KeepsCharacters (affected_host self.old.editing.state) name.now self.old.editing self.new.editing }
+        ensures characters { KeepsCharacters (affected_host self.old.editing.state) name.now
+            self.old.editing self.new.editing }
         ensures given_back { GivesBack (joins_last false self.old.editing name.now)
             self.old.editing self.new.editing }
         ensures needed { HoldsOnlyNeeded (document self.new) }
@@ -135,16 +139,20 @@ impl Editor {
     ) -> Result<Answer, ExecFault>
         ensures tells { Tells result self.old.editing self.new.editing
             (joined_outcome self.old.editing name.now value.now) }
-        ensures confined { KeepsOutside (affected_host self.old.editing.state) self.old.editing self.new.editing }
-        ensures html { KeepsHtml (affected_host self.old.editing.state) self.old.editing self.new.editing }
+        ensures confined { KeepsOutside (affected_host self.old.editing.state)
+            self.old.editing self.new.editing }
+        ensures html { KeepsHtml (affected_host self.old.editing.state)
+            self.old.editing self.new.editing }
         ensures labels { KeepsLabels self.old.editing self.new.editing }
         ensures drawn { DrawsLabels self.old.editing self.new.editing }
         ensures known { BringsKnown self.old.editing self.new.editing }
         ensures selection { KeepsSelection self.old.editing self.new.editing }
-        ensures marks { KeepsMarks (affected_host self.old.editing.state) self.old.editing self.new.editing }
+        ensures marks { KeepsMarks (affected_host self.old.editing.state)
+            self.old.editing self.new.editing }
         ensures islands { KeepsIslands (affected_host self.old.editing.state) None
             (command_named name.now) value.now self.old.editing self.new.editing }
-        ensures characters { KeepsCharacters (affected_host self.old.editing.state) name.now self.old.editing self.new.editing }
+        ensures characters { KeepsCharacters (affected_host self.old.editing.state) name.now
+            self.old.editing self.new.editing }
         ensures given_back { GivesBack (joins_last true self.old.editing name.now)
             self.old.editing self.new.editing }
         ensures needed { HoldsOnlyNeeded (document self.new) }
@@ -163,16 +171,20 @@ impl Editor {
     ) -> Result<Answer, ExecFault>
         ensures tells { Tells result self.old.editing self.new.editing
             (outcome_by joined self.old.editing name.now value.now) }
-        ensures confined { KeepsOutside (affected_host self.old.editing.state) self.old.editing self.new.editing }
-        ensures html { KeepsHtml (affected_host self.old.editing.state) self.old.editing self.new.editing }
+        ensures confined { KeepsOutside (affected_host self.old.editing.state)
+            self.old.editing self.new.editing }
+        ensures html { KeepsHtml (affected_host self.old.editing.state)
+            self.old.editing self.new.editing }
         ensures labels { KeepsLabels self.old.editing self.new.editing }
         ensures drawn { DrawsLabels self.old.editing self.new.editing }
         ensures known { BringsKnown self.old.editing self.new.editing }
         ensures selection { KeepsSelection self.old.editing self.new.editing }
-        ensures marks { KeepsMarks (affected_host self.old.editing.state) self.old.editing self.new.editing }
+        ensures marks { KeepsMarks (affected_host self.old.editing.state)
+            self.old.editing self.new.editing }
         ensures islands { KeepsIslands (affected_host self.old.editing.state) None
             (command_named name.now) value.now self.old.editing self.new.editing }
-        ensures characters { KeepsCharacters (affected_host self.old.editing.state) name.now self.old.editing self.new.editing }
+        ensures characters { KeepsCharacters (affected_host self.old.editing.state) name.now
+            self.old.editing self.new.editing }
         ensures given_back { GivesBack (joins_last joined self.old.editing name.now)
             self.old.editing self.new.editing }
         ensures needed { HoldsOnlyNeeded (document self.new) }
@@ -207,13 +219,16 @@ impl Editor {
             ((result ≡ Err ReplaceFault.BadPlace) × (self.new ≡ self.old))
             (λ range. TellsReplaced result self.old.editing self.new.editing
             (replaced_outcome self.old.editing range text.now)) }
-        ensures confined { KeepsOutside (host_of_pair self.old.editing.state.trees (pair_from anchor focus)) self.old.editing self.new.editing }
-        ensures html { KeepsHtml (host_of_pair self.old.editing.state.trees (pair_from anchor focus)) self.old.editing self.new.editing }
+        ensures confined { KeepsOutside (host_of_pair self.old.editing.state.trees (pair_from anchor focus))
+            self.old.editing self.new.editing }
+        ensures html { KeepsHtml (host_of_pair self.old.editing.state.trees (pair_from anchor focus))
+            self.old.editing self.new.editing }
         ensures labels { KeepsLabels self.old.editing self.new.editing }
         ensures drawn { DrawsLabels self.old.editing self.new.editing }
         ensures known { BringsKnown self.old.editing self.new.editing }
         ensures selection { KeepsSelection self.old.editing self.new.editing }
-        ensures marks { KeepsMarks (host_of_pair self.old.editing.state.trees (pair_from anchor focus)) self.old.editing self.new.editing }
+        ensures marks { KeepsMarks (host_of_pair self.old.editing.state.trees (pair_from anchor focus))
+            self.old.editing self.new.editing }
         ensures islands { KeepsIslands (host_of_pair self.old.editing.state.trees (pair_from anchor focus))
             (Some (pair_from anchor focus)) (Some Command.InsertText) text.now self.old.editing self.new.editing }
         ensures given_back { GivesBack (joins_by false self.old.editing.going Command.InsertText)
@@ -241,13 +256,16 @@ impl Editor {
         requires { IsPlacedPair self.old.editing.state.trees range }
         ensures tells { TellsReplaced result self.old.editing self.new.editing
             (replaced_outcome self.old.editing range text.now) }
-        ensures confined { KeepsOutside (host_of_pair self.old.editing.state.trees range) self.old.editing self.new.editing }
-        ensures html { KeepsHtml (host_of_pair self.old.editing.state.trees range) self.old.editing self.new.editing }
+        ensures confined { KeepsOutside (host_of_pair self.old.editing.state.trees range)
+            self.old.editing self.new.editing }
+        ensures html { KeepsHtml (host_of_pair self.old.editing.state.trees range)
+            self.old.editing self.new.editing }
         ensures labels { KeepsLabels self.old.editing self.new.editing }
         ensures drawn { DrawsLabels self.old.editing self.new.editing }
         ensures known { BringsKnown self.old.editing self.new.editing }
         ensures selection { KeepsSelection self.old.editing self.new.editing }
-        ensures marks { KeepsMarks (host_of_pair self.old.editing.state.trees range) self.old.editing self.new.editing }
+        ensures marks { KeepsMarks (host_of_pair self.old.editing.state.trees range)
+            self.old.editing self.new.editing }
         ensures islands { KeepsIslands (host_of_pair self.old.editing.state.trees range) (Some range)
             (Some Command.InsertText) text.now self.old.editing self.new.editing }
         ensures given_back { GivesBack (joins_by false self.old.editing.going Command.InsertText)
@@ -277,16 +295,20 @@ impl Editor {
             × (self.new ≡ self.old) }
         ensures tells { Tells result self.old.editing self.new.editing
             (gated_outcome gate.now self.old.editing name.now value.now) }
-        ensures confined { KeepsOutside (affected_host self.old.editing.state) self.old.editing self.new.editing }
-        ensures html { KeepsHtml (affected_host self.old.editing.state) self.old.editing self.new.editing }
+        ensures confined { KeepsOutside (affected_host self.old.editing.state)
+            self.old.editing self.new.editing }
+        ensures html { KeepsHtml (affected_host self.old.editing.state)
+            self.old.editing self.new.editing }
         ensures labels { KeepsLabels self.old.editing self.new.editing }
         ensures drawn { DrawsLabels self.old.editing self.new.editing }
         ensures known { BringsKnown self.old.editing self.new.editing }
         ensures selection { KeepsSelection self.old.editing self.new.editing }
-        ensures marks { KeepsMarks (affected_host self.old.editing.state) self.old.editing self.new.editing }
+        ensures marks { KeepsMarks (affected_host self.old.editing.state)
+            self.old.editing self.new.editing }
         ensures islands { KeepsIslands (affected_host self.old.editing.state) None
             (command_named name.now) value.now self.old.editing self.new.editing }
-        ensures characters { KeepsCharacters (affected_host self.old.editing.state) name.now self.old.editing self.new.editing }
+        ensures characters { KeepsCharacters (affected_host self.old.editing.state) name.now
+            self.old.editing self.new.editing }
         ensures given_back { GivesBack (joins_last false self.old.editing name.now)
             self.old.editing self.new.editing }
         ensures needed { HoldsOnlyNeeded (document self.new) }
