@@ -39,7 +39,7 @@ use Rattle.edit_engine.specs.declared.answers.ExecFault.{ExecFault}
 use Rattle.edit_engine.specs.declared.answers.ExecFault.TheVariants as fault
 use Rattle.edit_engine.specs.Commands.{row_of, action_of, is_enabled_in}
 use Rattle.edit_engine.specs.Bringing.{BringsKnown}
-use Rattle.edit_engine.specs.Confinement.{KeepsOutside, KeepsHtml, KeepsMarks, KeepsSelection, HasEntry, HasJoined, IsTakenBy, KeepsIslands, KeepsCharacters, GivesBack}
+use Rattle.edit_engine.specs.Confinement.{KeepsOutside, KeepsHtml, KeepsMarks, KeepsSelection, HasEntry, HasJoined, IsTakenBy, KeepsIslands, KeepsCharacters, CommandKeeps, GivesBack}
 use Rattle.edit_engine.specs.Editing.{Editing, IsJoinable, IsResting}
 use Rattle.edit_engine.specs.Going.{goes_on}
 use Rattle.edit_engine.specs.declared.going.Going.{Going}
@@ -146,19 +146,19 @@ module _ (old new : Editing) (at : Option Pair) (joining : Bool) (c : Command) (
   hosted : (h : ℕ) → host ≡ Some h → is_host old.state.trees h ≡ true
   hosted h is = host_at_is_host at old.state law.forest.distinct h is
 
-  pub outside_kept : (new ≡ old) ⊎ IsRun old new at joining c v → KeepsOutside host old new
+  outside_kept : (new ≡ old) ⊎ IsRun old new at joining c v → KeepsOutside host old new
   outside_kept (inl same) = ap (λ (e : Editing). outside_by host e.state.trees) same
   outside_kept (inr run) =
       subst (λ (e : Editing). KeepsOutside host old e) run.is (outside_at_rest old.state t host k law (reaches m (begun host k old.state)))
 
-  pub marks_kept : (new ≡ old) ⊎ IsRun old new at joining c v → KeepsMarks host old new
+  marks_kept : (new ≡ old) ⊎ IsRun old new at joining c v → KeepsMarks host old new
   marks_kept (inl same) = subst (λ (e : Editing). KeepsMarks host old e) (sym same) (same_marks host old.state old.state.points.marks)
   marks_kept (inr run) =
       subst (λ (e : Editing). KeepsMarks host old e) run.is (marks_at_rest old.state t host k law (reaches m (begun host k old.state)))
 
   -- ---- labels
 
-  pub labels_kept : (new ≡ old) ⊎ IsRun old new at joining c v → KeepsLabels old new × DrawsLabels old new
+  labels_kept : (new ≡ old) ⊎ IsRun old new at joining c v → KeepsLabels old new × DrawsLabels old new
   unfolding begun rested
   labels_kept (inl same) = subst (λ (e : Editing). KeepsLabels old e × DrawsLabels old e) (sym same) (same_labels old)
   labels_kept (inr run) =
@@ -168,7 +168,7 @@ module _ (old new : Editing) (at : Option Pair) (joining : Bool) (c : Command) (
 
   -- ---- what is brought in
 
-  pub known_kept : (new ≡ old) ⊎ IsRun old new at joining c v → BringsKnown old new
+  known_kept : (new ≡ old) ⊎ IsRun old new at joining c v → BringsKnown old new
   unfolding begun final
   known_kept (inl same) = subst (λ (e : Editing). BringsKnown old e) (sym same) (own_known old.state.trees)
   known_kept (inr run) =
@@ -186,7 +186,7 @@ module _ (old new : Editing) (at : Option Pair) (joining : Bool) (c : Command) (
       let valid = valid_along (reaches m (begun host k old.state)) (valid_begun host k old.state law) in
       subst (λ (e : Editing). IsValid e.state × (tree_of e.state.trees 0 ≡ e.state.trees)) run.is (valid_rested t valid, document_again t.trees t.next valid.forest)
 
-  pub html_kept : (new ≡ old) ⊎ IsRun old new at joining c v → KeepsHtml host old new
+  html_kept : (new ≡ old) ⊎ IsRun old new at joining c v → KeepsHtml host old new
   html_kept changed =
       let there = new_stands changed in
       let outside = outside_kept changed in
@@ -211,7 +211,7 @@ module _ (old new : Editing) (at : Option Pair) (joining : Bool) (c : Command) (
       let steady = (fit_at at c v).steady.leaves b (valid_begun host k old.state law) in
       subst (λ (e : Editing). IsSome e.state.points.selection) run.is (selection_at_rest old.state (final m b) host k (m.by_actions b) steady some)
 
-  pub selection_kept : (new ≡ old) ⊎ IsRun old new at joining c v → KeepsSelection old new
+  selection_kept : (new ≡ old) ⊎ IsRun old new at joining c v → KeepsSelection old new
   selection_kept changed some = some_pair (IsPlacedPair new.state.trees) new.state.points.selection (still_selected changed some) (new_stands changed).0.placed.selection
 
   -- ---- islands
@@ -269,10 +269,10 @@ module _ (old new : Editing) (at : Option Pair) (joining : Bool) (c : Command) (
       inr (record { out = gone.0; entry = r; taken = gone.1 })
 
   -- where nothing changed, each island is there, whatever the command
-  pub same_islands : (o : Option Command) → KeepsIslands host at o v old old
-  same_islands o h l is island = inl (still_there h l is island)
+  same_islands : (o : Option Command) → new ≡ old → KeepsIslands host at o v old new
+  same_islands o same h l is island = subst (λ (e : Editing). StaysBelow old.state.trees e.state.trees h l ⊎ IsTakenBy at o v old e h l) (sym same) (inl (still_there h l is island))
 
-  pub islands_kept : (new ≡ old) ⊎ IsRun old new at joining c v → KeepsIslands host at (Some c) v old new
+  islands_kept : (new ≡ old) ⊎ IsRun old new at joining c v → KeepsIslands host at (Some c) v old new
   unfolding final
   islands_kept (inl same) h l is island = subst (λ (e : Editing). TakenBy e h l) (sym same) (inl (still_there h l is island))
   islands_kept (inr run) h l is island =
@@ -281,6 +281,24 @@ module _ (old new : Editing) (at : Option Pair) (joining : Bool) (c : Command) (
       let leaves = states_on (m.by_actions b) ((fit_at at c v).steady.leaves b (valid_begun (Some h) k old.state law)) in
       subst (λ (e : Editing). TakenBy e h l) at_host
       (island_of h l (islands_at_rest old.state (final m b) h k law whole (hosted h is) (m.by_actions b) leaves l island))
+
+  pub command_kept : (new ≡ old) ⊎ IsRun old new at joining c v → CommandKeeps host at (Some c) v old new
+  command_kept changed = record {
+    outside = outside_kept changed;
+    html = html_kept changed;
+    labels = (labels_kept changed).0;
+    drawn = (labels_kept changed).1;
+    known = known_kept changed;
+    selection = selection_kept changed;
+    marks = marks_kept changed;
+    islands = islands_kept changed;
+  }
+
+  -- where nothing changed it is so of any command, and of none
+  pub unchanged_kept : new ≡ old → (o : Option Command) → CommandKeeps host at o v old new
+  unchanged_kept same o =
+      let kept = command_kept (inl same) in
+      record kept { islands = same_islands o same }
 
   -- ---- characters
 

@@ -14,11 +14,13 @@ use Rattle.edit_model.specs.Outside.{outside_by, is_island}
 use Rattle.edit_laws.specs.BelowHost.{below}
 use Rattle.edit_laws.specs.Islands.{StaysBelow, IsTakenOut}
 use Rattle.edit_laws.specs.Order.{KeepsLeaves}
+use Rattle.edit_engine.specs.Bringing.{BringsKnown}
 use Rattle.edit_engine.specs.Commands.{row_of, action_of}
 use Rattle.edit_engine.specs.Editing.{Editing, undone}
 use Rattle.edit_engine.specs.Execution.{run_at, ran}
 use Rattle.edit_engine.specs.Going.{goes_on, joins_by}
 use Rattle.edit_engine.specs.HtmlAround.{KeepsHtmlAround}
+use Rattle.edit_engine.specs.Labels.{KeepsLabels, DrawsLabels}
 
 -- the document without the children of the host is as before; without a host all of it is
 abbrev pub KeepsOutside : Option ℕ → Editing → Editing → Type 0
@@ -98,3 +100,16 @@ joins_last joined e name = option_map_or (joins_by joined e.going) (command_name
 abbrev pub GivesBack : (joining : Bool) → Editing → Editing → Type 0
 GivesBack false old new = (new.history ≡ old.history) ⊎ IsSeenAs (undone new) old
 GivesBack true old new = (new.history ≡ old.history) ⊎ IsSeenAs (undone new) (undone old)
+
+-- What every execution of a command keeps, whatever it answers. It works in a host, if there is one,
+-- at the selection or at a range, by a command, if the name is one's, and with a value.
+pub record CommandKeeps (host : Option ℕ) (at : Option Pair) (c : Option Command) (v : List ℕ)
+    (old new : Editing) : Type 0 where
+  pub outside : KeepsOutside host old new
+  pub html : KeepsHtml host old new
+  pub labels : KeepsLabels old new
+  pub drawn : DrawsLabels old new
+  pub known : BringsKnown old new
+  pub selection : KeepsSelection old new
+  pub marks : KeepsMarks host old new
+  pub islands : KeepsIslands host at c v old new

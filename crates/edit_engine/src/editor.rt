@@ -9,16 +9,15 @@ ghost use Rattle.edit_doc.specs.Whole.{HasNoLoose, IsClosed, first_edits};
 ghost use Rattle.command_gate.specs.Denied.{is_denied};
 ghost use Rattle.html_names.specs.Commands.{command_named};
 ghost use Rattle.node_paths.specs.Paths.{label_at};
-ghost use Rattle.edit_engine.specs.Bringing.{BringsKnown};
 ghost use Rattle.edit_engine.specs.Changes.{CanFollow, changes_of};
 ghost use Rattle.edit_engine.specs.Commands.{action_of};
-ghost use Rattle.edit_engine.specs.Confinement.{KeepsOutside, KeepsHtml, KeepsSelection, KeepsMarks, KeepsIslands, KeepsCharacters, GivesBack, joins_last};
+ghost use Rattle.edit_engine.specs.Confinement.{CommandKeeps, KeepsCharacters, GivesBack, joins_last};
 ghost use Rattle.edit_engine.specs.Editing.{EditorValue, IsJoinable, document, new_editing, undone, redone};
 ghost use Rattle.edit_actions.specs.ActiveRange.{affected_host, host_of_pair};
 ghost use Rattle.edit_engine.specs.Execution.{gated_outcome, outcome, joined_outcome, replaced_outcome, outcome_by, command_outcome, run_outcome, host_at, run_at, Tells, TellsReplaced};
 ghost use Rattle.edit_engine.specs.Following.{first_following};
 ghost use Rattle.edit_engine.specs.Going.{goes_on, joins_by};
-ghost use Rattle.edit_engine.specs.Labels.{KeepsLabels, DrawsLabels, HaveOneKind};
+ghost use Rattle.edit_engine.specs.Labels.{KeepsLabels, HaveOneKind};
 ghost use Rattle.edit_engine.specs.Logs.{log_text};
 ghost use Rattle.edit_engine.specs.Places.{pair_at, pair_from, placed_pair, selecting, unselecting, marking, unmarking, IsCrowded};
 ghost use Rattle.edit_engine.specs.Queries.{reply_of};
@@ -104,17 +103,7 @@ impl Editor {
     pub fn exec(&mut self, alloc: Global, name: &str, value: &[char]) -> Result<Answer, ExecFault>
         ensures tells { Tells result self.old.editing self.new.editing
             (outcome self.old.editing name.now value.now) }
-        ensures confined { KeepsOutside (affected_host self.old.editing.state)
-            self.old.editing self.new.editing }
-        ensures html { KeepsHtml (affected_host self.old.editing.state)
-            self.old.editing self.new.editing }
-        ensures labels { KeepsLabels self.old.editing self.new.editing }
-        ensures drawn { DrawsLabels self.old.editing self.new.editing }
-        ensures known { BringsKnown self.old.editing self.new.editing }
-        ensures selection { KeepsSelection self.old.editing self.new.editing }
-        ensures marks { KeepsMarks (affected_host self.old.editing.state)
-            self.old.editing self.new.editing }
-        ensures islands { KeepsIslands (affected_host self.old.editing.state) None
+        ensures kept { CommandKeeps (affected_host self.old.editing.state) None
             (command_named name.now) value.now self.old.editing self.new.editing }
         ensures characters { KeepsCharacters (affected_host self.old.editing.state) name.now
             self.old.editing self.new.editing }
@@ -139,17 +128,7 @@ impl Editor {
     ) -> Result<Answer, ExecFault>
         ensures tells { Tells result self.old.editing self.new.editing
             (joined_outcome self.old.editing name.now value.now) }
-        ensures confined { KeepsOutside (affected_host self.old.editing.state)
-            self.old.editing self.new.editing }
-        ensures html { KeepsHtml (affected_host self.old.editing.state)
-            self.old.editing self.new.editing }
-        ensures labels { KeepsLabels self.old.editing self.new.editing }
-        ensures drawn { DrawsLabels self.old.editing self.new.editing }
-        ensures known { BringsKnown self.old.editing self.new.editing }
-        ensures selection { KeepsSelection self.old.editing self.new.editing }
-        ensures marks { KeepsMarks (affected_host self.old.editing.state)
-            self.old.editing self.new.editing }
-        ensures islands { KeepsIslands (affected_host self.old.editing.state) None
+        ensures kept { CommandKeeps (affected_host self.old.editing.state) None
             (command_named name.now) value.now self.old.editing self.new.editing }
         ensures characters { KeepsCharacters (affected_host self.old.editing.state) name.now
             self.old.editing self.new.editing }
@@ -171,17 +150,7 @@ impl Editor {
     ) -> Result<Answer, ExecFault>
         ensures tells { Tells result self.old.editing self.new.editing
             (outcome_by joined self.old.editing name.now value.now) }
-        ensures confined { KeepsOutside (affected_host self.old.editing.state)
-            self.old.editing self.new.editing }
-        ensures html { KeepsHtml (affected_host self.old.editing.state)
-            self.old.editing self.new.editing }
-        ensures labels { KeepsLabels self.old.editing self.new.editing }
-        ensures drawn { DrawsLabels self.old.editing self.new.editing }
-        ensures known { BringsKnown self.old.editing self.new.editing }
-        ensures selection { KeepsSelection self.old.editing self.new.editing }
-        ensures marks { KeepsMarks (affected_host self.old.editing.state)
-            self.old.editing self.new.editing }
-        ensures islands { KeepsIslands (affected_host self.old.editing.state) None
+        ensures kept { CommandKeeps (affected_host self.old.editing.state) None
             (command_named name.now) value.now self.old.editing self.new.editing }
         ensures characters { KeepsCharacters (affected_host self.old.editing.state) name.now
             self.old.editing self.new.editing }
@@ -219,18 +188,10 @@ impl Editor {
             ((result ≡ Err ReplaceFault.BadPlace) × (self.new ≡ self.old))
             (λ range. TellsReplaced result self.old.editing self.new.editing
             (replaced_outcome self.old.editing range text.now)) }
-        ensures confined { KeepsOutside (host_of_pair self.old.editing.state.trees (pair_from anchor focus))
+        ensures kept { CommandKeeps
+            (host_of_pair self.old.editing.state.trees (pair_from anchor focus))
+            (Some (pair_from anchor focus)) (Some Command.InsertText) text.now
             self.old.editing self.new.editing }
-        ensures html { KeepsHtml (host_of_pair self.old.editing.state.trees (pair_from anchor focus))
-            self.old.editing self.new.editing }
-        ensures labels { KeepsLabels self.old.editing self.new.editing }
-        ensures drawn { DrawsLabels self.old.editing self.new.editing }
-        ensures known { BringsKnown self.old.editing self.new.editing }
-        ensures selection { KeepsSelection self.old.editing self.new.editing }
-        ensures marks { KeepsMarks (host_of_pair self.old.editing.state.trees (pair_from anchor focus))
-            self.old.editing self.new.editing }
-        ensures islands { KeepsIslands (host_of_pair self.old.editing.state.trees (pair_from anchor focus))
-            (Some (pair_from anchor focus)) (Some Command.InsertText) text.now self.old.editing self.new.editing }
         ensures given_back { GivesBack (joins_by false self.old.editing.going Command.InsertText)
             self.old.editing self.new.editing }
         ensures needed { HoldsOnlyNeeded (document self.new) }
@@ -256,18 +217,8 @@ impl Editor {
         requires { IsPlacedPair self.old.editing.state.trees range }
         ensures tells { TellsReplaced result self.old.editing self.new.editing
             (replaced_outcome self.old.editing range text.now) }
-        ensures confined { KeepsOutside (host_of_pair self.old.editing.state.trees range)
-            self.old.editing self.new.editing }
-        ensures html { KeepsHtml (host_of_pair self.old.editing.state.trees range)
-            self.old.editing self.new.editing }
-        ensures labels { KeepsLabels self.old.editing self.new.editing }
-        ensures drawn { DrawsLabels self.old.editing self.new.editing }
-        ensures known { BringsKnown self.old.editing self.new.editing }
-        ensures selection { KeepsSelection self.old.editing self.new.editing }
-        ensures marks { KeepsMarks (host_of_pair self.old.editing.state.trees range)
-            self.old.editing self.new.editing }
-        ensures islands { KeepsIslands (host_of_pair self.old.editing.state.trees range) (Some range)
-            (Some Command.InsertText) text.now self.old.editing self.new.editing }
+        ensures kept { CommandKeeps (host_of_pair self.old.editing.state.trees range)
+            (Some range) (Some Command.InsertText) text.now self.old.editing self.new.editing }
         ensures given_back { GivesBack (joins_by false self.old.editing.going Command.InsertText)
             self.old.editing self.new.editing }
         ensures needed { HoldsOnlyNeeded (document self.new) }
@@ -295,17 +246,7 @@ impl Editor {
             × (self.new ≡ self.old) }
         ensures tells { Tells result self.old.editing self.new.editing
             (gated_outcome gate.now self.old.editing name.now value.now) }
-        ensures confined { KeepsOutside (affected_host self.old.editing.state)
-            self.old.editing self.new.editing }
-        ensures html { KeepsHtml (affected_host self.old.editing.state)
-            self.old.editing self.new.editing }
-        ensures labels { KeepsLabels self.old.editing self.new.editing }
-        ensures drawn { DrawsLabels self.old.editing self.new.editing }
-        ensures known { BringsKnown self.old.editing self.new.editing }
-        ensures selection { KeepsSelection self.old.editing self.new.editing }
-        ensures marks { KeepsMarks (affected_host self.old.editing.state)
-            self.old.editing self.new.editing }
-        ensures islands { KeepsIslands (affected_host self.old.editing.state) None
+        ensures kept { CommandKeeps (affected_host self.old.editing.state) None
             (command_named name.now) value.now self.old.editing self.new.editing }
         ensures characters { KeepsCharacters (affected_host self.old.editing.state) name.now
             self.old.editing self.new.editing }

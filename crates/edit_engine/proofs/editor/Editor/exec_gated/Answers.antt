@@ -5,7 +5,7 @@ use Rattle.html_names.specs.declared.commands.Command.TheVariants.{InsertText}
 use Rattle.edit_engine.specs.Confinement.{joins_last}
 use Rattle.edit_engine.specs.Editing.{EditorValue}
 use Rattle.edit_engine.specs.Going.{joins_by}
-use Rattle.edit_engine.proofs.Confining.{standing, outside_kept, html_kept, labels_kept, known_kept, selection_kept, marks_kept, same_islands, same_back, same_characters}
+use Rattle.edit_engine.proofs.Confining.{standing, unchanged_kept, same_back, same_characters}
 use Rattle.edit_engine.proofs.GoingOn.{joins_on}
 use Rattle.edit_engine.proofs.Outcomes.{denied_outcome, allowed_outcome}
 use Rattle.edit_engine.proofs.editor.Editor.exec_gated.Goals as goal
@@ -23,14 +23,7 @@ returns-then-denies g c =
     record {
       denied = λ _. (refl, refl);
       tells = (inl (denied_outcome denied old name v is), refl);
-      confined = outside_kept old old None joining InsertText v joins stands (inl refl);
-      html = html_kept old old None joining InsertText v joins stands (inl refl);
-      labels = (labels_kept old old None joining InsertText v joins stands (inl refl)).0;
-      drawn = (labels_kept old old None joining InsertText v joins stands (inl refl)).1;
-      known = known_kept old old None joining InsertText v joins stands (inl refl);
-      selection = selection_kept old old None joining InsertText v joins stands (inl refl);
-      marks = marks_kept old old None joining InsertText v joins stands (inl refl);
-      islands = same_islands old old None joining InsertText v joins stands (command_named name);
+      kept = unchanged_kept old old None joining InsertText v joins stands refl (command_named name);
       characters = same_characters old name;
       given_back = same_back (joins_last false old name) old old refl;
       needed = c.kept_nodes.ensures;
@@ -46,14 +39,7 @@ returns g c =
     record {
       denied = λ yes. absurd (true≢false (sym yes ∙ is));
       tells = rw (allowed_outcome denied old name c.args.value.now is) c.exec.ensures.tells;
-      confined = c.exec.ensures.confined;
-      html = c.exec.ensures.html;
-      labels = c.exec.ensures.labels;
-      drawn = c.exec.ensures.drawn;
-      known = c.exec.ensures.known;
-      selection = c.exec.ensures.selection;
-      marks = c.exec.ensures.marks;
-      islands = c.exec.ensures.islands;
+      kept = c.exec.ensures.kept;
       characters = c.exec.ensures.characters;
       given_back = c.exec.ensures.given_back;
       needed = c.exec.ensures.needed;

@@ -4,11 +4,11 @@ use Rattle.html_names.specs.Commands.{command_named}
 use Rattle.html_names.specs.declared.commands.Command.{Command}
 use Rattle.html_names.specs.declared.commands.Command.TheVariants.{InsertText}
 use Rattle.edit_actions.specs.ActiveRange.{affected_host}
-use Rattle.edit_engine.specs.Confinement.{KeepsIslands, GivesBack, joins_last}
+use Rattle.edit_engine.specs.Confinement.{CommandKeeps, GivesBack, joins_last}
 use Rattle.edit_engine.specs.Editing.{EditorValue}
 use Rattle.edit_engine.specs.Execution.{Tells, outcome_by}
 use Rattle.edit_engine.specs.Going.{joins_by}
-use Rattle.edit_engine.proofs.Confining.{standing, changes, outside_kept, html_kept, labels_kept, known_kept, selection_kept, marks_kept, islands_kept, same_islands, characters_kept, given_back, same_back, same_characters}
+use Rattle.edit_engine.proofs.Confining.{standing, changes, command_kept, unchanged_kept, characters_kept, given_back, same_back, same_characters}
 use Rattle.edit_engine.proofs.GoingOn.{joins_on}
 use Rattle.edit_engine.proofs.Outcomes.{named_outcome, unnamed_outcome}
 use Rattle.edit_engine.proofs.editor.Editor.exec_named.Goals as goal
@@ -27,14 +27,7 @@ returns-in-Some c =
     let k = changes c.exec_command-answer.result old new None joining command v c.exec_command-answer.ensures.tells in
     record {
       tells = rw (named_outcome c.args.joined old name v command named) c.exec_command-answer.ensures.tells;
-      confined = outside_kept old new None joining command v joins stands k;
-      html = html_kept old new None joining command v joins stands k;
-      labels = (labels_kept old new None joining command v joins stands k).0;
-      drawn = (labels_kept old new None joining command v joins stands k).1;
-      known = known_kept old new None joining command v joins stands k;
-      selection = selection_kept old new None joining command v joins stands k;
-      marks = marks_kept old new None joining command v joins stands k;
-      islands = subst (λ (o : Option Command). KeepsIslands (affected_host old.state) None o v old new) (sym named) (islands_kept old new None joining command v joins stands k);
+      kept = subst (λ (o : Option Command). CommandKeeps (affected_host old.state) None o v old new) (sym named) (command_kept old new None joining command v joins stands k);
       characters = characters_kept old new None joining command v joins stands name named k;
       given_back = subst (λ (j : Bool). GivesBack j old new) (sym (ap (λ o. option_map_or (joins_by c.args.joined old.going) o false) named)) (given_back old new None joining command v joins stands k);
       needed = c.kept_nodes.ensures;
@@ -51,14 +44,7 @@ returns-in-None c =
     let joining = joins_by c.args.joined old.going InsertText in
     record {
       tells = (inl (unnamed_outcome c.args.joined old name v (sym c.named.ensures.value ∙ c.in-None.is)), refl);
-      confined = outside_kept old old None joining InsertText v joins stands (inl refl);
-      html = html_kept old old None joining InsertText v joins stands (inl refl);
-      labels = (labels_kept old old None joining InsertText v joins stands (inl refl)).0;
-      drawn = (labels_kept old old None joining InsertText v joins stands (inl refl)).1;
-      known = known_kept old old None joining InsertText v joins stands (inl refl);
-      selection = selection_kept old old None joining InsertText v joins stands (inl refl);
-      marks = marks_kept old old None joining InsertText v joins stands (inl refl);
-      islands = same_islands old old None joining InsertText v joins stands (command_named name);
+      kept = unchanged_kept old old None joining InsertText v joins stands refl (command_named name);
       characters = same_characters old name;
       given_back = same_back (joins_last c.args.joined old name) old old refl;
       needed = c.kept_nodes-in-None.ensures;

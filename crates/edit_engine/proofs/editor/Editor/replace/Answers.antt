@@ -4,13 +4,13 @@ use Rattle.live_range.specs.declared.places.Pair.{Pair}
 use Rattle.html_names.specs.declared.commands.Command.TheVariants.{InsertText}
 use Rattle.edit_model.specs.Valid.{IsPlacedPair}
 use Rattle.edit_actions.specs.ActiveRange.{host_of_pair}
-use Rattle.edit_engine.specs.Confinement.{KeepsOutside, KeepsHtml, KeepsMarks, KeepsIslands}
+use Rattle.edit_engine.specs.Confinement.{CommandKeeps}
 use Rattle.edit_engine.specs.Editing.{EditorValue}
 use Rattle.edit_engine.specs.Execution.{TellsReplaced, replaced_outcome}
 use Rattle.edit_engine.specs.Going.{joins_by}
 use Rattle.edit_engine.specs.Places.{pair_from, placed_pair}
 use Rattle.edit_engine.specs.declared.answers.ReplaceFault.TheVariants.{BadPlace}
-use Rattle.edit_engine.proofs.Confining.{standing, outside_kept, html_kept, labels_kept, known_kept, selection_kept, marks_kept, islands_kept, same_back}
+use Rattle.edit_engine.proofs.Confining.{standing, unchanged_kept, same_back}
 use Rattle.edit_engine.proofs.GoingOn.{joins_on}
 use Rattle.edit_engine.proofs.Seeing.{placed_is}
 use Rattle.edit_engine.proofs.editor.Editor.replace.Goals as goal
@@ -30,14 +30,7 @@ returns-in-Some c =
     let same : c.in-Some.range ≡ pair_from anchor focus = placed_is f anchor focus c.in-Some.range found in
     record {
       tells = subst (λ (o : Option Pair). MatchOption o ((result ≡ Err BadPlace) × (new ≡ old)) (λ range. TellsReplaced result old.editing new.editing (replaced_outcome old.editing range c.args.text.now))) (sym found) c.replace_range.ensures.tells;
-      confined = subst (λ (p : Pair). KeepsOutside (host_of_pair f p) old.editing new.editing) same c.replace_range.ensures.confined;
-      html = subst (λ (p : Pair). KeepsHtml (host_of_pair f p) old.editing new.editing) same c.replace_range.ensures.html;
-      labels = c.replace_range.ensures.labels;
-      drawn = c.replace_range.ensures.drawn;
-      known = c.replace_range.ensures.known;
-      selection = c.replace_range.ensures.selection;
-      marks = subst (λ (p : Pair). KeepsMarks (host_of_pair f p) old.editing new.editing) same c.replace_range.ensures.marks;
-      islands = subst (λ (p : Pair). KeepsIslands (host_of_pair f p) (Some p) (Some InsertText) c.args.text.now old.editing new.editing) same c.replace_range.ensures.islands;
+      kept = subst (λ (p : Pair). CommandKeeps (host_of_pair f p) (Some p) (Some InsertText) c.args.text.now old.editing new.editing) same c.replace_range.ensures.kept;
       given_back = c.replace_range.ensures.given_back;
       needed = c.replace_range.ensures.needed;
       followed = c.replace_range.ensures.followed;
@@ -55,14 +48,7 @@ returns-in-None c =
     let none = sym (ap (λ (e : EditorValue). placed_pair e.editing.state.trees c.args.anchor c.args.focus) c.self.view_is) ∙ (sym c.placed_pair.ensures.pair ∙ c.in-None.is) in
     record {
       tells = rw none (refl, refl);
-      confined = outside_kept old old at joining InsertText text joins stands (inl refl);
-      html = html_kept old old at joining InsertText text joins stands (inl refl);
-      labels = (labels_kept old old at joining InsertText text joins stands (inl refl)).0;
-      drawn = (labels_kept old old at joining InsertText text joins stands (inl refl)).1;
-      known = known_kept old old at joining InsertText text joins stands (inl refl);
-      selection = selection_kept old old at joining InsertText text joins stands (inl refl);
-      marks = marks_kept old old at joining InsertText text joins stands (inl refl);
-      islands = islands_kept old old at joining InsertText text joins stands (inl refl);
+      kept = unchanged_kept old old at joining InsertText text joins stands refl (Some InsertText);
       given_back = same_back joining old old refl;
       needed = c.kept_nodes.ensures;
       followed = inl (refl, refl);

@@ -7,7 +7,7 @@ use Rattle.edit_engine.specs.Going.{joins_by}
 use Rattle.edit_engine.specs.declared.answers.Answer.{Answer}
 use Rattle.edit_engine.specs.declared.answers.ExecFault.{ExecFault}
 use Rattle.edit_engine.specs.declared.answers.ReplaceFault.{ReplaceFault}
-use Rattle.edit_engine.proofs.Confining.{standing, changes, outside_kept, html_kept, labels_kept, known_kept, selection_kept, marks_kept, islands_kept, given_back}
+use Rattle.edit_engine.proofs.Confining.{standing, changes, command_kept, given_back}
 use Rattle.edit_engine.proofs.GoingOn.{joins_on}
 use Rattle.edit_engine.proofs.Outcomes.{replaced_by, tells_replaced}
 use Rattle.edit_engine.proofs.editor.Editor.replace_range.Goals as goal
@@ -25,14 +25,7 @@ returns-in-Ok c =
     let tells = tells_replaced c.exec_command-answer.result old new (replaced_outcome old c.args.range v) c.exec_command-answer.ensures.tells in
     record {
       tells = subst (λ (r : Result Answer ExecFault). TellsReplaced (replaced_by r) old new (replaced_outcome old c.args.range v)) c.in-Ok.is tells;
-      confined = outside_kept old new at joining InsertText v joins stands k;
-      html = html_kept old new at joining InsertText v joins stands k;
-      labels = (labels_kept old new at joining InsertText v joins stands k).0;
-      drawn = (labels_kept old new at joining InsertText v joins stands k).1;
-      known = known_kept old new at joining InsertText v joins stands k;
-      selection = selection_kept old new at joining InsertText v joins stands k;
-      marks = marks_kept old new at joining InsertText v joins stands k;
-      islands = islands_kept old new at joining InsertText v joins stands k;
+      kept = command_kept old new at joining InsertText v joins stands k;
       given_back = given_back old new at joining InsertText v joins stands k;
       needed = c.kept_nodes.ensures;
       followed = c.exec_command-answer.ensures.followed;
@@ -52,14 +45,7 @@ returns-in-Err c =
     record {
       tells = subst (λ (f : ReplaceFault). TellsReplaced (Err f) old new (replaced_outcome old c.args.range v)) (sym c.from.ensures)
           (subst (λ (r : Result Answer ExecFault). TellsReplaced (replaced_by r) old new (replaced_outcome old c.args.range v)) c.in-Err.is tells);
-      confined = outside_kept old new at joining InsertText v joins stands k;
-      html = html_kept old new at joining InsertText v joins stands k;
-      labels = (labels_kept old new at joining InsertText v joins stands k).0;
-      drawn = (labels_kept old new at joining InsertText v joins stands k).1;
-      known = known_kept old new at joining InsertText v joins stands k;
-      selection = selection_kept old new at joining InsertText v joins stands k;
-      marks = marks_kept old new at joining InsertText v joins stands k;
-      islands = islands_kept old new at joining InsertText v joins stands k;
+      kept = command_kept old new at joining InsertText v joins stands k;
       given_back = given_back old new at joining InsertText v joins stands k;
       needed = c.kept_nodes.ensures;
       followed = c.exec_command-answer.ensures.followed;
