@@ -258,7 +258,7 @@ module _ (old new : Editing) (at : Option Pair) (joining : Bool) (c : Command) (
       omega (arith, same, length-append out.then_at.edits (Remove out.root ∷ out.later))
 
   -- what the run of the command took out
-  TakenBy : Editing → (h l : ℕ) → Type 0
+  abbrev TakenBy : Editing → (h l : ℕ) → Type 0
   TakenBy e h l = StaysBelow old.state.trees e.state.trees h l ⊎ IsTakenBy at (Some c) v old e h l
 
   island_of : (h l : ℕ) → IslandKept (begun (Some h) k old.state) (final m (begun (Some h) k old.state)) old.state.trees (rested (final m (begun (Some h) k old.state))).trees h l → TakenBy (after_run old joining c (final m (begun (Some h) k old.state))) h l
