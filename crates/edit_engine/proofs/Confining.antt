@@ -296,9 +296,16 @@ module _ (old new : Editing) (at : Option Pair) (joining : Bool) (c : Command) (
 
   -- where nothing changed it is so of any command, and of none
   pub unchanged_kept : new ≡ old → (o : Option Command) → CommandKeeps host at o v old new
-  unchanged_kept same o =
-      let kept = command_kept (inl same) in
-      record kept { islands = same_islands o same }
+  unchanged_kept same o = record {
+    outside = outside_kept (inl same);
+    html = html_kept (inl same);
+    labels = (labels_kept (inl same)).0;
+    drawn = (labels_kept (inl same)).1;
+    known = known_kept (inl same);
+    selection = selection_kept (inl same);
+    marks = marks_kept (inl same);
+    islands = same_islands o same;
+  }
 
   -- ---- characters
 
