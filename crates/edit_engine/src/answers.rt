@@ -3,8 +3,7 @@
 use edit_doc::{EditFault, MarkFault};
 use script_read::Path;
 use std::alloc::AllocError;
-use std::error::Error;
-use std::fmt;
+use thiserror::Error;
 
 /// What executing a command answers (HTML Editing APIs, "execCommand()").
 #[derive(Clone, Copy, PartialEq, Eq, Debug)]
@@ -16,27 +15,18 @@ pub enum Answer {
 }
 
 /// Why a command was not made. The editor is as before.
-#[derive(Clone, Copy, PartialEq, Eq, Debug)]
+#[derive(Clone, Copy, PartialEq, Eq, Debug, Error)]
 pub enum ExecFault {
     /// It would have drawn a label that isn't below the cap.
+    #[error("no label is left below the cap")]
     Full = 1,
     /// The document is deeper than 250.
+    #[error("the document is too deep")]
     Deep = 2,
     /// There is no memory for it.
+    #[error("out of memory")]
     Memory = 3,
 }
-
-impl fmt::Display for ExecFault {
-    fn fmt<W: fmt::Write>(&self, f: &mut fmt::Formatter<W>) -> fmt::Result {
-        f.write_str(match self {
-            ExecFault::Full => "no label is left below the cap",
-            ExecFault::Deep => "the document is too deep",
-            ExecFault::Memory => "out of memory",
-        })
-    }
-}
-
-impl Error for ExecFault {}
 
 impl From<AllocError> for ExecFault {
     ghost use Rattle.std.specs.Prelude.{◌≡◌};
@@ -64,30 +54,21 @@ impl From<EditFault> for ExecFault {
 }
 
 /// Why a range was not replaced. The editor is as before.
-#[derive(Clone, Copy, PartialEq, Eq, Debug)]
+#[derive(Clone, Copy, PartialEq, Eq, Debug, Error)]
 pub enum ReplaceFault {
     /// An end of the range stands in no node of the document, or is past its length.
+    #[error("the document has no such place")]
     BadPlace = 1,
     /// It would have drawn a label that isn't below the cap.
+    #[error("no label is left below the cap")]
     Full = 2,
     /// The document is deeper than 250.
+    #[error("the document is too deep")]
     Deep = 3,
     /// There is no memory for it.
+    #[error("out of memory")]
     Memory = 4,
 }
-
-impl fmt::Display for ReplaceFault {
-    fn fmt<W: fmt::Write>(&self, f: &mut fmt::Formatter<W>) -> fmt::Result {
-        f.write_str(match self {
-            ReplaceFault::BadPlace => "the document has no such place",
-            ReplaceFault::Full => "no label is left below the cap",
-            ReplaceFault::Deep => "the document is too deep",
-            ReplaceFault::Memory => "out of memory",
-        })
-    }
-}
-
-impl Error for ReplaceFault {}
 
 impl From<ExecFault> for ReplaceFault {
     ghost use Rattle.edit_engine.specs.Faults.{replace_fault};
@@ -105,24 +86,15 @@ impl From<ExecFault> for ReplaceFault {
 }
 
 /// Why the log of an editor was not printed.
-#[derive(Clone, Copy, PartialEq, Eq, Debug)]
+#[derive(Clone, Copy, PartialEq, Eq, Debug, Error)]
 pub enum LogFault {
     /// An entry was dropped as the oldest since the editor was made.
+    #[error("the oldest entries of the log are gone")]
     LogCut = 1,
     /// There is no memory for it.
+    #[error("out of memory")]
     Memory = 2,
 }
-
-impl fmt::Display for LogFault {
-    fn fmt<W: fmt::Write>(&self, f: &mut fmt::Formatter<W>) -> fmt::Result {
-        f.write_str(match self {
-            LogFault::LogCut => "the oldest entries of the log are gone",
-            LogFault::Memory => "out of memory",
-        })
-    }
-}
-
-impl Error for LogFault {}
 
 impl From<AllocError> for LogFault {
     ghost use Rattle.std.specs.Prelude.{◌≡◌};
@@ -136,27 +108,18 @@ impl From<AllocError> for LogFault {
 }
 
 /// Why a pair of points was not selected or marked.
-#[derive(Clone, Copy, PartialEq, Eq, Debug)]
+#[derive(Clone, Copy, PartialEq, Eq, Debug, Error)]
 pub enum PlaceFault {
     /// A path names no node, or an offset is past its length.
+    #[error("the document has no such place")]
     BadPlace = 1,
     /// 16 marks of other names are there.
+    #[error("16 marks of other names are there already")]
     TooManyMarks = 2,
     /// There is no memory for the mark.
+    #[error("out of memory")]
     Memory = 3,
 }
-
-impl fmt::Display for PlaceFault {
-    fn fmt<W: fmt::Write>(&self, f: &mut fmt::Formatter<W>) -> fmt::Result {
-        f.write_str(match self {
-            PlaceFault::BadPlace => "the document has no such place",
-            PlaceFault::TooManyMarks => "16 marks of other names are there already",
-            PlaceFault::Memory => "out of memory",
-        })
-    }
-}
-
-impl Error for PlaceFault {}
 
 impl From<MarkFault> for PlaceFault {
     ghost use Rattle.edit_engine.specs.Faults.{place_fault};
@@ -188,24 +151,15 @@ pub enum ViewKind {
 }
 
 /// Why something of an editor was not printed.
-#[derive(Clone, Copy, PartialEq, Eq, Debug)]
+#[derive(Clone, Copy, PartialEq, Eq, Debug, Error)]
 pub enum ViewFault {
     /// The path names no node.
+    #[error("the document has no such node")]
     BadPlace = 1,
     /// There is no memory for the text.
+    #[error("out of memory")]
     Memory = 2,
 }
-
-impl fmt::Display for ViewFault {
-    fn fmt<W: fmt::Write>(&self, f: &mut fmt::Formatter<W>) -> fmt::Result {
-        f.write_str(match self {
-            ViewFault::BadPlace => "the document has no such node",
-            ViewFault::Memory => "out of memory",
-        })
-    }
-}
-
-impl Error for ViewFault {}
 
 impl From<AllocError> for ViewFault {
     ghost use Rattle.std.specs.Prelude.{◌≡◌};

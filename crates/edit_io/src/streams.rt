@@ -6,40 +6,23 @@ ghost use Rattle.edit_io.specs.declared.streams.SinkFault.TheVariants.{Memory};
 ghost use Rattle.edit_io.specs.Told.{with_front, with_end, IsAtEnd};
 
 use std::alloc::AllocError;
-use std::error::Error;
-use std::fmt;
+use thiserror::Error;
 
 /// A read that failed. Nothing was taken from the source.
-#[derive(Clone, Copy, Debug, PartialEq, Eq)]
+#[derive(Clone, Copy, Debug, PartialEq, Eq, Error)]
+#[error("the read failed")]
 pub struct Failed;
 
 /// Why a sink took nothing.
-#[derive(Clone, Copy, Debug, PartialEq, Eq)]
+#[derive(Clone, Copy, Debug, PartialEq, Eq, Error)]
 pub enum SinkFault {
     /// The sink refused the bytes.
+    #[error("the write failed")]
     Failed,
     /// There was no memory to keep the bytes in.
+    #[error("out of memory")]
     Memory,
 }
-
-impl fmt::Display for Failed {
-    fn fmt<W: fmt::Write>(&self, f: &mut fmt::Formatter<W>) -> fmt::Result {
-        f.write_str("the read failed")
-    }
-}
-
-impl Error for Failed {}
-
-impl fmt::Display for SinkFault {
-    fn fmt<W: fmt::Write>(&self, f: &mut fmt::Formatter<W>) -> fmt::Result {
-        f.write_str(match self {
-            SinkFault::Failed => "the write failed",
-            SinkFault::Memory => "out of memory",
-        })
-    }
-}
-
-impl Error for SinkFault {}
 
 impl From<AllocError> for SinkFault {
     ghost from_gives = { λ _ fault. fault ≡ Memory };

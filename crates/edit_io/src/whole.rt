@@ -7,31 +7,21 @@ ghost use Rattle.edit_io.specs.Told.{with_front, with_end, IsAtEnd, TakesPrefix,
 
 use crate::streams::{Failed, Sink, SinkFault, Source};
 use std::alloc::{AllocError, Global};
-use std::error::Error;
-use std::fmt;
+use thiserror::Error;
 
 /// Why not all that is left was read.
-#[derive(Clone, Copy, Debug, PartialEq, Eq)]
+#[derive(Clone, Copy, Debug, PartialEq, Eq, Error)]
 pub enum ReadAllFault {
     /// A read failed.
+    #[error("a read failed")]
     Failed = 1,
     /// More bytes than the limit are there.
+    #[error("the input is too long")]
     TooLong = 2,
     /// There was no memory to keep the bytes in.
+    #[error("out of memory")]
     Memory = 3,
 }
-
-impl fmt::Display for ReadAllFault {
-    fn fmt<W: fmt::Write>(&self, f: &mut fmt::Formatter<W>) -> fmt::Result {
-        f.write_str(match self {
-            ReadAllFault::Failed => "a read failed",
-            ReadAllFault::TooLong => "the input is too long",
-            ReadAllFault::Memory => "out of memory",
-        })
-    }
-}
-
-impl Error for ReadAllFault {}
 
 impl From<Failed> for ReadAllFault {
     ghost from_gives = { λ _ fault. fault ≡ Failed };

@@ -5,9 +5,8 @@ ghost use Rattle.std.specs.Prelude.{◌≡◌, IfOk};
 use dom_model::{Chars, Items, Name};
 use html_names::QueryKind;
 use std::alloc::{AllocError, AllocFailed, Global};
-use std::error::Error;
-use std::fmt;
 use std::marker::Copy;
+use thiserror::Error;
 
 /// The way from the document to a node: the index of a child in each node on the way. The
 /// document's own is empty.
@@ -75,31 +74,22 @@ pub enum Act {
 }
 
 /// Why a line is no act. The number is the one that is printed.
-#[derive(Clone, Copy, PartialEq, Eq, Debug)]
+#[derive(Clone, Copy, PartialEq, Eq, Debug, Error)]
 pub enum LineFault {
     /// Its first word is an act's, and the line is outside the grammar of that act, or outside
     /// UTF-8.
+    #[error("the line is outside the grammar of its act")]
     Syntax = 1,
     /// Its first word, up to the first space, is no act's.
+    #[error("the first word of the line is no act")]
     UnknownAct = 2,
     /// It has more than 8,192 bytes.
+    #[error("the line has more than 8192 bytes")]
     LongLine = 3,
     /// There was no memory for the act.
+    #[error("out of memory")]
     Memory = 4,
 }
-
-impl fmt::Display for LineFault {
-    fn fmt<W: fmt::Write>(&self, f: &mut fmt::Formatter<W>) -> fmt::Result {
-        f.write_str(match self {
-            LineFault::Syntax => "the line is outside the grammar of its act",
-            LineFault::UnknownAct => "the first word of the line is no act",
-            LineFault::LongLine => "the line has more than 8192 bytes",
-            LineFault::Memory => "out of memory",
-        })
-    }
-}
-
-impl Error for LineFault {}
 
 impl From<AllocError> for LineFault {
     ghost use Rattle.script_read.specs.declared.act.LineFault.TheVariants.{Memory};

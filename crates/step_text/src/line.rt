@@ -4,8 +4,7 @@ ghost use Rattle.std.specs.Prelude.{◌≡◌};
 
 use dom_model::{Attributes, Chars, Name};
 use std::alloc::AllocError;
-use std::error::Error;
-use std::fmt;
+use thiserror::Error;
 
 /// What a node is made with.
 #[derive(Drop)]
@@ -55,33 +54,24 @@ pub enum StepLine {
 }
 
 /// Why a line isn't read, or a step isn't applied.
-#[derive(Clone, Copy, PartialEq, Eq, Debug)]
+#[derive(Clone, Copy, PartialEq, Eq, Debug, Error)]
 pub enum StepFault {
     /// The line isn't one of a step.
+    #[error("the line is no step")]
     Syntax = 1,
     /// A label that is drawn already or isn't below the cap, or one that no node has.
+    #[error("the label is taken, unknown or not below the cap")]
     BadLabel = 2,
     /// A node that can't go there, or isn't of the kind.
+    #[error("the node can't go there, or isn't of the kind")]
     BadPlace = 3,
     /// The document would be too deep.
+    #[error("the document would be too deep")]
     TooDeep = 4,
     /// There is no memory for it.
+    #[error("out of memory")]
     Memory = 5,
 }
-
-impl fmt::Display for StepFault {
-    fn fmt<W: fmt::Write>(&self, f: &mut fmt::Formatter<W>) -> fmt::Result {
-        f.write_str(match self {
-            StepFault::Syntax => "the line is no step",
-            StepFault::BadLabel => "the label is taken, unknown or not below the cap",
-            StepFault::BadPlace => "the node can't go there, or isn't of the kind",
-            StepFault::TooDeep => "the document would be too deep",
-            StepFault::Memory => "out of memory",
-        })
-    }
-}
-
-impl Error for StepFault {}
 
 impl From<AllocError> for StepFault {
     ghost use Rattle.step_text.specs.declared.line.StepFault.TheVariants.{Memory};
