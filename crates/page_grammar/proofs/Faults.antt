@@ -14,10 +14,10 @@ use Rattle.page_grammar.specs.Bytes.{IsPageBytes, BeginsPage, BeginsText, IsByte
 use Rattle.page_grammar.specs.Kind.{Kind, Unclosed, NotUtf8, TooDeep, Full, page_limit, begins_node, no_room, misplaced, kind_at, kind_decoded, kind_of_byte, fault_next, fault_at_end, fault_from, text_fault, page_fault}
 use Rattle.page_grammar.specs.Tokens.{EndsUnsupportedName, EndsRepeatedName, StandsInReference, StandsInEndTag, StandsAfterTagName, StandsAfterLess}
 use Rattle.page_grammar.specs.Rows.{BeginsSomePage, MakesTooDeep, MakesFull, IsPart, AtPlace, Row, lexical_kinds, IsFirst, IsFault}
-use Rattle.page_grammar.proofs.Facts.{app_nil, and_parts, both_true, scalars_app, scalars_split}
+use Rattle.page_grammar.proofs.Facts.{app_nil, and_parts, ascii_scalar, both_true, scalars_app, scalars_split}
 use Rattle.page_grammar.proofs.Complete.{page_read}
 use Rattle.page_grammar.proofs.Sound.{page_only}
-use Rattle.page_grammar.proofs.Decoding.{due_byte, last_bytes, DecodedIs, Held, decoded, encode_two, lt_test, ge_test}
+use Rattle.page_grammar.proofs.Decoding.{due_byte, last_bytes, DecodedIs, Held, decoded, encode_one, encode_two, lt_test, ge_test}
 use Rattle.page_grammar.proofs.Wide.{wide_none, wide_some}
 use Rattle.page_grammar.proofs.Limits.{shift, room_for, begins_shift}
 use Rattle.page_grammar.proofs.Reading.{Reads, reads_start, all_reads, byte_goes, begins_less, reads_begins, live_start, peel, no_nil, no_whole, front_of}
@@ -181,7 +181,10 @@ cut p b t =
     }
 
 part_of : (o : Option Pending) (q : List ℕ) → Held o q → IsPart q
-part_of None q e = let some : 0 < 1 = omega arith in (97, 97 ∷ [], refl, ap (λ z. z ++ 97 ∷ []) (sym e), some)
+part_of None q e =
+    let small : 97 < 128 = omega arith in
+    let some : 0 < length (97 ∷ []) = omega arith in
+    (97, 97 ∷ [], ascii_scalar 97 refl, encode_one 97 small ∙ ap (λ z. z ++ 97 ∷ []) (sym e), some)
 part_of (Some w) q a =
     let x = a.some in
     let y = a.begins x.0 x.2 in
@@ -231,8 +234,8 @@ from_place d c s p b t r h P k (cs, q, b2, t2, plain, part, e, f, x) =
 
 lexical_alike : (d c : ℕ) (s p : List ℕ) (b : ℕ) (t : List ℕ) (r : Reader) → Cut s p b t → Reads d c p r → Alike (LexicalRow r.machine.lex r.machine.opened b) (Row d c s (length p)) lexical_kinds
 lexical_alike d c s p b t r k h =
-    let to = λ (P : List ℕ → ℕ → Type 0) (x : P h.chars b). to_place d c s p b t r h P k x in
-    let from = λ (P : List ℕ → ℕ → Type 0) (x : AtPlace s (length p) P). from_place d c s p b t r h P k x in
+    let to = λ (P : List ℕ → ℕ → Type 0). to_place d c s p b t r h P k in
+    let from = λ (P : List ℕ → ℕ → Type 0). from_place d c s p b t r h P k in
     let a = rows_agree d c h.chars r.machine b h.ran in (
       λ x. to (λ cs z. EndsUnsupportedName cs z) (a.unsupported x),
       λ x. a.unsupported_back (from (λ cs z. EndsUnsupportedName cs z) x),

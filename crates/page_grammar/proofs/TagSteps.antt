@@ -170,10 +170,11 @@ OneMore b (More q) = b ≢ 59
 OneMore b (Done x) = Unit {0}
 
 one_more : (p : Reference) (b : ℕ) → OneMore b (ref_step p b)
-one_more p b = elim (cases_Bool (b == 59)) [
-  | inl e ↦ let k = same_char b 59 e in subst (λ z. OneMore z (ref_step p z)) (sym k) (none (ref_step p 59) (semi_ends p))
-  | inr f ↦ other (ref_step p b) (eqb-false b 59 f)
-]
+one_more p b =
+    elim (cases_Bool (b == 59)) [
+      | inl e ↦ let k = same_char b 59 e in subst (λ z. OneMore z (ref_step p z)) (sym k) (none (ref_step p 59) (semi_ends p))
+      | inr f ↦ other (ref_step p b) (eqb-false b 59 f)
+    ]
   where
     none : (o : Turn) → NoMore o → OneMore 59 o
     none Stop h = tt

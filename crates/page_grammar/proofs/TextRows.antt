@@ -8,9 +8,9 @@ use Rattle.page_grammar.specs.Chars.{is_space, lower, is_letter, is_digit, is_na
 use Rattle.page_grammar.specs.Names.{is_void, is_refused}
 use Rattle.page_grammar.specs.Page as page
 use Rattle.page_grammar.specs.Page.{Attribute, Spaces, NameChars, Attributes, StartTag, NameAgain}
-use Rattle.page_grammar.specs.Machine.{Event, Reference, Amp, Named, Hash, Dec, HexMark, Hex, Turn, Stop, More, Done, after_char, whole, more_named, named, dec, hex, done, ref_step, Lexical, Data, InText, TextReference, TagOpen, MarkupDeclaration, CommentStart, TagName, BeforeAttributeName, AttributeName, AfterAttributeName, BeforeAttributeValue, InAttributeValue, ValueReference, AfterAttributeValue, SelfClosing, EndTagName, AfterEndTagName, Machine, start, at, has_room, is_some_open, less, entered, after_end, tag_end, ref_turn, step_at, step, run, then_run, IsReady, is_none_open, flushed, emitted}
+use Rattle.page_grammar.specs.Machine.{Event, Reference, Amp, Named, Hash, Dec, HexMark, Hex, Turn, Stop, More, Done, after_char, whole, more_named, named, dec, hex, done, ref_step, Lexical, Data, InText, TextReference, TagOpen, MarkupDeclaration, CommentStart, TagName, BeforeAttributeName, AttributeName, AfterAttributeName, BeforeAttributeValue, InAttributeValue, ValueReference, AfterAttributeValue, SelfClosing, EndTagName, AfterEndTagName, Machine, start, at, has_room, is_some_open, entered, after_end, tag_end, ref_turn, step_at, step, run, then_run, IsReady, is_none_open, flushed, emitted}
 use Rattle.page_grammar.specs.Tokens.{IsToken, Tokens, EndsWith, TagUpTo, first_or, Lacks, EndsUnsupportedName, EndsRepeatedName, StandsInReference, StandsInEndTag, StandsAfterTagName, StandsAfterLess}
-use Rattle.page_grammar.proofs.Facts.{same_char, and_parts, On, on_if, on_get, then_some, name_47, space_62, space_not_name, quote_not_space, quote_not_amp}
+use Rattle.page_grammar.proofs.Facts.{app_nil, same_char, and_parts, On, on_if, on_get, then_some, name_47, space_62, space_not_name, quote_not_space, quote_not_amp}
 use Rattle.page_grammar.proofs.Complete.{Host, less_step, key_equals, equals_spaces, value_run, flushed_opened}
 use Rattle.page_grammar.proofs.LongestPrefix.{lex_name, run_append}
 use Rattle.page_grammar.proofs.LexicalRows.{AtUnsupportedName, AtRepeatedName, InReference, InEndTag, AfterTagName, AfterLess}
@@ -26,11 +26,11 @@ LackAll (w ∷ ws) = Lacks 62 w × LackAll ws
 
 name_62 : (y : ℕ) → is_name_char y ≡ true → lower y ≡ 62 → ⊥
 unfolding is_name_char is_letter is_digit lower
-name_62 y h e = absurd (grind (arith, nat_tests))
+name_62 y h e = grind (arith, nat_tests)
 
 letter_62 : (y : ℕ) → is_letter y ≡ true → lower y ≡ 62 → ⊥
 unfolding is_letter lower
-letter_62 y h e = absurd (grind (arith, nat_tests))
+letter_62 y h e = grind (arith, nat_tests)
 
 lower_62 : lower 62 ≡ 62
 unfolding lower
@@ -47,7 +47,7 @@ name_lacks (x ∷ xs) a b (y, m, e, lo, ok, h) = (λ k. letter_62 y ok (lo ∙ k
 token_lacks : (vs ws : List (List ℕ)) (t : List ℕ) → IsToken vs ws t → LackAll vs → LackAll ws
 token_lacks vs ws t (inl (x, one, e)) h = subst LackAll (sym e) h
 token_lacks vs ws t (inr (inl (u, a, eq, note, e))) h = subst LackAll (sym e) h
-token_lacks vs ws t (inr (inr (inl (w, ts, (a, b, m, eq, nm, more), e)))) h = subst LackAll (sym e) (go (is_void w))
+token_lacks vs ws t (inr (inr (inl (w, ts, (a, b, m, eq, nm, nr, us, te), e)))) h = subst LackAll (sym e) (go (is_void w))
   where
     go : (v : Bool) → LackAll (if v then vs else w ∷ vs)
     go true = h
@@ -91,11 +91,7 @@ to_end s os ws r (EndTagName left) b en lk (w, v, a, ew, er, e, na) k =
     inl (w, os, a, subst (λ z. EndsWith z (60 ∷ 47 ∷ a) s) ew (subst (λ z. EndsWith ws z s) er en), again_lacks v left a [] (subst (λ z. Lacks 62 z) e all.0) na tt)
 to_end s os ws r AfterEndTagName b en lk (w, a, d, n, ew, er, na, sp) k =
     let all = subst LackAll ew lk in
-    inl (w, os, a, subst (λ z. EndsWith z (60 ∷ 47 ∷ a) s) ew (subst (λ z. EndsWith ws z s) er en), again_lacks w [] a d (subst (λ z. Lacks 62 z) (sym (app_end w)) all.0) na (spaces_lack (suc n) d sp))
-  where
-    app_end : (w : List ℕ) → w ++ [] ≡ w
-    app_end [] = refl
-    app_end (x ∷ xs) = ap (λ z. x ∷ z) (app_end xs)
+    inl (w, os, a, subst (λ z. EndsWith z (60 ∷ 47 ∷ a) s) ew (subst (λ z. EndsWith ws z s) er en), again_lacks w [] a d (subst (λ z. Lacks 62 z) (sym (app_nil w)) all.0) na (spaces_lack (suc n) d sp))
 to_end s os ws r TagOpen b en lk (e, er) k = inr (subst (λ z. EndsWith z (60 ∷ []) s) (e ∙ none_is os k.1) (subst (λ z. EndsWith ws z s) er en), k.0)
 to_end s os ws r l b en lk h k = elim k [ ]
 
@@ -113,11 +109,11 @@ gap_first (suc n) s r b h k = spaces_first n s r b h
 
 attributes_first : (ts seen : List Attribute) (s r : List ℕ) (b : ℕ) → Attributes seen ts s r → is_name_char (first_or b r) ≡ false → is_name_char (first_or b s) ≡ false
 attributes_first [] seen s r b h k = subst (λ z. is_name_char (first_or b z) ≡ false) (sym h) k
-attributes_first (t ∷ ts) seen s r b (n, a, c, m, sp, more) k = spaces_first n s a b sp
+attributes_first (t ∷ ts) seen s r b (n, a, c, m, sp, some, kc, hk, va, h) k = spaces_first n s a b sp
 
 some_first : (ts seen : List Attribute) (s r : List ℕ) (b : ℕ) → 0 < length ts → Attributes seen ts s r → is_name_char (first_or b s) ≡ false
 some_first [] seen s r b some h = absurd (omega arith)
-some_first (t ∷ ts) seen s r b some (n, a, c, m, sp, more) = spaces_first n s a b sp
+some_first (t ∷ ts) seen s r b some (n, a, c, m, sp, named_key, kc, hk, va, h) = spaces_first n s a b sp
 
 behind : (b : ℕ) (w : List ℕ) (ts : List Attribute) (r m : List ℕ) → TagUpTo w ts r m → is_name_char (first_or b m) ≡ false → Behind b w r
 behind b w ts r m (a, d, e, nm, nr, us) k = (a, d, e, nm, attributes_first ts [] d m b us k)
@@ -335,11 +331,7 @@ tag_by c q r w m m1 m2 ih (inr (ts, st, is)) = inr (ts, q, start_more w ts r q s
 tag_stays : (c : ℕ) (q r w : List ℕ) (m m2 : Machine) → TagIn m.lex r → lex_name m.lex ≡ w → run c m q ≡ Some m2 → StaysOrWhole w (r ++ q) m2
 tag_stays c [] r w m m2 h n e =
     let is : m ≡ m2 = cc in
-    inl (subst (λ z. TagIn m2.lex z) (sym (app_end r)) (subst (λ z. TagIn z.lex r) is h))
-  where
-    app_end : (w : List ℕ) → w ++ [] ≡ w
-    app_end [] = refl
-    app_end (x ∷ xs) = ap (λ z. x ∷ z) (app_end xs)
+    inl (subst (λ z. TagIn m2.lex z) (sym (app_nil r)) (subst (λ z. TagIn z.lex r) is h))
 tag_stays c (b ∷ q) r w m m2 h n e =
     let x = then_some (step c m b) (λ m1. run c m1 q) m2 e in
     let next = on_get (λ m1. TagNext m (lex_name m.lex) (r ++ b ∷ []) m1) (step c m b) x.0 (tag_step c m m.lex r b h) x.1 in

@@ -10,7 +10,7 @@ use Rattle.page_grammar.specs.Page.{Attribute, Spaces, OneChar, Text, ElementNam
 abbrev pub IsToken : (vs ws : List (List ℕ)) → List ℕ → Type 0
 IsToken vs ws t =
     ((x : ℕ) × OneChar 60 x t [] × (ws ≡ vs))
-    ⊎ (((u a : List ℕ) × (t ≡ 60 ∷ 33 ∷ 45 ∷ 45 ∷ a) × CommentText u a [] × (ws ≡ vs))
+    ⊎ (((u : List ℕ) × (a : List ℕ) × (t ≡ 60 ∷ 33 ∷ 45 ∷ 45 ∷ a) × CommentText u a [] × (ws ≡ vs))
     ⊎ (((w : List ℕ) × (ts : List Attribute) × StartTag w ts t []
     × (ws ≡ (if is_void w then vs else w ∷ vs)))
     ⊎ ((w : List ℕ) × EndTag w t [] × (vs ≡ w ∷ ws))))
