@@ -218,6 +218,7 @@ chars_are d c p r h cs q s (x, t, sx, ex, some) e =
     not_nil : (es : List ℕ) → encodes es ≡ h.held ++ t → 0 < length es
     not_nil [] k = let l : 0 ≡ length h.held + length t = ap length k ∙ length-append h.held t in absurd (omega arith)
     not_nil (y ∷ es) k = omega arith
+
     none : (fs : List ℕ) → encodes fs ++ q ≡ h.held → fs ≡ []
     none [] k = refl
     none (y ∷ fs) k = no_whole r.part h.held (encodes fs ++ q) y h.front (sym k ∙ append_assoc (encode y) (encodes fs) q)

@@ -104,14 +104,17 @@ dash_next m t OneDash o ws r a b k e er back =
 dash_next m t TwoDashes o ws r a b k e er back =
     inl (
       tt,
-      (e, (
-        a ++ b ∷ [],
-        ap (λ z. z ++ b ∷ []) er,
-        λ u s z h.
-            let long : CommentText (45 ∷ u) (45 ∷ 45 ∷ 45 ∷ s) z = (45 ∷ 45 ∷ s, refl, refl, h) in
-            let one = back (45 ∷ u) (b ∷ s) z (subst (λ y. CommentText (45 ∷ u) (45 ∷ 45 ∷ y ∷ s) z) (sym k) long) in
-            subst (λ y. CommentText ((t ++ 45 ∷ []) ++ u) y z) (sym (append_assoc a (b ∷ []) s)) (subst (λ y. CommentText y (a ++ b ∷ s) z) (sym (append_assoc t (45 ∷ []) u)) one),
-      )),
+      (
+        e,
+        (
+          a ++ b ∷ [],
+          ap (λ z. z ++ b ∷ []) er,
+          λ u s z h.
+              let long : CommentText (45 ∷ u) (45 ∷ 45 ∷ 45 ∷ s) z = (45 ∷ 45 ∷ s, refl, refl, h) in
+              let one = back (45 ∷ u) (b ∷ s) z (subst (λ y. CommentText (45 ∷ u) (45 ∷ 45 ∷ y ∷ s) z) (sym k) long) in
+              subst (λ y. CommentText ((t ++ 45 ∷ []) ++ u) y z) (sym (append_assoc a (b ∷ []) s)) (subst (λ y. CommentText y (a ++ b ∷ s) z) (sym (append_assoc t (45 ∷ []) u)) one),
+        ),
+      ),
     )
 
 note_end : (m : Machine) (t : List ℕ) (n : Dashes) (o : List Event) (ws : List (List ℕ)) (r a : List ℕ) (b : ℕ) → b ≡ 62 → is_two n ≡ true → ws ≡ m.opened → r ≡ 60 ∷ 33 ∷ 45 ∷ 45 ∷ a → NoteBack t n a → Next o ws (r ++ b ∷ []) (after_leaf m (CommentEvent t))
@@ -125,14 +128,17 @@ note_next : (m : Machine) (t : List ℕ) (n : Dashes) (o : List Event) (ws : Lis
 note_next m t n o ws r a b f g e er back =
     inl (
       tt,
-      (e, (
-        a ++ b ∷ [],
-        ap (λ z. z ++ b ∷ []) er,
-        λ u s z h.
-            let one = back (dashes n ++ b ∷ u) (b ∷ s) z (remark_more n b u s z f g h) in
-            let j : t ++ (dashes n ++ b ∷ u) ≡ (t ++ (dashes n ++ b ∷ [])) ++ u = sym (simp append_assoc) in
-            subst (λ y. CommentText ((t ++ (dashes n ++ b ∷ [])) ++ u) y z) (sym (append_assoc a (b ∷ []) s)) (subst (λ y. CommentText y (a ++ b ∷ s) z) j one),
-      )),
+      (
+        e,
+        (
+          a ++ b ∷ [],
+          ap (λ z. z ++ b ∷ []) er,
+          λ u s z h.
+              let one = back (dashes n ++ b ∷ u) (b ∷ s) z (remark_more n b u s z f g h) in
+              let j : t ++ (dashes n ++ b ∷ u) ≡ (t ++ (dashes n ++ b ∷ [])) ++ u = sym (simp append_assoc) in
+              subst (λ y. CommentText ((t ++ (dashes n ++ b ∷ [])) ++ u) y z) (sym (append_assoc a (b ∷ []) s)) (subst (λ y. CommentText y (a ++ b ∷ s) z) j one),
+        ),
+      ),
     )
 
 -- `</`
@@ -312,10 +318,10 @@ next_spotted d c s m h b m1 e (inr (token, ready)) =
 spotted_more : (d c : ℕ) (s : List ℕ) (m : Machine) (b : ℕ) (m1 : Machine) → run c (start d) s ≡ Some m → Spotted d c s m → step c m b ≡ Some m1 → Spotted d c (s ++ b ∷ []) m1
 spotted_more d c s m b m1 e h k =
     let f : IsReady m.lex → (flushed_at m.lex m).out ≡ emitted h.before = λ ready.
-        let all : s ≡ h.whole = h.split ∙ ap (λ z. h.whole ++ z) (ready_empty m.lex m.opened h.open_there h.rest ready h.spot) ∙ app_nil h.whole in
-        let same : Some m ≡ Some h.before = sym e ∙ ap (λ z. run c (start d) z) all ∙ h.ran in
-        let is : m ≡ h.before = cc in
-        ap (λ z. emitted z) is in
+    let all : s ≡ h.whole = h.split ∙ ap (λ z. h.whole ++ z) (ready_empty m.lex m.opened h.open_there h.rest ready h.spot) ∙ app_nil h.whole in
+    let same : Some m ≡ Some h.before = sym e ∙ ap (λ z. run c (start d) z) all ∙ h.ran in
+    let is : m ≡ h.before = cc in
+    ap (λ z. emitted z) is in
     let x = spot_step c m.lex m b (emitted h.before) h.open_there h.rest h.spot h.told f in
     next_spotted d c s m h b m1 (one_more c d s b m e ∙ k) (on_get (λ z. Next (emitted h.before) h.open_there (h.rest ++ b ∷ []) z) (step c m b) m1 x k)
 

@@ -180,6 +180,7 @@ one_more p b =
     none Stop h = tt
     none (More q) h = elim h [ ]
     none (Done x) h = tt
+
     other : (o : Turn) → b ≢ 59 → OneMore b o
     other Stop h = tt
     other (More q) h = h
