@@ -135,8 +135,8 @@ note_next m t n o ws r a b f g e er back =
           ap (λ z. z ++ b ∷ []) er,
           λ u s z h.
               let one = back (dashes n ++ b ∷ u) (b ∷ s) z (remark_more n b u s z f g h) in
-              let j : t ++ (dashes n ++ b ∷ u) ≡ (t ++ (dashes n ++ b ∷ [])) ++ u = sym (simp append_assoc) in
-              subst (λ y. CommentText ((t ++ (dashes n ++ b ∷ [])) ++ u) y z) (sym (append_assoc a (b ∷ []) s)) (subst (λ y. CommentText y (a ++ b ∷ s) z) j one),
+              let j : (t ++ (dashes n ++ b ∷ [])) ++ u ≡ t ++ (dashes n ++ b ∷ u) = simp append_assoc in
+              subst (λ y. CommentText ((t ++ (dashes n ++ b ∷ [])) ++ u) y z) (sym (append_assoc a (b ∷ []) s)) (subst (λ y. CommentText y (a ++ b ∷ s) z) (sym j) one),
         ),
       ),
     )

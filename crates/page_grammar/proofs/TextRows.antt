@@ -24,13 +24,13 @@ abbrev LackAll : List (List ℕ) → Type 0
 LackAll [] = Unit {0}
 LackAll (w ∷ ws) = Lacks 62 w × LackAll ws
 
-name_62 : (y : ℕ) → is_name_char y ≡ true → lower y ≡ 62 → ⊥
+name_not_62 : (y : ℕ) → is_name_char y ≡ true → lower y ≡ 62 → ⊥
 unfolding is_name_char is_letter is_digit lower
-name_62 y h e = grind (arith, nat_tests)
+name_not_62 y h e = grind (arith, nat_tests)
 
-letter_62 : (y : ℕ) → is_letter y ≡ true → lower y ≡ 62 → ⊥
+letter_not_62 : (y : ℕ) → is_letter y ≡ true → lower y ≡ 62 → ⊥
 unfolding is_letter lower
-letter_62 y h e = grind (arith, nat_tests)
+letter_not_62 y h e = grind (arith, nat_tests)
 
 lower_62 : lower 62 ≡ 62
 unfolding lower
@@ -38,11 +38,11 @@ lower_62 = refl
 
 chars_lack : (w a b : List ℕ) → NameChars w a b → Lacks 62 w
 chars_lack [] a b h = tt
-chars_lack (x ∷ xs) a b (y, m, e, lo, ok, h) = (λ k. name_62 y ok (lo ∙ k), chars_lack xs m b h)
+chars_lack (x ∷ xs) a b (y, m, e, lo, ok, h) = (λ k. name_not_62 y ok (lo ∙ k), chars_lack xs m b h)
 
 name_lacks : (w a b : List ℕ) → page.ElementName w a b → Lacks 62 w
 name_lacks [] a b h = elim h [ ]
-name_lacks (x ∷ xs) a b (y, m, e, lo, ok, h) = (λ k. letter_62 y ok (lo ∙ k), chars_lack xs m b h)
+name_lacks (x ∷ xs) a b (y, m, e, lo, ok, h) = (λ k. letter_not_62 y ok (lo ∙ k), chars_lack xs m b h)
 
 token_lacks : (vs ws : List (List ℕ)) (t : List ℕ) → IsToken vs ws t → LackAll vs → LackAll ws
 token_lacks vs ws t (inl (x, one, e)) h = subst LackAll (sym e) h
