@@ -1,12 +1,12 @@
 -- Where the machine stands, in the words of the tokens before it.
-use Rattle.std.proofs.Common.{◌≡◌, ◌≢◌, ℕ, zero, suc, ◌+◌, ◌<◌, Bool, true, false, ◌&&◌, ◌||◌, ◌⊎◌, inl, inr, List, [], ◌∷◌, ◌++◌, Option, Some, None, refl, sym, ap, ◌∙◌, subst, append_assoc}
+use Rattle.std.proofs.Common.{◌≡◌, ℕ, suc, true, false, ◌&&◌, ◌||◌, ◌⊎◌, inl, inr, List, [], ◌∷◌, ◌++◌, Option, Some, None, refl, sym, ap, ◌∙◌, subst, append_assoc}
 use Rattle.std.specs.Prelude.{◌==◌, if◌then◌else◌}
 use Rattle.std.proofs.lemmas.Bool.{cases_Bool, eqb-false}
 use Rattle.page_grammar.specs.Chars.{is_space, lower, is_letter, is_name_char}
 use Rattle.page_grammar.specs.Names.{is_void, is_refused}
 use Rattle.page_grammar.specs.Page as page
-use Rattle.page_grammar.specs.Page.{Attribute, Spaces, OneChar, StartTag, NameAgain, EndTag, CommentText}
-use Rattle.page_grammar.specs.Machine.{Event, TextEvent, CommentEvent, OpenEvent, CloseEvent, Reference, Amp, Lexical, Data, InText, TextReference, TagOpen, MarkupDeclaration, CommentStart, InComment, TagName, BeforeAttributeName, AttributeName, AfterAttributeName, BeforeAttributeValue, InAttributeValue, ValueReference, AfterAttributeValue, SelfClosing, EndTagName, AfterEndTagName, Machine, start, at, has_room, is_some_open, less, after_leaf, begin_tag, after_start, after_void, started, after_end, slash, tag_end, Dashes, NoDash, OneDash, TwoDashes, is_two, dash, dashes, step_at, step, run, then_run, IsReady, flushed_at, flushed, emitted}
+use Rattle.page_grammar.specs.Page.{Attribute, Spaces, NameAgain, CommentText}
+use Rattle.page_grammar.specs.Machine.{Event, TextEvent, CommentEvent, Amp, Lexical, Data, InText, TextReference, TagOpen, MarkupDeclaration, CommentStart, InComment, TagName, BeforeAttributeName, AttributeName, AfterAttributeName, BeforeAttributeValue, InAttributeValue, ValueReference, AfterAttributeValue, SelfClosing, EndTagName, AfterEndTagName, Machine, start, at, has_room, is_some_open, less, after_leaf, begin_tag, started, after_end, slash, tag_end, Dashes, NoDash, OneDash, TwoDashes, is_two, dash, dashes, step_at, step, run, IsReady, flushed_at, emitted}
 use Rattle.page_grammar.specs.Tokens.{IsToken, Tokens, Lacks}
 use Rattle.page_grammar.proofs.Facts.{app_nil, same_char, and_parts, On, on_if, on_get, then_some}
 use Rattle.page_grammar.proofs.Sound.{on_map, remark_more}

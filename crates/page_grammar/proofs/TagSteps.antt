@@ -1,12 +1,12 @@
 -- What the machine has read of a start tag, in the grammar's words.
-use Rattle.std.proofs.Common.{◌≡◌, ◌≢◌, ℕ, zero, suc, ◌+◌, ◌<◌, Bool, true, false, ◌&&◌, ◌⊎◌, inl, inr, List, [], ◌∷◌, ◌++◌, length, Option, Some, None, refl, sym, ap, ◌∙◌, subst, arith, append_assoc, length-append}
+use Rattle.std.proofs.Common.{◌≡◌, ◌≢◌, ℕ, zero, suc, ◌<◌, Bool, true, false, ◌&&◌, ◌⊎◌, inl, inr, List, [], ◌∷◌, ◌++◌, length, Option, Some, None, refl, sym, ap, ◌∙◌, subst, arith, append_assoc, length-append}
 use Rattle.std.specs.Prelude.{◌==◌, if◌then◌else◌}
 use Rattle.std.proofs.lemmas.Bool.{cases_Bool, eqb-false}
-use Rattle.page_grammar.specs.Chars.{is_space, lower, is_digit, is_hex, is_referable, digit_of, is_name_char, is_attribute_name_char, is_quote, Entity, entities}
+use Rattle.page_grammar.specs.Chars.{is_space, lower, is_digit, is_hex, is_referable, is_name_char, is_attribute_name_char, is_quote, Entity}
 use Rattle.page_grammar.specs.Names.{is_void, is_refused}
 use Rattle.page_grammar.specs.Page as page
 use Rattle.page_grammar.specs.Page.{Attribute, Spaces, IsBody, OneChar, Text, NameChars, AttributeNameChars, has_attribute, Attributes, StartTag}
-use Rattle.page_grammar.specs.Machine.{Event, Reference, Amp, Named, Hash, Dec, HexMark, Hex, Turn, Stop, More, Done, whole, dec, hex, done, ref_step, Lexical, BeforeAttributeName, AttributeName, AfterAttributeName, BeforeAttributeValue, InAttributeValue, ValueReference, AfterAttributeValue, SelfClosing, Machine, at, started, attribute, with_attribute, tag_end, ref_turn, step_at}
+use Rattle.page_grammar.specs.Machine.{Reference, Amp, Named, Hash, Dec, HexMark, Hex, Turn, Stop, More, Done, whole, ref_step, Lexical, BeforeAttributeName, AttributeName, AfterAttributeName, BeforeAttributeValue, InAttributeValue, ValueReference, AfterAttributeValue, SelfClosing, Machine, at, started, attribute, with_attribute, tag_end, ref_turn, step_at}
 use Rattle.page_grammar.specs.Tokens.{TagUpTo, KeyUpTo, QuoteUpTo, Lacks}
 use Rattle.page_grammar.proofs.Facts.{app_nil, same_char, and_parts, On, on_if}
 use Rattle.page_grammar.proofs.Sound.{ReferenceRest, TurnBack, WholeIs, whole_is, ref_back}

@@ -1,8 +1,8 @@
 -- Where in a token a place stands: the machine's state says the same as the text before it.
-use Rattle.std.proofs.Common.{◌≡◌, ◌≢◌, ℕ, zero, suc, ◌+◌, ◌<◌, Bool, true, false, ◌&&◌, ◌||◌, ◌⊎◌, inl, inr, List, [], ◌∷◌, ◌++◌, length, Option, Some, None, refl, sym, ap, ◌∙◌, subst, arith, append_assoc}
+use Rattle.std.proofs.Common.{◌≡◌, ℕ, zero, suc, ◌+◌, ◌<◌, Bool, true, false, ◌&&◌, ◌||◌, ◌⊎◌, inl, inr, List, [], ◌∷◌, ◌++◌, length, Some, None, refl, sym, ap, ◌∙◌, subst, arith, append_assoc}
 use Rattle.std.specs.Prelude.{nat_le, ◌==◌, if◌then◌else◌}
 use Rattle.std.proofs.Math.Bool.{or-true}
-use Rattle.std.proofs.lemmas.Bool.{eqb-false, ne_eqb}
+use Rattle.std.proofs.lemmas.Bool.{ne_eqb}
 use Rattle.std.proofs.lemmas.Bool.Decides.{nat_tests}
 use Rattle.page_grammar.specs.Chars.{is_space, lower, is_letter, is_digit, is_name_char, entities, is_referable, is_hex, digit_of, Entity}
 use Rattle.page_grammar.specs.Names.{is_void, is_refused}
@@ -10,12 +10,12 @@ use Rattle.page_grammar.specs.Page as page
 use Rattle.page_grammar.specs.Page.{Attribute, Spaces, NameChars, Attributes, StartTag, NameAgain}
 use Rattle.page_grammar.specs.Machine.{Event, Reference, Amp, Named, Hash, Dec, HexMark, Hex, Turn, Stop, More, Done, after_char, whole, more_named, named, dec, hex, done, ref_step, Lexical, Data, InText, TextReference, TagOpen, MarkupDeclaration, CommentStart, TagName, BeforeAttributeName, AttributeName, AfterAttributeName, BeforeAttributeValue, InAttributeValue, ValueReference, AfterAttributeValue, SelfClosing, EndTagName, AfterEndTagName, Machine, start, at, has_room, is_some_open, entered, after_end, tag_end, ref_turn, step_at, step, run, then_run, IsReady, is_none_open, flushed, emitted}
 use Rattle.page_grammar.specs.Tokens.{IsToken, Tokens, EndsWith, TagUpTo, first_or, Lacks, EndsUnsupportedName, EndsRepeatedName, StandsInReference, StandsInEndTag, StandsAfterTagName, StandsAfterLess}
-use Rattle.page_grammar.proofs.Facts.{app_nil, same_char, and_parts, On, on_if, on_get, then_some, name_47, space_62, space_not_name, quote_not_space, quote_not_amp}
+use Rattle.page_grammar.proofs.Facts.{app_nil, and_parts, On, on_if, on_get, then_some, name_47, space_62, space_not_name, quote_not_space, quote_not_amp}
 use Rattle.page_grammar.proofs.Complete.{Host, less_step, key_equals, equals_spaces, value_run, flushed_opened}
 use Rattle.page_grammar.proofs.LongestPrefix.{lex_name, run_append}
 use Rattle.page_grammar.proofs.LexicalRows.{AtUnsupportedName, AtRepeatedName, InReference, InEndTag, AfterTagName, AfterLess}
-use Rattle.page_grammar.proofs.TagSteps.{spaces_more, name_more, tag_more, TagIn, TagNext, name_ends, tag_step}
-use Rattle.page_grammar.proofs.Spots.{Spot, Told, Spotted, spotted}
+use Rattle.page_grammar.proofs.TagSteps.{spaces_more, tag_more, TagIn, TagNext, name_ends, tag_step}
+use Rattle.page_grammar.proofs.Spots.{Spot, Told, spotted}
 use Rattle.page_grammar.proofs.TokenRuns.{room_of, less_is, name_is, key_is, tokens_run, split_run, none_whole}
 
 -- no name of an open element has a `>` in it

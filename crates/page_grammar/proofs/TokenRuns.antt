@@ -1,15 +1,13 @@
 -- What the machine does at whole tokens, and at what follows them.
-use Rattle.std.proofs.Common.{◌≡◌, ◌≢◌, ℕ, zero, suc, ◌+◌, ◌<◌, ◌≤◌, Bool, true, false, ◌&&◌, ◌||◌, ◌⊎◌, inl, inr, List, [], ◌∷◌, ◌++◌, length, Option, Some, None, refl, sym, ap, ◌∙◌, subst, arith, length-append}
+use Rattle.std.proofs.Common.{◌≡◌, ℕ, zero, suc, ◌<◌, ◌≤◌, Bool, true, false, ◌||◌, inl, inr, List, [], ◌∷◌, ◌++◌, length, Option, Some, None, refl, sym, ap, ◌∙◌, subst, arith, length-append}
 use Rattle.std.specs.Prelude.{◌==◌, if◌then◌else◌}
 use Rattle.std.proofs.lemmas.Bool.{cases_Bool, ne_eqb}
-use Rattle.std.proofs.Math.Bool.{or-true}
-use Rattle.page_grammar.specs.Chars.{is_letter}
 use Rattle.page_grammar.specs.Names.{is_void}
 use Rattle.page_grammar.specs.Page as page
-use Rattle.page_grammar.specs.Page.{Attribute, OneChar, StartTag, EndTag, CommentText}
-use Rattle.page_grammar.specs.Machine.{Event, TextEvent, CommentEvent, OpenEvent, CloseEvent, Amp, Lexical, Data, InText, TextReference, TagOpen, TagName, AttributeName, Machine, start, at, has_room, is_some_open, less, after_leaf, entered, after_start, after_void, started, after_end, NoDash, step_at, step, run, then_run, IsReady, flushed, emitted, quiet, after_emitting}
+use Rattle.page_grammar.specs.Page.{Attribute, OneChar, StartTag}
+use Rattle.page_grammar.specs.Machine.{Event, CommentEvent, OpenEvent, CloseEvent, Lexical, Data, InText, TextReference, TagOpen, TagName, AttributeName, Machine, start, at, has_room, is_some_open, less, after_leaf, entered, started, after_end, NoDash, step, run, then_run, IsReady, flushed, emitted, quiet, after_emitting}
 use Rattle.page_grammar.specs.Tokens.{IsToken, Tokens, TagUpTo, KeyUpTo}
-use Rattle.page_grammar.proofs.Facts.{app_nil, then_some, letter_not_slash}
+use Rattle.page_grammar.proofs.Facts.{then_some, letter_not_slash}
 use Rattle.page_grammar.proofs.Complete.{body_run, less_step, first_name, attributes_run, gap_run, key_first, at_name, start_run, end_tag, note_run, flushed_opened}
 use Rattle.page_grammar.proofs.LongestPrefix.{run_append}
 use Rattle.page_grammar.proofs.Outputs.{step_tells}
