@@ -100,7 +100,7 @@ body_feeds w x (inl e) = entity_feeds w x e
 body_feeds w x (inr (inl (ds, e, some, h, v, rf))) = rw e (dec_first x ds some h v rf)
 body_feeds w x (inr (inr (y, ds, e, ly, some, h, v, rf))) = rw (e, digit_120 y ly, ly) (hex_first x ds some h v rf)
 
-body_run : (c : ℕ) (m : Machine) (more : Reference → Lexical) (end : ℕ → Lexical) → Host c m more end → (x : ℕ) (w r : List ℕ) → IsBody w x → run c (at m (more Amp)) (w ++ 59 ∷ r) ≡ run c (at m (end x)) r
+pub body_run : (c : ℕ) (m : Machine) (more : Reference → Lexical) (end : ℕ → Lexical) → Host c m more end → (x : ℕ) (w r : List ℕ) → IsBody w x → run c (at m (more Amp)) (w ++ 59 ∷ r) ≡ run c (at m (end x)) r
 body_run c m more end host x w r body =
     ap (λ z. run c (at m (more Amp)) z) (sym (append_assoc w (59 ∷ []) r)) ∙ feed_run c m more end host x (w ++ 59 ∷ []) r Amp (body_feeds w x body)
 
@@ -117,7 +117,7 @@ text_run c (x ∷ xs) t s r m (a, inr (w, e, body), h) =
     let k : (t ++ x ∷ []) ++ xs ≡ t ++ x ∷ xs = append_assoc t (x ∷ []) xs in
     rw e (body_run c m (λ q. TextReference t q) (λ y. InText (t ++ y ∷ [])) (λ p b. refl) x w a body ∙ rw k at ih)
 
-value_run : (c : ℕ) (w : List ℕ) (ts : List Attribute) (key : List ℕ) (q : ℕ) (xs v s r : List ℕ) (m : Machine) → is_quote q ≡ true → Text q xs s r → run c (at m (InAttributeValue w ts key q v)) s ≡ run c (at m (InAttributeValue w ts key q (v ++ xs))) r
+pub value_run : (c : ℕ) (w : List ℕ) (ts : List Attribute) (key : List ℕ) (q : ℕ) (xs v s r : List ℕ) (m : Machine) → is_quote q ≡ true → Text q xs s r → run c (at m (InAttributeValue w ts key q v)) s ≡ run c (at m (InAttributeValue w ts key q (v ++ xs))) r
 value_run c w ts key q [] v s r m iq h = rw (h, app_nil v) refl
 value_run c w ts key q (x ∷ xs) v s r m iq (a, inl (e, nq, n38), h) =
     let ih = value_run c w ts key q xs (v ++ x ∷ []) a r m iq h in
@@ -155,21 +155,21 @@ pub data Tagged : Lexical → List ℕ → List Attribute → Type 0 where
   at_closed : {w : List ℕ} {ts : List Attribute} → Tagged (AfterAttributeValue w ts) w ts
   at_key : {w : List ℕ} {ts : List Attribute} {k : List ℕ} → has_attribute ts k ≡ false → Tagged (AttributeName w ts k) w (with_attribute ts k [])
 
-record Spaces1 (c : ℕ) (m : Machine) (l : Lexical) (w : List ℕ) (ts : List Attribute) (s r : List ℕ) : Type 0 where
-  lex2 : Lexical
-  spaced : Spaced lex2 w ts
-  reads : run c (at m l) s ≡ run c (at m lex2) r
+pub record Spaces1 (c : ℕ) (m : Machine) (l : Lexical) (w : List ℕ) (ts : List Attribute) (s r : List ℕ) : Type 0 where
+  pub lex2 : Lexical
+  pub spaced : Spaced lex2 w ts
+  pub reads : run c (at m l) s ≡ run c (at m lex2) r
 
-record Tags (c : ℕ) (m : Machine) (l : Lexical) (w : List ℕ) (ts : List Attribute) (s r : List ℕ) : Type 0 where
-  lex2 : Lexical
-  tagged : Tagged lex2 w ts
-  reads : run c (at m l) s ≡ run c (at m lex2) r
+pub record Tags (c : ℕ) (m : Machine) (l : Lexical) (w : List ℕ) (ts : List Attribute) (s r : List ℕ) : Type 0 where
+  pub lex2 : Lexical
+  pub tagged : Tagged lex2 w ts
+  pub reads : run c (at m l) s ≡ run c (at m lex2) r
 
 spaced_space : (c : ℕ) (m : Machine) (l : Lexical) (w : List ℕ) (ts : List Attribute) (b : ℕ) → Spaced l w ts → is_space b ≡ true → step_at c m l b ≡ Some (at m l)
 spaced_space c m l w ts b at_gap h = rw h refl
 spaced_space c m l w ts b after_key h = rw h refl
 
-spaces_run : (c : ℕ) (m : Machine) (l : Lexical) (w : List ℕ) (ts : List Attribute) (n : ℕ) (s r : List ℕ) → Spaced l w ts → Spaces n s r → run c (at m l) s ≡ run c (at m l) r
+pub spaces_run : (c : ℕ) (m : Machine) (l : Lexical) (w : List ℕ) (ts : List Attribute) (n : ℕ) (s r : List ℕ) → Spaced l w ts → Spaces n s r → run c (at m l) s ≡ run c (at m l) r
 spaces_run c m l w ts zero s r h sp = ap (λ z. run c (at m l) z) sp
 spaces_run c m l w ts (suc n) s r h (b, a, e, ok, sp) =
     ap (λ z. run c (at m l) z) e ∙ ap (λ o. then_run o (λ m1. run c m1 a)) (spaced_space c (at m l) l w ts b h ok) ∙ spaces_run c m l w ts n a r h sp
@@ -179,7 +179,7 @@ tagged_space c m l w ts b (at_name {w = w1} nr) h = (BeforeAttributeName w1 [], 
 tagged_space c m l w ts b (at_closed {w = w1} {ts = us}) h = (BeforeAttributeName w1 us, at_gap, rw h refl)
 tagged_space c m l w ts b (at_key {w = w1} {ts = us} {k = k} hk) h = (AfterAttributeName w1 us k, after_key, rw (space_not_key b h, hk, h) refl)
 
-gap_run : (c : ℕ) (m : Machine) (l : Lexical) (w : List ℕ) (ts : List Attribute) (n : ℕ) (s r : List ℕ) → Tagged l w ts → Spaces (suc n) s r → Spaces1 c m l w ts s r
+pub gap_run : (c : ℕ) (m : Machine) (l : Lexical) (w : List ℕ) (ts : List Attribute) (n : ℕ) (s r : List ℕ) → Tagged l w ts → Spaces (suc n) s r → Spaces1 c m l w ts s r
 gap_run c m l w ts n s r h (b, a, e, ok, sp) =
     let x = tagged_space c (at m l) l w ts b h ok in
     record {
@@ -223,11 +223,11 @@ tag_end_run c m l w ts s r h (suc n, a, sp, k) =
     let x = gap_run c m l w ts n s a h sp in
     x.reads ∙ close_run c m x.lex2 w ts a r (spaced_62 c (at m x.lex2) x.lex2 w ts x.spaced) (spaced_47 c (at m x.lex2) x.lex2 w ts x.spaced) k
 
-equals_spaces : (c : ℕ) (m : Machine) (w : List ℕ) (ts : List Attribute) (k : List ℕ) (n : ℕ) (s r : List ℕ) → Spaces n s r → run c (at m (BeforeAttributeValue w ts k)) s ≡ run c (at m (BeforeAttributeValue w ts k)) r
+pub equals_spaces : (c : ℕ) (m : Machine) (w : List ℕ) (ts : List Attribute) (k : List ℕ) (n : ℕ) (s r : List ℕ) → Spaces n s r → run c (at m (BeforeAttributeValue w ts k)) s ≡ run c (at m (BeforeAttributeValue w ts k)) r
 equals_spaces c m w ts k zero s r sp = ap (λ z. run c (at m (BeforeAttributeValue w ts k)) z) sp
 equals_spaces c m w ts k (suc n) s r (b, a, e, ok, sp) = rw (e, ok) (equals_spaces c m w ts k n a r sp)
 
-key_equals : (c : ℕ) (m : Machine) (w : List ℕ) (ts : List Attribute) (k : List ℕ) (n : ℕ) (s a : List ℕ) → has_attribute ts k ≡ false → Spaces n s (61 ∷ a) → run c (at m (AttributeName w ts k)) s ≡ run c (at m (BeforeAttributeValue w ts k)) a
+pub key_equals : (c : ℕ) (m : Machine) (w : List ℕ) (ts : List Attribute) (k : List ℕ) (n : ℕ) (s a : List ℕ) → has_attribute ts k ≡ false → Spaces n s (61 ∷ a) → run c (at m (AttributeName w ts k)) s ≡ run c (at m (BeforeAttributeValue w ts k)) a
 key_equals c m w ts k zero s a hk e = rw (e, key_61, hk, space_61) refl
 key_equals c m w ts k (suc n) s a hk (b, a1, e, ok, sp) =
     rw (e, space_not_key b ok, hk, ok) (spaces_run c m (AfterAttributeName w ts k) w (with_attribute ts k []) n a1 (61 ∷ a) after_key sp ∙ rw space_61 refl)
@@ -243,13 +243,13 @@ value_tag c m w ts k v s r hk (inr (n, a, i, q, b, sp, si, iq, tx)) =
       reads = key_equals c m w ts k n s a hk sp ∙ equals_spaces c m w ts k i a (q ∷ b) si ∙ quote ∙ value_run c w ts k q v [] b (q ∷ r) m iq tx ∙ close;
     }
 
-key_first : (c : ℕ) (m : Machine) (l : Lexical) (w : List ℕ) (ts : List Attribute) (k s r : List ℕ) → Spaced l w ts → 0 < length k → AttributeNameChars k s r → run c (at m l) s ≡ run c (at m (AttributeName w ts k)) r
+pub key_first : (c : ℕ) (m : Machine) (l : Lexical) (w : List ℕ) (ts : List Attribute) (k s r : List ℕ) → Spaced l w ts → 0 < length k → AttributeNameChars k s r → run c (at m l) s ≡ run c (at m (AttributeName w ts k)) r
 key_first c m l w ts [] s r h some kc = absurd (omega arith)
 key_first c m l w ts (x ∷ xs) s r h some (b, a, e, lo, ok, kc) =
     let k : Some (at m (AttributeName w ts (lower b ∷ []))) ≡ Some (at m (AttributeName w ts (x ∷ []))) = ap (λ z. Some (at m (AttributeName w ts (z ∷ [])))) lo in
     ap (λ z. run c (at m l) z) e ∙ ap (λ o. then_run o (λ m1. run c m1 a)) (spaced_key c (at m l) l w ts b h ok ∙ k) ∙ key_run c w ts xs (x ∷ []) a r m kc
 
-attributes_run : (c : ℕ) (m : Machine) (us : List Attribute) (l : Lexical) (w : List ℕ) (seen : List Attribute) (s r : List ℕ) → Tagged l w seen → Attributes seen us s r → Tags c m l w (seen ++ us) s r
+pub attributes_run : (c : ℕ) (m : Machine) (us : List Attribute) (l : Lexical) (w : List ℕ) (seen : List Attribute) (s r : List ℕ) → Tagged l w seen → Attributes seen us s r → Tags c m l w (seen ++ us) s r
 attributes_run c m [] l w seen s r h e = record { lex2 = l; tagged = subst (λ z. Tagged l w z) (sym (app_nil seen)) h; reads = ap (λ z. run c (at m l) z) e }
 attributes_run c m (u ∷ us) l w seen s r h k =
     let x = gap_run c m l w seen k.0 s k.1 h k.4 in
@@ -261,13 +261,13 @@ attributes_run c m (u ∷ us) l w seen s r h k =
       reads = x.reads ∙ key_first c m x.lex2 w seen u.name k.1 k.2 x.spaced k.5 k.6 ∙ y.reads ∙ z.reads;
     }
 
-first_name : (c : ℕ) (m : Machine) (w s r : List ℕ) → has_room c m ≡ true → page.ElementName w s r → run c (at m TagOpen) s ≡ run c (at (entered m) (TagName w)) r
+pub first_name : (c : ℕ) (m : Machine) (w s r : List ℕ) → has_room c m ≡ true → page.ElementName w s r → run c (at m TagOpen) s ≡ run c (at (entered m) (TagName w)) r
 first_name c m [] s r room h = elim h [ ]
 first_name c m (x ∷ xs) s r room (b, a, e, lo, ok, h) =
     let ih = name_run c xs (x ∷ []) a r (entered m) h in
     rw (e, letter_not_slash b ok, room, letter_not_bang b ok, ok, lo) ih
 
-start_run : (c : ℕ) (m : Machine) (w : List ℕ) (ts : List Attribute) (s a b e r : List ℕ) → has_room c m ≡ true → page.ElementName w a b → is_refused w ≡ false → Attributes [] ts b e → TagEnd w e r → then_run (less c m) (λ m2. run c m2 a) ≡ run c (started (entered m) w ts) r
+pub start_run : (c : ℕ) (m : Machine) (w : List ℕ) (ts : List Attribute) (s a b e r : List ℕ) → has_room c m ≡ true → page.ElementName w a b → is_refused w ≡ false → Attributes [] ts b e → TagEnd w e r → then_run (less c m) (λ m2. run c m2 a) ≡ run c (started (entered m) w ts) r
 start_run c m w ts s a b e r room nm nr h te =
     let x = attributes_run c (entered m) ts (TagName w) w [] b e (at_name nr) h in
     rw room (first_name c m w a b room nm ∙ x.reads ∙ tag_end_run c (entered m) x.lex2 w ts e r x.tagged te)
@@ -286,7 +286,7 @@ pub end_run : (c : ℕ) (n : ℕ) (s r : List ℕ) (m : Machine) → Spaces n s 
 end_run c zero s r m e = rw (e, space_62) refl
 end_run c (suc n) s r m (b, a, e, ok, sp) = rw (e, ok) (end_gap c n a r m sp)
 
-less_step : (c : ℕ) (m : Machine) (l : Lexical) → IsReady l → step_at c m l 60 ≡ less c (flushed_at l m)
+pub less_step : (c : ℕ) (m : Machine) (l : Lexical) → IsReady l → step_at c m l 60 ≡ less c (flushed_at l m)
 less_step c m Data h = refl
 less_step c m (InText t) h = refl
 less_step c m l h = elim h [ ]
@@ -365,7 +365,7 @@ note_end c s [] t TwoDashes r m two h =
     rw (e, app_nil t) refl
 note_end c s (x ∷ xs) t TwoDashes r m two (q, e, nc, k) = cc
 
-note_run : (c : ℕ) (s u t : List ℕ) (n : Dashes) (r : List ℕ) (m : Machine) → CommentText u (dashes n ++ s) r → run c (at m (InComment t n)) s ≡ run c (after_leaf m (CommentEvent (t ++ u))) r
+pub note_run : (c : ℕ) (s u t : List ℕ) (n : Dashes) (r : List ℕ) (m : Machine) → CommentText u (dashes n ++ s) r → run c (at m (InComment t n)) s ≡ run c (after_leaf m (CommentEvent (t ++ u))) r
 note_run c [] u t n r m h = let long = remark_long u (dashes n ++ []) r h in let short = dashes_short n in absurd (omega arith)
 note_run c (b ∷ s) u t n r m h =
     let ih : NoteIh c s r m = λ u2 t2 n2 h2. note_run c s u2 t2 n2 r m h2 in

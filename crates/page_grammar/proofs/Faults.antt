@@ -4,7 +4,7 @@ use Rattle.std.specs.Prelude.{nat_lt, if◌then◌else◌}
 use Rattle.std.proofs.Math.Seq.{take-append_seam, drop-append_seam}
 use Rattle.std.proofs.lemmas.Bool.{cases_Bool, cases_lt}
 use Rattle.std.proofs.lemmas.Bool.Decides.{nat_tests}
-use Rattle.std.proofs.lemmas.List.{take_all}
+use Rattle.std.proofs.lemmas.List.{take_all, append_cancel_right}
 use Rattle.std.proofs.lemmas.Str.{encodes-append}
 use Rattle.std.proofs.Math.Utf8.{scalar, scalars, encode, encodes, next}
 use Rattle.page_grammar.specs.Machine.{Lexical, Data, InText, Machine, run, start, step, IsReady, IsEnd, is_none_open}
@@ -12,17 +12,19 @@ use Rattle.page_grammar.specs.Decoder.{Pending, Decoded, Bad, Part, Whole, decod
 use Rattle.page_grammar.specs.Reader.{Reader, begin, takes_wide, read_whole, read_decoded, read_byte, read_bytes}
 use Rattle.page_grammar.specs.Bytes.{IsPageBytes, BeginsPage, BeginsText, IsBytePlace}
 use Rattle.page_grammar.specs.Kind.{Kind, Unclosed, NotUtf8, TooDeep, Full, page_limit, begins_node, no_room, misplaced, kind_at, kind_decoded, kind_of_byte, fault_next, fault_at_end, fault_from, text_fault, page_fault}
-use Rattle.page_grammar.specs.Rows.{BeginsSomePage, MakesTooDeep, MakesFull, EndsUnsupportedName, EndsRepeatedName, StandsInReference, StandsInEndTag, StandsAfterTagName, StandsAfterLess, AtByte, Row, lexical_kinds, IsFirst, IsFault}
-use Rattle.page_grammar.proofs.Facts.{app_nil, and_parts, both_true, scalars_app, scalars_split}
+use Rattle.page_grammar.specs.Tokens.{EndsUnsupportedName, EndsRepeatedName, StandsInReference, StandsInEndTag, StandsAfterTagName, StandsAfterLess}
+use Rattle.page_grammar.specs.Rows.{BeginsSomePage, MakesTooDeep, MakesFull, IsPart, AtPlace, Row, lexical_kinds, IsFirst, IsFault}
+use Rattle.page_grammar.proofs.Facts.{app_nil, and_parts, ascii_scalar, both_true, scalars_app, scalars_split}
 use Rattle.page_grammar.proofs.Complete.{page_read}
 use Rattle.page_grammar.proofs.Sound.{page_only}
-use Rattle.page_grammar.proofs.Decoding.{due_byte, last_bytes, DecodedIs, Held, decoded, encode_two, lt_test, ge_test}
+use Rattle.page_grammar.proofs.Decoding.{due_byte, last_bytes, DecodedIs, Held, decoded, encode_one, encode_two, lt_test, ge_test}
 use Rattle.page_grammar.proofs.Wide.{wide_none, wide_some}
 use Rattle.page_grammar.proofs.Limits.{shift, room_for, begins_shift}
 use Rattle.page_grammar.proofs.Reading.{Reads, reads_start, all_reads, byte_goes, begins_less, reads_begins, live_start, peel, no_nil, no_whole, front_of}
 use Rattle.page_grammar.proofs.WiderReading.{more_limits, read_one_more, refused_at, goes_at, Fits, refuse, accept, same_refusal}
 use Rattle.page_grammar.proofs.Trees.{depth_fits, shallow, labelled_below}
 use Rattle.page_grammar.proofs.LexicalRows.{LexicalRow, lexical_first}
+use Rattle.page_grammar.proofs.TextRows.{rows_agree}
 
 -- room
 
@@ -178,36 +180,79 @@ cut p b t =
       rest = drop-append_seam p (b ∷ t);
     }
 
-to_byte : (d c : ℕ) (s p : List ℕ) (b : ℕ) (t : List ℕ) (r : Reader) (P : Machine → ℕ → Type 0) → Cut s p b t → read_bytes c (begin d) p ≡ Some r → P r.machine b → AtByte d c s (length p) P
-to_byte d c s p b t r P k e h = (r, b, t, ap (λ z. read_bytes c (begin d) z) k.before ∙ e, k.rest, h)
+part_of : (o : Option Pending) (q : List ℕ) → Held o q → IsPart q
+part_of None q e =
+    let small : 97 < 128 = omega arith in
+    let some : 0 < length (97 ∷ []) = omega arith in
+    (97, 97 ∷ [], ascii_scalar 97 refl, encode_one 97 small ∙ ap (λ z. z ++ 97 ∷ []) (sym e), some)
+part_of (Some w) q a =
+    let x = a.some in
+    let y = a.begins x.0 x.2 in
+    let t = due_byte w.after x.0 ∷ last_bytes w.after x.0 in
+    let some : 0 < length t = omega arith in
+    (x.0, t, y.0, y.2, some)
 
-from_byte : (d c : ℕ) (s p : List ℕ) (b : ℕ) (t : List ℕ) (r : Reader) (P : Machine → ℕ → Type 0) → Cut s p b t → read_bytes c (begin d) p ≡ Some r → AtByte d c s (length p) P → P r.machine b
-from_byte d c s p b t r P k e (r2, b2, t2, e2, f2, h) =
-    let z : Some r2 ≡ Some r = sym e2 ∙ ap (λ z. read_bytes c (begin d) z) k.before ∙ e in
-    let same : r2 ≡ r = cc in
-    let y : b2 ∷ t2 ≡ b ∷ t = sym f2 ∙ k.rest in
+-- a list that ends in x
+ends_in : (cs ds es : List ℕ) (x : ℕ) → cs ++ x ∷ [] ≡ ds ++ es → 0 < length es → (fs : List ℕ) × (cs ≡ ds ++ fs) × (es ≡ fs ++ x ∷ [])
+ends_in cs [] es x e h = (cs, refl, sym e)
+ends_in [] (y ∷ ds) es x e h = let k : 1 ≡ suc (length ds + length es) = ap length e ∙ ap suc (length-append ds es) in absurd (omega arith)
+ends_in (z ∷ cs) (y ∷ ds) es x e h =
+    let hd : z ≡ y = cc in
+    let tl : cs ++ x ∷ [] ≡ ds ++ es = cc in
+    let r = ends_in cs ds es x tl h in
+    (r.0, ap (λ v. v ∷ cs) hd ∙ ap (λ v. y ∷ v) r.1, r.2)
+
+-- the whole characters of what is read
+chars_are : (d c : ℕ) (p : List ℕ) (r : Reader) (h : Reads d c p r) (cs q : List ℕ) → scalars cs ≡ true → IsPart q → p ≡ encodes cs ++ q → cs ≡ h.chars
+chars_are d c p r h cs q s (x, t, sx, ex, some) e =
+    let last : encodes (x ∷ []) ≡ q ++ t = app_nil (encode x) ∙ ex in
+    let one : encodes (cs ++ x ∷ []) ≡ encodes h.chars ++ (h.held ++ t) =
+    encodes-append cs (x ∷ []) ∙ ap (λ z. encodes cs ++ z) last ∙ sym (append_assoc (encodes cs) q t) ∙ ap (λ z. z ++ t) (sym e ∙ h.all) ∙ append_assoc (encodes h.chars) h.held t in
+    let y = peel h.chars (cs ++ x ∷ []) (h.held ++ t) one (scalars_app cs (x ∷ []) s (both_true (scalar x) true sx refl)) in
+    let long : 0 < length y.0 = not_nil y.0 y.2 in
+    let z = ends_in cs h.chars y.0 x y.1 long in
+    let front : encodes z.0 ++ (q ++ t) ≡ h.held ++ t = ap (λ v. encodes z.0 ++ v) (sym last) ∙ sym (encodes-append z.0 (x ∷ [])) ∙ ap encodes (sym z.2) ∙ y.2 in
+    let held : encodes z.0 ++ q ≡ h.held = append_cancel_right (encodes z.0 ++ q) h.held t (append_assoc (encodes z.0) q t ∙ front) in
+    z.1 ∙ ap (λ v. h.chars ++ v) (none z.0 held) ∙ app_nil h.chars
+  where
+    not_nil : (es : List ℕ) → encodes es ≡ h.held ++ t → 0 < length es
+    not_nil [] k = let l : 0 ≡ length h.held + length t = ap length k ∙ length-append h.held t in absurd (omega arith)
+    not_nil (y ∷ es) k = omega arith
+
+    none : (fs : List ℕ) → encodes fs ++ q ≡ h.held → fs ≡ []
+    none [] k = refl
+    none (y ∷ fs) k = no_whole r.part h.held (encodes fs ++ q) y h.front (sym k ∙ append_assoc (encode y) (encodes fs) q)
+
+to_place : (d c : ℕ) (s p : List ℕ) (b : ℕ) (t : List ℕ) (r : Reader) (h : Reads d c p r) (P : List ℕ → ℕ → Type 0) → Cut s p b t → P h.chars b → AtPlace s (length p) P
+to_place d c s p b t r h P k x = (h.chars, h.held, b, t, h.plain, part_of r.part h.held h.front, k.before ∙ h.all, k.rest, x)
+
+from_place : (d c : ℕ) (s p : List ℕ) (b : ℕ) (t : List ℕ) (r : Reader) (h : Reads d c p r) (P : List ℕ → ℕ → Type 0) → Cut s p b t → AtPlace s (length p) P → P h.chars b
+from_place d c s p b t r h P k (cs, q, b2, t2, plain, part, e, f, x) =
+    let same = chars_are d c p r h cs q plain part (sym k.before ∙ e) in
+    let y : b2 ∷ t2 ≡ b ∷ t = sym f ∙ k.rest in
     let byte : b2 ≡ b = cc in
-    subst (λ z. P r.machine z) byte (subst (λ z. P z.machine b2) same h)
+    subst (λ z. P h.chars z) byte (subst (λ z. P z b2) same x)
 
-lexical_alike : (d c : ℕ) (s p : List ℕ) (b : ℕ) (t : List ℕ) (r : Reader) → Cut s p b t → read_bytes c (begin d) p ≡ Some r → Alike (LexicalRow r.machine.lex r.machine.opened b) (Row d c s (length p)) lexical_kinds
-lexical_alike d c s p b t r k e =
-    let to = λ (P : Machine → ℕ → Type 0). to_byte d c s p b t r P k e in
-    let from = λ (P : Machine → ℕ → Type 0). from_byte d c s p b t r P k e in (
-      to (λ m z. EndsUnsupportedName m.lex z),
-      from (λ m z. EndsUnsupportedName m.lex z),
+lexical_alike : (d c : ℕ) (s p : List ℕ) (b : ℕ) (t : List ℕ) (r : Reader) → Cut s p b t → Reads d c p r → Alike (LexicalRow r.machine.lex r.machine.opened b) (Row d c s (length p)) lexical_kinds
+lexical_alike d c s p b t r k h =
+    let to = λ (P : List ℕ → ℕ → Type 0). to_place d c s p b t r h P k in
+    let from = λ (P : List ℕ → ℕ → Type 0). from_place d c s p b t r h P k in
+    let a = rows_agree d c h.chars r.machine b h.ran in (
+      λ x. to (λ cs z. EndsUnsupportedName cs z) (a.unsupported x),
+      λ x. a.unsupported_back (from (λ cs z. EndsUnsupportedName cs z) x),
       (
-        to (λ m z. EndsRepeatedName m.lex z),
-        from (λ m z. EndsRepeatedName m.lex z),
+        λ x. to (λ cs z. EndsRepeatedName cs z) (a.repeated x),
+        λ x. a.repeated_back (from (λ cs z. EndsRepeatedName cs z) x),
         (
-          to (λ m z. StandsInReference m.lex),
-          from (λ m z. StandsInReference m.lex),
+          λ x. to (λ cs z. StandsInReference cs) (a.reference x),
+          λ x. a.reference_back (from (λ cs z. StandsInReference cs) x),
           (
-            to (λ m z. StandsInEndTag m.lex m.opened z),
-            from (λ m z. StandsInEndTag m.lex m.opened z),
+            λ x. to (λ cs z. StandsInEndTag cs z) (a.stray x),
+            λ x. a.stray_back (from (λ cs z. StandsInEndTag cs z) x),
             (
-              to (λ m z. StandsAfterTagName m.lex z),
-              from (λ m z. StandsAfterTagName m.lex z),
-              (to (λ m z. StandsAfterLess m.lex), from (λ m z. StandsAfterLess m.lex), tt),
+              λ x. to (λ cs z. StandsAfterTagName cs z) (a.after x),
+              λ x. a.after_back (from (λ cs z. StandsAfterTagName cs z) x),
+              (λ x. to (λ cs z. StandsAfterLess cs) (a.less x), λ x. a.less_back (from (λ cs z. StandsAfterLess cs) x), tt),
             ),
           ),
         ),
@@ -275,8 +320,8 @@ no_room_here d c p b r s t =
     ]
 
 -- the rows behind that of Unclosed and of text
-first_limits : (d c : ℕ) (s p : List ℕ) (b : ℕ) (t : List ℕ) (r : Reader) → Cut s p b t → Stuck d c p b r → step c r.machine b ≡ None → IsFirst (Row d c s (length p)) (TooDeep ∷ Full ∷ lexical_kinds) (kind_at r.machine b)
-first_limits d c s p b t r k u n =
+first_limits : (d c : ℕ) (s p : List ℕ) (b : ℕ) (t : List ℕ) (r : Reader) → Cut s p b t → Reads d c p r → Stuck d c p b r → step c r.machine b ≡ None → IsFirst (Row d c s (length p)) (TooDeep ∷ Full ∷ lexical_kinds) (kind_at r.machine b)
+first_limits d c s p b t r k h u n =
     let R = Row d c s (length p) in
     let m = r.machine in
     let P = p ++ b ∷ [] in
@@ -292,7 +337,7 @@ first_limits d c s p b t r k u n =
       λ z. out (subst (λ q. MakesTooDeep d q) k.after z).0,
       inr (
         λ z. out (subst (λ q. MakesFull c q) k.after z).0,
-        first_alike (LexicalRow m.lex m.opened b) R lexical_kinds (misplaced m.lex b) (lexical_alike d c s p b t r k u.read) (lexical_first c m.lex m b y n),
+        first_alike (LexicalRow m.lex m.opened b) R lexical_kinds (misplaced m.lex b) (lexical_alike d c s p b t r k h) (lexical_first c m.lex m b y n),
       ),
     ))
 
@@ -311,12 +356,12 @@ first_here d c s p b t r k h e n (Part q) dz kz =
     let none : read_decoded c r.machine (Part q) ≡ None = ap (λ z. read_decoded c r.machine z) (sym dz) ∙ n in
     let text = subst (λ q. BeginsText q) (sym k.after) (begins_text d c p b r h (Part q) kz.0 kz) in
     let u : Stuck d c p b r = record { read = e; stops = n; fits = subst (λ z. Fits b z) (sym dz) kz.0 } in
-    inr (λ y. y text, first_limits d c s p b t r k u (step_none d c p b r h (Part q) dz kz kz.0 none))
+    inr (λ y. y text, first_limits d c s p b t r k h u (step_none d c p b r h (Part q) dz kz kz.0 none))
 first_here d c s p b t r k h e n (Whole x) dz kz =
     let none : read_decoded c r.machine (Whole x) ≡ None = ap (λ z. read_decoded c r.machine z) (sym dz) ∙ n in
     let text = subst (λ q. BeginsText q) (sym k.after) (begins_text d c p b r h (Whole x) kz.2 kz) in
     let u : Stuck d c p b r = record { read = e; stops = n; fits = subst (λ z. Fits b z) (sym dz) kz.2 } in
-    inr (λ y. y text, first_limits d c s p b t r k u (step_none d c p b r h (Whole x) dz kz kz.2 none))
+    inr (λ y. y text, first_limits d c s p b t r k h u (step_none d c p b r h (Whole x) dz kz kz.2 none))
 
 -- what the computed fault of a page of any length means
 abbrev TextFault : (d c : ℕ) → List ℕ → Option (ℕ × Kind) → Type 0

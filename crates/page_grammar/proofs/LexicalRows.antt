@@ -8,18 +8,58 @@ use Rattle.page_grammar.specs.Names.{is_refused}
 use Rattle.page_grammar.specs.Page.{has_attribute}
 use Rattle.page_grammar.specs.Machine.{TextEvent, CommentEvent, Amp, Lexical, Data, InText, TextReference, TagOpen, MarkupDeclaration, CommentStart, InComment, TagName, BeforeAttributeName, AttributeName, AfterAttributeName, BeforeAttributeValue, InAttributeValue, ValueReference, AfterAttributeValue, SelfClosing, EndTagName, AfterEndTagName, Machine, at, has_room, is_some_open, is_none_open, after_leaf, slash, NoDash, is_two, dash, dashes, step_at}
 use Rattle.page_grammar.specs.Kind.{Kind, UnsupportedElement, RepeatedAttribute, UnknownReference, StrayEnd, BadAttribute, BadTag, begins_node, misplaced}
-use Rattle.page_grammar.specs.Rows.{EndsUnsupportedName, EndsRepeatedName, StandsInReference, StandsInEndTag, StandsAfterTagName, StandsAfterLess, lexical_kinds, IsFirst}
+use Rattle.page_grammar.specs.Rows.{lexical_kinds, IsFirst}
 use Rattle.page_grammar.proofs.Facts.{same_char}
 use Rattle.page_grammar.proofs.Limits.{neither, not_not}
 
+-- Where in a token the machine stands, b being a byte that it can't read. TextRows has the same of
+-- the text before the byte.
+
+abbrev pub AtUnsupportedName : Lexical → ℕ → Type 0
+AtUnsupportedName (TagName w) b = (is_refused w ≡ true) × (is_name_char b ≡ false)
+AtUnsupportedName l b = ⊥
+
+abbrev pub AtRepeatedName : Lexical → ℕ → Type 0
+AtRepeatedName (AttributeName w ts k) b = (has_attribute ts k ≡ true) × (is_attribute_name_char b ≡ false)
+AtRepeatedName l b = ⊥
+
+abbrev pub InReference : Lexical → Type 0
+InReference (TextReference t p) = Unit {0}
+InReference (ValueReference w ts k q v p) = Unit {0}
+InReference l = ⊥
+
+abbrev pub InEndTag : Lexical → List (List ℕ) → ℕ → Type 0
+InEndTag (EndTagName left) ws b = Unit {0}
+InEndTag AfterEndTagName ws b = Unit {0}
+InEndTag TagOpen ws b = (b ≡ 47) × is_none_open ws
+InEndTag l ws b = ⊥
+
+abbrev pub AfterTagName : Lexical → ℕ → Type 0
+AfterTagName (TagName w) b = is_name_char b ≡ false
+AfterTagName (BeforeAttributeName w ts) b = Unit {0}
+AfterTagName (AttributeName w ts k) b = Unit {0}
+AfterTagName (AfterAttributeName w ts k) b = Unit {0}
+AfterTagName (BeforeAttributeValue w ts k) b = Unit {0}
+AfterTagName (InAttributeValue w ts k q v) b = Unit {0}
+AfterTagName (ValueReference w ts k q v p) b = Unit {0}
+AfterTagName (AfterAttributeValue w ts) b = Unit {0}
+AfterTagName (SelfClosing w ts) b = Unit {0}
+AfterTagName l b = ⊥
+
+abbrev pub AfterLess : Lexical → Type 0
+AfterLess TagOpen = Unit {0}
+AfterLess MarkupDeclaration = Unit {0}
+AfterLess CommentStart = Unit {0}
+AfterLess l = ⊥
+
 -- the rows of one machine and one byte
 abbrev pub LexicalRow : Lexical → List (List ℕ) → ℕ → Kind → Type 0
-LexicalRow l ws b UnsupportedElement = EndsUnsupportedName l b
-LexicalRow l ws b RepeatedAttribute = EndsRepeatedName l b
-LexicalRow l ws b UnknownReference = StandsInReference l
-LexicalRow l ws b StrayEnd = StandsInEndTag l ws b
-LexicalRow l ws b BadAttribute = StandsAfterTagName l b
-LexicalRow l ws b BadTag = StandsAfterLess l
+LexicalRow l ws b UnsupportedElement = AtUnsupportedName l b
+LexicalRow l ws b RepeatedAttribute = AtRepeatedName l b
+LexicalRow l ws b UnknownReference = InReference l
+LexicalRow l ws b StrayEnd = InEndTag l ws b
+LexicalRow l ws b BadAttribute = AfterTagName l b
+LexicalRow l ws b BadTag = AfterLess l
 LexicalRow l ws b x = ⊥
 
 abbrev First : Lexical → Machine → ℕ → Type 0

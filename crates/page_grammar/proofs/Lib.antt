@@ -10,6 +10,10 @@ pub mod Limits
 pub mod WiderReading
 pub mod Trees
 pub mod LexicalRows
+pub mod TagSteps
+pub mod Spots
+pub mod TokenRuns
+pub mod TextRows
 pub mod Faults
 pub mod Characters
 pub mod OnlyFault

@@ -39,7 +39,7 @@ Tag c m w seen s es =
     (ts : List Attribute) × (a : List ℕ) × (r : List ℕ) × Attributes seen ts s a × TagEnd w a r × Follows c m w (seen ++ ts) r es
 
 -- the rest of a reference to x
-abbrev ReferenceRest : Reference → ℕ → List ℕ → List ℕ → Type 0
+abbrev pub ReferenceRest : Reference → ℕ → List ℕ → List ℕ → Type 0
 ReferenceRest Amp x s r = (w : List ℕ) × (s ≡ w ++ 59 ∷ r) × IsBody w x
 ReferenceRest (Named es) x s r = (w : List ℕ) × (s ≡ w ++ 59 ∷ r) × IsEntity es w x
 ReferenceRest Hash x s r = (w : List ℕ) × (s ≡ w ++ 59 ∷ r) × IsBody (35 ∷ w) x
@@ -111,7 +111,7 @@ ref_named : (b : ℕ) (x : ℕ) (es : List Entity) (w : List ℕ) → IsEntity (
 ref_named b x [] w h = elim h [ ]
 ref_named b x (e ∷ es) w h = ref_one b x w es e.name e.char (ref_named b x es w) h
 
-abbrev TurnBack : Reference → ℕ → Turn → Type 0
+abbrev pub TurnBack : Reference → ℕ → Turn → Type 0
 TurnBack p b Stop = Unit {0}
 TurnBack p b (More q) = (x : ℕ) (s r : List ℕ) → ReferenceRest q x s r → ReferenceRest p x (b ∷ s) r
 TurnBack p b (Done x) = (s : List ℕ) → ReferenceRest p x (b ∷ s) s
@@ -121,7 +121,7 @@ turn_if p b true x y f g = f refl
 turn_if p b false x y f g = g refl
 
 -- what is emitted of names that are read whole
-abbrev WholeIs : List Entity → Turn → Type 0
+abbrev pub WholeIs : List Entity → Turn → Type 0
 WholeIs es Stop = Unit {0}
 WholeIs es (More q) = ⊥
 WholeIs es (Done x) = IsEntity es [] x
@@ -135,7 +135,7 @@ whole_name : (e : Entity) (es : List Entity) (name : List ℕ) → e.name ≡ na
 whole_name e es [] k h = inl (sym k, refl)
 whole_name e es (y ∷ ys) k h = whole_next e es (whole es) h
 
-whole_is : (es : List Entity) → WholeIs es (whole es)
+pub whole_is : (es : List Entity) → WholeIs es (whole es)
 whole_is [] = tt
 whole_is (e ∷ es) = whole_name e es e.name refl (whole_is es)
 
@@ -329,7 +329,7 @@ room_of c m h = (grind (arith, nat_tests), grind (arith, nat_tests))
 back_less : (c : ℕ) (m : Machine) (s : List ℕ) (g : List Event) → On (λ m1. Tells c m1 s g → tells_at c TagOpen m s g) (less c m)
 back_less c m s g = on_if (λ m1. Tells c m1 s g → tells_at c TagOpen m s g) (has_room c m || is_some_open m.opened) (Some (at m TagOpen)) None (λ h t. t) (λ h. tt)
 
-on_map : (P Q : Machine → Type 0) (o : Option Machine) → ((m : Machine) → P m → Q m) → On P o → On Q o
+pub on_map : (P Q : Machine → Type 0) (o : Option Machine) → ((m : Machine) → P m → Q m) → On P o → On Q o
 on_map P Q None f h = tt
 on_map P Q (Some m) f h = f m h
 
@@ -456,7 +456,7 @@ back_note_end c t OneDash m b s g e h x = cc
 back_note_end c t TwoDashes m b s g e h (es, sib, e2) =
     (CommentEvent t ∷ es, ([], s, es, ap (λ x. 45 ∷ 45 ∷ x ∷ s) e, sib, ap (λ x. CommentEvent x ∷ es) (sym (app_nil t))), e2 ∙ append_assoc m.out (CommentEvent t ∷ []) es)
 
-remark_more : (n : Dashes) (b : ℕ) (u s r : List ℕ) → (b == 45) ≡ false → (b == 62 && is_two n) ≡ false → CommentText u s r → CommentText (dashes n ++ b ∷ u) (dashes n ++ b ∷ s) r
+pub remark_more : (n : Dashes) (b : ℕ) (u s r : List ℕ) → (b == 45) ≡ false → (b == 62 && is_two n) ≡ false → CommentText u s r → CommentText (dashes n ++ b ∷ u) (dashes n ++ b ∷ s) r
 remark_more NoDash b u s r h k x = (s, refl, rw h refl, x)
 remark_more OneDash b u s r h k x = (b ∷ s, refl, rw h refl, (s, refl, rw h refl, x))
 remark_more TwoDashes b u s r h k x = (45 ∷ b ∷ s, refl, k, (b ∷ s, refl, rw h refl, (s, refl, rw h refl, x)))

@@ -6,6 +6,7 @@ pub mod Decoder
 pub mod Reader
 pub mod Bytes
 pub mod Kind
+pub mod Tokens
 pub mod Rows
 pub mod Nodes
 pub mod Reading

@@ -2,10 +2,10 @@
 //!
 //! The definitions stand in specs/: the relation between characters and children (`Page`), the same
 //! of bytes (`Bytes`), a machine that decides it (`Machine`, `Decoder`, `Reader`), the fault that
-//! it computes (`Kind`), what that fault means (`Rows`), what reading a page answers (`Reading`),
-//! and the document that it makes (`Nodes`, `TreeConstruction`). Each function of this file has an
-//! empty body: its contract is a law about the definitions. The module `classes` has the tests of
-//! characters that readers of tags share.
+//! it computes (`Kind`), what that fault means (`Rows`, `Tokens`), what reading a page answers
+//! (`Reading`), and the document that it makes (`Nodes`, `TreeConstruction`). Each function of this
+//! file has an empty body: its contract is a law about the definitions. The module `classes` has
+//! the tests of characters that readers of tags share.
 #![tactic(auto)]
 
 ghost use Rattle.std.specs.Prelude.{◌≡◌, ◌≤◌, ◌<◌, ◌↔◌, ◌++◌, ℕ, true, List, [], ◌∷◌, Option, Some, None, length, codes};
