@@ -183,8 +183,10 @@ cut p b t =
 part_of : (o : Option Pending) (q : List ℕ) → Held o q → IsPart q
 part_of None q e =
     let small : 97 < 128 = omega arith in
-    let some : 0 < length (97 ∷ []) = omega arith in
-    (97, 97 ∷ [], ascii_scalar 97 refl, encode_one 97 small ∙ ap (λ z. z ++ 97 ∷ []) (sym e), some)
+    let t : List ℕ = 97 ∷ [] in
+    let some : 0 < length t = omega arith in
+    let all : encode 97 ≡ q ++ t = encode_one 97 small ∙ ap (λ (z : List ℕ). z ++ t) (sym e) in
+    (97, t, ascii_scalar 97 refl, all, some)
 part_of (Some w) q a =
     let x = a.some in
     let y = a.begins x.0 x.2 in

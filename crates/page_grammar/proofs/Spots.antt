@@ -160,6 +160,10 @@ text_next m t o ws r b e er f =
     (λ h. inl (tt, (e, ([], one ∙ ap (λ z. z ∷ []) (same_char b 38 h), tt, λ x s z k. k))))
     (λ h. inr (inl (b, inl (one, eqb-false b 60 f, eqb-false b 38 h), sym e), tt))
 
+in_step : (c : ℕ) (l : Lexical) (m : Machine) (b : ℕ) (o : List Event) (ws : List (List ℕ)) (r : List ℕ) → ws ≡ m.opened → TagIn l r → m.out ≡ o → On (λ m1. Next o ws (r ++ b ∷ []) m1) (step_at c m l b)
+in_step c l m b o ws r e h told =
+    on_map (λ m1. TagNext m (lex_name l) (r ++ b ∷ []) m1) (λ m1. Next o ws (r ++ b ∷ []) m1) (step_at c m l b) (tag_next m (lex_name l) o ws (r ++ b ∷ []) e told) (tag_step c m l r b h)
+
 spot_step : (c : ℕ) (l : Lexical) (m : Machine) (b : ℕ) (o : List Event) (ws : List (List ℕ)) (r : List ℕ) → Spot l m.opened ws r → Told l m.out o → (IsReady l → (flushed_at l m).out ≡ o) → On (λ m1. Next o ws (r ++ b ∷ []) m1) (step_at c m l b)
 spot_step c Data m b o ws r (e, er) told f =
     let P : Machine → Type 0 = λ m1. Next o ws (r ++ b ∷ []) m1 in
@@ -240,8 +244,14 @@ spot_step c AfterEndTagName m b o ws r (w, a, d, n, e, er, na, sp) told f =
     (λ h. on_if P (b == 62) (Some (after_end m)) None
     (λ k. inr (inr (inr (inr (w, (a ++ b ∷ [], d ++ b ∷ [], suc n, more, named, subst (λ z. Spaces (suc n) (d ++ b ∷ []) (z ∷ [])) (same_char b 62 k) (spaces_more (suc n) d [] (b ∷ []) sp)), e))), tt))
     (λ k. tt))
-spot_step c l m b o ws r (e, h) told f =
-    on_map (λ m1. TagNext m (lex_name l) (r ++ b ∷ []) m1) (λ m1. Next o ws (r ++ b ∷ []) m1) (step_at c m l b) (tag_next m (lex_name l) o ws (r ++ b ∷ []) e told) (tag_step c m l r b h)
+spot_step c (BeforeAttributeName w ts) m b o ws r (e, h) told f = in_step c (BeforeAttributeName w ts) m b o ws r e h told
+spot_step c (AttributeName w ts k) m b o ws r (e, h) told f = in_step c (AttributeName w ts k) m b o ws r e h told
+spot_step c (AfterAttributeName w ts k) m b o ws r (e, h) told f = in_step c (AfterAttributeName w ts k) m b o ws r e h told
+spot_step c (BeforeAttributeValue w ts k) m b o ws r (e, h) told f = in_step c (BeforeAttributeValue w ts k) m b o ws r e h told
+spot_step c (InAttributeValue w ts k q v) m b o ws r (e, h) told f = in_step c (InAttributeValue w ts k q v) m b o ws r e h told
+spot_step c (ValueReference w ts k q v p) m b o ws r (e, h) told f = in_step c (ValueReference w ts k q v p) m b o ws r e h told
+spot_step c (AfterAttributeValue w ts) m b o ws r (e, h) told f = in_step c (AfterAttributeValue w ts) m b o ws r e h told
+spot_step c (SelfClosing w ts) m b o ws r (e, h) told f = in_step c (SelfClosing w ts) m b o ws r e h told
 
 -- the machine has read s: whole tokens, and r of the next one
 pub record Spotted (d c : ℕ) (s : List ℕ) (m : Machine) : Type 0 where

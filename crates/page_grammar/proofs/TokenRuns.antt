@@ -70,14 +70,14 @@ text_start c Data m m2 x t ready (inl (e, n60, n38)) k =
       | inl room ↦ let here : Some m2 ≡ Some (at m (InText (x ∷ []))) = sym k ∙ rw (e, ne_eqb x 60 n60, room, ne_eqb x 38 n38) refl in
           let is : at m (InText (x ∷ [])) ≡ m2 = cc in
           subst (λ z. Ready m.opened z) is (tt, refl)
-      | inr no ↦ let bad : Some m2 ≡ None = sym k ∙ rw (e, ne_eqb x 60 n60, no) refl in cc
+      | inr full ↦ let bad : Some m2 ≡ None = sym k ∙ rw (e, ne_eqb x 60 n60, full) refl in cc
     ]
 text_start c Data m m2 x t ready (inr (w, e, body)) k =
     elim (cases_Bool (has_room c m)) [
       | inl room ↦ let here : Some m2 ≡ Some (at m (InText (x ∷ []))) = sym k ∙ rw (e, room) (body_run c m (λ q. TextReference [] q) (λ y. InText (y ∷ [])) (λ p b. refl) x w [] body) in
           let is : at m (InText (x ∷ [])) ≡ m2 = cc in
           subst (λ z. Ready m.opened z) is (tt, refl)
-      | inr no ↦ let bad : Some m2 ≡ None = sym k ∙ rw (e, no) refl in cc
+      | inr full ↦ let bad : Some m2 ≡ None = sym k ∙ rw (e, full) refl in cc
     ]
 text_start c (InText u) m m2 x t ready (inl (e, n60, n38)) k =
     let here : Some m2 ≡ Some (at m (InText (u ++ x ∷ []))) = sym k ∙ rw (e, ne_eqb x 60 n60, ne_eqb x 38 n38) refl in
