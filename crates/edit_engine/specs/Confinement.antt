@@ -57,7 +57,7 @@ pub record HasJoined (old new : Editing) (ended : State) : Type 0 where
 -- The node isn't in the document any more: on the way between these two states a command took it out,
 -- with a tree whose root was editable for the host or made by the command. The removal is one of the
 -- edits of the last entry: those of the state in which the command ended are there.
-pub record IsGone (old new : Editing) (l : ℕ) (began ended : State) : Type 0 where
+pub record HasLeft (old new : Editing) (l : ℕ) (began ended : State) : Type 0 where
   pub out : IsWithin new.state.trees 0 l → ⊥
   pub entry : HasEntry old new ended ⊎ HasJoined old new ended
   pub taken : IsTakenOut began ended l
@@ -67,7 +67,7 @@ pub record IsGone (old new : Editing) (l : ℕ) (began ended : State) : Type 0 w
 abbrev pub IsTakenBy : Option Pair → Option Command → List ℕ → Editing → Editing → (h l : ℕ) → Type 0
 IsTakenBy at None v old new h l = ⊥
 IsTakenBy at (Some c) v old new h l =
-    IsGone old new l (begun (Some h) (row_of c).keeping old.state)
+    HasLeft old new l (begun (Some h) (row_of c).keeping old.state)
     (ran (Some h) old.state (row_of c).keeping (run_at at (action_of c v)))
 
 -- each island of the host stands below it, with an equal tree, or the command took it out
