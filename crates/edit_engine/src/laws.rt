@@ -1,5 +1,6 @@
 //! The laws of commands. Each is the contract of a function that does nothing.
 
+ghost use Rattle.edit_engine.specs.KeptLabels.{StayGone};
 ghost use Rattle.edit_engine.specs.PlainRuns.{RunsArePlain};
 ghost use Rattle.edit_engine.specs.Refusals.{RefusalsLeave};
 ghost use Rattle.edit_engine.specs.WorkedIslands.{LockedSpanIsIsland};
@@ -19,4 +20,10 @@ pub fn locked_span_is_island()
 /// What a run makes are elements and texts, and each of its edits of characters is one of a text.
 pub fn runs_are_plain()
     ensures { RunsArePlain }
+{}
+
+/// Where no document that undo and redo lead to has a node of some label, and no edit of a kept
+/// entry names it, that is so after undo and after redo too.
+pub fn gone_labels_stay()
+    ensures { StayGone }
 {}
