@@ -38,8 +38,7 @@ named_there (change.Remove n) f h = (child_there f n h.forest h.here, tt)
 named_there (change.Insert n p b) f h = (h.here.place.node, (h.here.place.parent, before_there f p b h.forest h.here.place.before))
 named_there (change.Move n p b) f h =
     let g = IsForest-unlink f (unwrap_or (parent_of f n) 0) n h.forest (given_parent f n h.here.0) in
-    let same : (m : ℕ) → Has (unlink f n) m → Has f m = λ m has. omega (arith, has, total-unlink (λ k _. cond (eqb k m) 1 0) f n) in
-    (
+    let same : (m : ℕ) → Has (unlink f n) m → Has f m = λ m has. omega (arith, has, total-unlink (λ k _. cond (eqb k m) 1 0) f n) in (
       child_there f n h.forest h.here.0,
       (same p h.here.1.place.parent, each_of (Has (unlink f n)) (Has f) (listed b) same (before_there (unlink f n) p b g h.here.1.place.before)),
     )

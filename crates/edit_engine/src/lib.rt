@@ -24,7 +24,5 @@ mod views;
 pub use answers::{Answer, ExecFault, LogFault, PlaceFault, ReplaceFault, ViewFault, ViewKind};
 pub use edit_query::Reply;
 pub use editor::Editor;
-pub use laws::{
-    gone_labels_stay, locked_span_is_island, refusals_leave_the_state, runs_are_plain,
-};
+pub use laws::{gone_labels_stay, locked_span_is_island, refusals_leave_the_state, runs_are_plain};
 pub use turning::Turn;
