@@ -314,7 +314,7 @@ typedef struct hedit_point {
 uint32_t hedit_find(hedit_editor *editor, uint32_t label, const uint8_t *text, size_t text_length,
                     hedit_point *points, size_t capacity, size_t *count);
 
-/* The points of a selection: labels, and offsets in these nodes. */
+/* The points of a selection or of a mark: labels, and offsets in these nodes. */
 typedef struct hedit_selection_facts {
     uint32_t anchor;
     uint32_t anchor_offset;
@@ -325,6 +325,13 @@ typedef struct hedit_selection_facts {
 /* Gives the points of the selection. HEDIT_DONE, HEDIT_NO where nothing is selected,
  * HEDIT_CLOSED. */
 uint32_t hedit_selection(hedit_editor *editor, hedit_selection_facts *facts);
+
+/* Give the name and the points of a mark by its place in the list of marks, from 0 on: a new mark goes
+ * last, and one that is set anew keeps its place. HEDIT_DONE, HEDIT_NO where the list has no such place,
+ * HEDIT_TOO_SMALL (of the name alone), HEDIT_CLOSED. They take no memory. */
+uint32_t hedit_mark_name(hedit_editor *editor, size_t place, uint8_t *buffer, size_t capacity,
+                         size_t *length);
+uint32_t hedit_mark_range(hedit_editor *editor, size_t place, hedit_selection_facts *facts);
 
 /* Give the HTML and the plain text of what is selected, for the clipboard: what stands between the two
  * points, whichever comes first. The HTML has the children of the innermost node that holds both
@@ -381,6 +388,15 @@ enum hedit_change {
 };
 
 uint32_t hedit_changes(hedit_editor *editor, uint8_t *buffer, size_t capacity, size_t *length);
+
+/* Whether the node of a label is in the document, or may come back by hedit_undo or hedit_redo.
+ * HEDIT_DONE, HEDIT_NO, HEDIT_CLOSED. A node that went and has HEDIT_NO never comes back, so a host
+ * that keeps what it showed of such nodes can forget it. (A label that no node has had yet has HEDIT_NO
+ * too.) A node that went loses HEDIT_DONE only by a command that changes something, which drops the
+ * steps that hedit_redo would take, and the oldest one where there are more than undo_depth: so ask
+ * after commands, and not after hedit_undo and hedit_redo. It takes no memory, and its cost doesn't
+ * grow with the page or the history. */
+uint32_t hedit_is_kept(hedit_editor *editor, uint32_t label);
 
 /* Runs a session, as `hedit run` does over its standard input, and gives the transcript. The
  * status is the number that the program exits with: HEDIT_DONE, HEDIT_MEMORY, HEDIT_PAGE_REFUSED,

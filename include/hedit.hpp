@@ -60,6 +60,13 @@ struct Selection {
     Point focus;
 };
 
+/* A name for what is between two points. The name is any bytes. */
+struct Mark {
+    std::string name;
+    Point anchor;
+    Point focus;
+};
+
 /* What a node is: its kind, the count of its characters or of its children, and the labels of the
  * nodes beside it, where they are there. */
 struct Node {
@@ -426,13 +433,28 @@ class Editor {
         return ChangeReader(packed.value()).changes();
     }
 
+    /* Whether the node of a label is in the page, or may come back by undo or redo. A node that went
+     * and isn't kept never comes back, so what is held of it can be forgotten. */
+    bool is_kept(Label label) { return answer(hedit_is_kept(&handle_, label)); }
+
     /* The points of the selection; none where nothing is selected. */
     std::optional<Selection> selection() {
         hedit_selection_facts facts = {};
         if (!answer(hedit_selection(&handle_, &facts))) {
             return std::nullopt;
         }
-        return Selection{{facts.anchor, facts.anchor_offset}, {facts.focus, facts.focus_offset}};
+        return selection_of(facts);
+    }
+
+    /* The marks: a new one goes last, and one that is set anew keeps its place. */
+    std::vector<Mark> marks() {
+        std::vector<Mark> all;
+        hedit_selection_facts facts = {};
+        while (answer(hedit_mark_range(&handle_, all.size(), &facts))) {
+            Selection range = selection_of(facts);
+            all.push_back({mark_name(all.size()), range.anchor, range.focus});
+        }
+        return all;
     }
 
     /* The HTML and the plain text of what is selected; none where nothing is. */
@@ -579,6 +601,10 @@ class Editor {
         return label == HEDIT_NO_NODE ? std::nullopt : std::optional<Label>(label);
     }
 
+    static Selection selection_of(const hedit_selection_facts &facts) {
+        return {{facts.anchor, facts.anchor_offset}, {facts.focus, facts.focus_offset}};
+    }
+
     /* Whether a call was done; where it was refused, this throws why. */
     static bool answer(std::uint32_t status) {
         switch (status) {
@@ -646,6 +672,16 @@ class Editor {
                        return hedit_view(&handle_, kind, buffer, size, length);
                    },
                    capacity)
+            .value();
+    }
+
+    /* The name of the mark at a place of the list of marks. */
+    std::string mark_name(std::size_t place) {
+        return read_text(
+                   [&](std::uint8_t *buffer, std::size_t capacity, std::size_t *length) {
+                       return hedit_mark_name(&handle_, place, buffer, capacity, length);
+                   },
+                   64)
             .value();
     }
 

@@ -41,8 +41,10 @@ static void act(hedit_editor *editor, struct tree *tree) {
     for (size_t i = 0; i < sizeof calls / sizeof calls[0]; i++) {
         calls[i](editor);
         want(hedit_revision(editor, &revision));
-        if (revision != seen)
+        if (revision != seen) {
             tree_follow(tree, editor);
+            tree_forget(tree, editor);
+        }
         seen = revision;
     }
 }

@@ -232,8 +232,8 @@ static void selected(void) {
     CHECK(hedit_selection_text(&editor, buffer, sizeof buffer, &length) == HEDIT_CLOSED);
 }
 
-/* The texts that a node has. */
-enum text { NAME, VALUE, HTML, PLAIN, ATTRIBUTE_NAME, ATTRIBUTE_VALUE };
+/* The texts that a node has, and the name that a mark has at a place. */
+enum text { NAME, VALUE, HTML, PLAIN, ATTRIBUTE_NAME, ATTRIBUTE_VALUE, MARK };
 
 static uint32_t text_of(hedit_editor *editor, enum text text, uint32_t label, size_t place,
                         uint8_t *buffer, size_t capacity, size_t *length) {
@@ -244,6 +244,7 @@ static uint32_t text_of(hedit_editor *editor, enum text text, uint32_t label, si
     case PLAIN: return hedit_node_text(editor, label, buffer, capacity, length);
     case ATTRIBUTE_NAME:
         return hedit_attribute_name(editor, label, place, buffer, capacity, length);
+    case MARK: return hedit_mark_name(editor, place, buffer, capacity, length);
     default: return hedit_attribute_value(editor, label, place, buffer, capacity, length);
     }
 }
@@ -434,6 +435,39 @@ static void labels(void) {
     CHECK(mark_in(&editor, "m", 0, 0) == HEDIT_CLOSED);
 }
 
+/* Whether the mark at a place has this name, and goes from one point of a text to another. */
+static int is_mark(hedit_editor *editor, size_t place, const char *name, uint32_t label,
+                   uint32_t anchor_offset, uint32_t focus_offset) {
+    hedit_selection_facts facts;
+    return has(editor, MARK, 0, place, name) &&
+           hedit_mark_range(editor, place, &facts) == HEDIT_DONE &&
+           are_points(&facts, label, anchor_offset, label, focus_offset);
+}
+
+static void marks(void) {
+    hedit_editor editor = opened(PAGE);
+    hedit_selection_facts facts = {7, 7, 7, 7};
+    uint32_t text = label_at(&editor, 0, 0, 9);
+    CHECK(refuses(&editor, MARK, 0, 0, HEDIT_NO));
+    CHECK(hedit_mark_range(&editor, 0, &facts) == HEDIT_NO && are_points(&facts, 7, 7, 7, 7));
+    CHECK(hedit_mark_points(&editor, TEXT("first"), text, 2, text, 1) == HEDIT_DONE);
+    CHECK(hedit_mark_points(&editor, TEXT("\xff"), text, 0, text, 0) == HEDIT_DONE);
+    CHECK(is_mark(&editor, 0, "first", text, 2, 1) && is_mark(&editor, 1, "\xff", text, 0, 0));
+    CHECK(hedit_mark_points(&editor, TEXT("first"), text, 0, text, 1) == HEDIT_DONE);
+    CHECK(is_mark(&editor, 0, "first", text, 0, 1));
+    CHECK(hedit_replace(&editor, text, 0, text, 0, TEXT("xy")) == HEDIT_DONE);
+    CHECK(is_mark(&editor, 0, "first", text, 0, 3) && is_mark(&editor, 1, "\xff", text, 0, 0));
+    CHECK(hedit_mark_points(&editor, TEXT(""), text, 1, text, 2) == HEDIT_DONE);
+    CHECK(is_mark(&editor, 2, "", text, 1, 2) && refuses(&editor, MARK, 0, 3, HEDIT_NO));
+    CHECK(hedit_unmark(&editor, TEXT("first")) == HEDIT_DONE);
+    CHECK(is_mark(&editor, 0, "\xff", text, 0, 0) && is_mark(&editor, 1, "", text, 1, 2));
+    CHECK(refuses(&editor, MARK, 0, SIZE_MAX, HEDIT_NO));
+    CHECK(hedit_mark_range(&editor, 2, &facts) == HEDIT_NO && are_points(&facts, 7, 7, 7, 7));
+    hedit_close(&editor);
+    CHECK(refuses(&editor, MARK, 0, 0, HEDIT_CLOSED));
+    CHECK(hedit_mark_range(&editor, 0, &facts) == HEDIT_CLOSED && are_points(&facts, 7, 7, 7, 7));
+}
+
 /* Packs words as changes are packed: a number, "-" for HEDIT_NO_NODE, and a text in quotes. */
 static size_t pack(const char *words, uint8_t *bytes) {
     size_t length = 0;
@@ -544,6 +578,30 @@ static size_t undo_steps(hedit_editor *editor) {
     return numbers.undo;
 }
 
+/* What went is kept as long as a step of the history needs it. */
+static void kept(void) {
+    hedit_editor editor = opened(PAGE);
+    hedit_refusal refusal;
+    CHECK(hedit_is_kept(&editor, 0) == HEDIT_DONE && hedit_is_kept(&editor, 2) == HEDIT_DONE);
+    CHECK(hedit_is_kept(&editor, 3) == HEDIT_NO && hedit_is_kept(&editor, HEDIT_NO_NODE) == HEDIT_NO);
+    select_text(&editor, 2, 0, 2, 2);
+    CHECK(bold(&editor, "") == HEDIT_DONE && hedit_is_kept(&editor, 3) == HEDIT_DONE);
+    CHECK(hedit_undo(&editor) == HEDIT_DONE && tells(&editor, 2, "3 2 1 - 1 3"));
+    CHECK(hedit_is_kept(&editor, 3) == HEDIT_DONE);
+    CHECK(exec(&editor, "styleWithCSS", "true") == HEDIT_DONE);
+    CHECK(exec(&editor, "createLink", "") == HEDIT_NO && hedit_is_kept(&editor, 3) == HEDIT_DONE);
+    CHECK(exec(&editor, "insertText", "c") == HEDIT_DONE && hedit_is_kept(&editor, 3) == HEDIT_NO);
+    CHECK(hedit_redo(&editor) == HEDIT_NO && hedit_is_kept(&editor, 2) == HEDIT_DONE);
+    CHECK(hedit_open(&editor, TEXT(PAGE), 99, 1, &refusal) == HEDIT_DONE);
+    select_text(&editor, 2, 0, 2, 2);
+    CHECK(exec(&editor, "delete", "") == HEDIT_DONE && tells(&editor, 1, "1 2 2 1 - 1 0 3 1 'br' 0"));
+    CHECK(hedit_is_kept(&editor, 2) == HEDIT_DONE);
+    CHECK(exec(&editor, "insertText", "c") == HEDIT_DONE && undo_steps(&editor) == 1);
+    CHECK(hedit_is_kept(&editor, 2) == HEDIT_NO && hedit_is_kept(&editor, 3) == HEDIT_DONE);
+    hedit_close(&editor);
+    CHECK(hedit_is_kept(&editor, 2) == HEDIT_CLOSED);
+}
+
 static uint32_t joined(hedit_editor *editor, const char *name, const char *value) {
     return hedit_exec_joined(editor, (const uint8_t *)name, strlen(name), (const uint8_t *)value,
                              strlen(value));
@@ -607,8 +665,10 @@ int main(void) {
     searches();
     nodes();
     labels();
+    marks();
     revisions();
     changes();
+    kept();
     if (!failed)
         puts("hedit.h: each call answers as it should");
     return failed;

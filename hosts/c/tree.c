@@ -65,17 +65,24 @@ static void append_attribute(struct text *text, const uint8_t *name, size_t name
     append(text, "\"");
 }
 
-/* A new node, which stands nowhere yet. */
-static struct node *made(struct tree *tree, uint32_t label, uint32_t kind) {
+static struct node *new_node(uint32_t label, uint32_t kind) {
     struct node *node = (struct node *)resized(NULL, sizeof *node);
     memset(node, 0, sizeof *node);
     node->label = label;
     node->kind = kind;
+    return node;
+}
+
+/* The node of a label, a new one where none is held. It stands nowhere yet, and has no texts. */
+static struct node *come(struct tree *tree, uint32_t label, uint32_t kind) {
     for (; label >= tree->room; tree->room++) {
         size_t length = (tree->room + 1) * sizeof tree->nodes[0];
         tree->nodes = (struct node **)resized(tree->nodes, length);
         tree->nodes[tree->room] = NULL;
     }
+    struct node *node = tree->nodes[label] ? tree->nodes[label] : new_node(label, kind);
+    node->has_gone = 0;
+    node->name.length = node->attributes.length = node->value.length = 0;
     return tree->nodes[label] = node;
 }
 
@@ -95,17 +102,51 @@ static struct node *taken(struct node *node) {
     return node;
 }
 
-/* Forgets a node with its tree. */
-static void forget(struct tree *tree, struct node *node) {
+static void list_gone(struct tree *tree, struct node *node) {
+    size_t length = (tree->gone_count + 1) * sizeof tree->gone[0];
+    tree->gone = (uint32_t *)resized(tree->gone, length);
+    tree->gone[tree->gone_count++] = node->label;
+    node->is_listed = 1;
+}
+
+/* A node went, with its tree: each node of it stands alone. */
+static void leave(struct tree *tree, struct node *node) {
     for (struct node *child = node->first_child, *next; child; child = next) {
         next = child->next;
-        forget(tree, child);
+        leave(tree, child);
     }
-    tree->nodes[node->label] = NULL;
+    node->parent = node->first_child = node->last_child = node->previous = node->next = NULL;
+    node->has_gone = 1;
+    if (!node->is_listed)
+        list_gone(tree, node);
+}
+
+/* Forgets the node of a label, if one is held. */
+static void forget(struct tree *tree, size_t label) {
+    struct node *node = tree->nodes[label];
+    if (node == NULL)
+        return;
+    tree->nodes[label] = NULL;
     free(node->name.bytes);
     free(node->attributes.bytes);
     free(node->value.bytes);
     free(node);
+}
+
+void tree_forget(struct tree *tree, hedit_editor *editor) {
+    size_t kept = 0;
+    if (tree->gone_count <= 2 * tree->asked_count)
+        return;
+    for (size_t i = 0; i < tree->gone_count; i++) {
+        uint32_t label = tree->gone[i];
+        struct node *node = tree->nodes[label];
+        node->is_listed = node->has_gone && hedit_is_kept(editor, label) == HEDIT_DONE;
+        if (node->is_listed)
+            tree->gone[kept++] = label;
+        else if (node->has_gone)
+            forget(tree, label);
+    }
+    tree->gone_count = tree->asked_count = kept;
 }
 
 /* What the library packed and isn't read yet. */
@@ -148,7 +189,7 @@ static void read_text(packed *at, struct text *text, size_t from, size_t width) 
 
 static struct node *read_new(struct tree *tree, packed *at) {
     uint64_t label = number(at), kind = number(at);
-    struct node *node = made(tree, (uint32_t)label, (uint32_t)kind);
+    struct node *node = come(tree, (uint32_t)label, (uint32_t)kind);
     read_text(at, kind == HEDIT_ELEMENT ? &node->name : &node->value, 0, 0);
     if (kind == HEDIT_ELEMENT)
         read_attributes(at, node);
@@ -192,7 +233,7 @@ static void replace(struct tree *tree, packed *at) {
 
 static void follow_one(struct tree *tree, packed *at) {
     switch (number(at)) {
-    case HEDIT_REMOVED: forget(tree, taken(node_of(tree, at))); break;
+    case HEDIT_REMOVED: leave(tree, taken(node_of(tree, at))); break;
     case HEDIT_INSERTED: insert(tree, at); break;
     case HEDIT_MOVED: move(tree, at); break;
     case HEDIT_REPLACED: replace(tree, at); break;
@@ -225,7 +266,7 @@ static struct node *read_node(struct tree *tree, hedit_editor *editor, uint32_t 
     hedit_node_facts facts, child;
     size_t length;
     want(hedit_node(editor, label, &facts));
-    struct node *node = made(tree, label, facts.kind);
+    struct node *node = come(tree, label, facts.kind);
     want(hedit_node_name(editor, label, buffer, sizeof buffer, &length));
     splice(&node->name, 0, 0, buffer, length);
     want(hedit_node_value(editor, label, buffer, sizeof buffer, &length));
@@ -239,7 +280,7 @@ static struct node *read_node(struct tree *tree, hedit_editor *editor, uint32_t 
 }
 
 struct tree tree_of(hedit_editor *editor) {
-    struct tree tree = {NULL, 0};
+    struct tree tree = {NULL, 0, NULL, 0, 0};
     read_node(&tree, editor, 0);
     return tree;
 }
@@ -286,6 +327,8 @@ struct text tree_html(const struct tree *tree) {
 }
 
 void tree_close(struct tree *tree) {
-    forget(tree, tree->nodes[0]);
+    for (size_t label = 0; label < tree->room; label++)
+        forget(tree, label);
     free(tree->nodes);
+    free(tree->gone);
 }

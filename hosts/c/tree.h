@@ -1,4 +1,5 @@
-/* A tree that a host in C keeps of a page, and that follows it by what changed alone. */
+/* A tree that a host in C keeps of a page, and that follows it by what changed alone. It holds what
+ * went, too, as long as undo or redo may bring it back. */
 #ifndef TREE_H
 #define TREE_H
 
@@ -12,17 +13,22 @@ struct text {
     size_t length;
 };
 
-/* A node. Of its attributes it has the HTML. */
+/* A node. Of its attributes it has the HTML. One that went stands alone. */
 struct node {
     uint32_t label, kind;
+    int has_gone, is_listed;
     struct text name, attributes, value;
     struct node *parent, *first_child, *last_child, *previous, *next;
 };
 
-/* The nodes by their labels, NULL where the page has none, and how many labels have room. */
+/* The nodes by their labels, NULL where none is held, and how many labels have room. The labels of
+ * those that went, maybe of some that came back since, and how many of them there were when the tree
+ * last asked whether they are kept. */
 struct tree {
     struct node **nodes;
     size_t room;
+    uint32_t *gone;
+    size_t gone_count, asked_count;
 };
 
 /* The program ends where a call should have been done and was not. */
@@ -33,6 +39,10 @@ struct tree tree_of(hedit_editor *editor);
 
 /* Does what the last call changed that changed something. The tree was the page before it. */
 void tree_follow(struct tree *tree, hedit_editor *editor);
+
+/* Forgets what can't come back any more. It asks once there is twice as much as it kept the last time,
+ * so that it asks for each node that goes twice at most, on average. */
+void tree_forget(struct tree *tree, hedit_editor *editor);
 
 /* The HTML of the tree as the editor prints it. The caller frees its bytes. */
 struct text tree_html(const struct tree *tree);

@@ -168,6 +168,41 @@ static void labels() {
     refused<hedit::Closed>([&] { editor.selection(); }, "nor a selection");
 }
 
+static void marks() {
+    hedit::Editor editor(PAGE);
+    hedit::Label text = editor.label_at({0, 0});
+    check(editor.marks().empty(), "there are no marks");
+    std::string name(100, 'n');
+    editor.mark_points(name, {text, 2}, {text, 0});
+    editor.mark_points("\xff", {text, 1}, {0, 1});
+    std::vector<hedit::Mark> marks = editor.marks();
+    check(marks.size() == 2 && marks[0].name == name && marks[1].name == "\xff", "names of marks");
+    check(marks[0].anchor == hedit::Point{text, 2} && marks[0].focus == hedit::Point{text, 0},
+          "the points of a mark");
+    check(marks[1].focus == hedit::Point{0, 1}, "and of another one");
+    editor.select_points({text, 1});
+    editor.exec("insertText", "xyz");
+    check(editor.marks()[0].anchor == hedit::Point{text, 5}, "a mark follows");
+    editor.unmark(name);
+    check(editor.marks().size() == 1 && editor.marks()[0].name == "\xff", "a mark is out");
+    hedit::Editor other(std::move(editor));
+    refused<hedit::Closed>([&] { editor.marks(); }, "a closed editor has no marks");
+}
+
+static void kept() {
+    hedit::Editor editor(PAGE);
+    hedit::Label text = editor.label_at({0, 0});
+    editor.select_points({text, 0}, {text, 2});
+    editor.exec("bold");
+    hedit::Label b = editor.label_at({0, 0});
+    editor.undo();
+    check(editor.is_kept(b), "what redo would bring back is kept");
+    editor.exec("insertText", "c");
+    check(!editor.is_kept(b) && editor.is_kept(text), "and no more after a command");
+    hedit::Editor other(std::move(editor));
+    refused<hedit::Closed>([&] { editor.is_kept(text); }, "a closed editor keeps nothing");
+}
+
 static std::string told(const std::optional<hedit::Label> &label) {
     return label ? std::to_string(*label) : "-";
 }
@@ -265,6 +300,8 @@ int main() {
     gates();
     steps();
     labels();
+    marks();
     changes();
+    kept();
     return failed;
 }

@@ -19,6 +19,7 @@ from hedit import (
     Point,
     Removed,
     Replaced,
+    TreeNode,
 )
 
 VOID = {"area", "base", "br", "col", "embed", "hr", "img", "input", "link", "meta", "source", "track", "wbr"}
@@ -38,10 +39,14 @@ class Item:
 
 
 class Tree:
-    """A tree that was a page once, and follows it."""
+    """A tree that was a page once, and follows it. It holds what went, too, as long as undo or redo may
+    bring it back."""
 
     def __init__(self, editor: Editor) -> None:
         self.items: dict[int, Item] = {}
+        # What went, and how many of them there were when the tree last asked whether they are kept.
+        self.gone: dict[int, Item] = {}
+        self._asked = 0
         self.root = self._read(editor, 0)
 
     def _read(self, editor: Editor, label: int) -> Item:
@@ -63,16 +68,24 @@ class Tree:
             item.parent.children.remove(item)
             item.parent = None
 
-    def _forget(self, item: Item) -> None:
-        del self.items[item.label]
+    def _leave(self, item: Item) -> None:
+        self.gone[item.label] = self.items.pop(item.label)
         for child in item.children:
-            self._forget(child)
+            self._leave(child)
+        item.children.clear()
+        item.parent = None
+
+    def _come(self, node: TreeNode) -> Item:
+        """The item that the node had, or else a new one."""
+        item = self.gone.pop(node.label, None) or Item(node.label, node.kind, node.name)
+        item.attributes, item.value = dict(node.attributes), node.value
+        self.items[node.label] = item
+        return item
 
     def _grow(self, change: Inserted) -> None:
         above: list[Item] = []
         for node in change.tree:
-            item = Item(node.label, node.kind, node.name, dict(node.attributes), node.value)
-            self.items[item.label] = item
+            item = self._come(node)
             del above[node.level :]
             if above:
                 self._put(item, above[-1], None)
@@ -85,7 +98,7 @@ class Tree:
             match change:
                 case Removed(label):
                     self._take(self.items[label])
-                    self._forget(self.items[label])
+                    self._leave(self.items[label])
                 case Inserted():
                     self._grow(change)
                 case Moved(label, parent, before):
@@ -96,6 +109,13 @@ class Tree:
                     item.value = item.value[:at] + put + item.value[at + taken :]
                 case AttributesSet(label, attributes):
                     self.items[label].attributes = dict(attributes)
+
+    def forget(self, editor: Editor) -> None:
+        """Forgets what can't come back any more. It asks once there is twice as much as it kept the last
+        time, so that it asks for each node that goes twice at most, on average."""
+        if len(self.gone) > 2 * self._asked:
+            self.gone = {label: item for label, item in self.gone.items() if editor.is_kept(label)}
+            self._asked = len(self.gone)
 
     def html(self) -> str:
         """The HTML of the tree, as the editor prints it."""
@@ -148,6 +168,7 @@ def main() -> None:
             if editor.revision() != seen:
                 seen = editor.revision()
                 tree.follow(editor.changes())
+                tree.forget(editor)
         print(tree.html(), end="")
         sys.exit(tree.html() != editor.html())
 

@@ -47,13 +47,23 @@ class FollowedEditor(Editor):
     def __init__(self, page: str, **options: int) -> None:
         super().__init__(page, **options)
         self.own_tree, self.seen, self.is_followed = Tree(self), self.revision(), True
+        # The labels of what the tree has forgotten, which no change may name.
+        self.forgotten: set[int] = set()
 
     def _follow(self) -> None:
         if self.revision() != self.seen:
             self.is_followed &= self.revision() == self.seen + 1
             self.own_tree.follow(self.changes())
+            self._forget()
             self.seen = self.revision()
         self.is_followed &= self.own_tree.html() == self.html()
+
+    def _forget(self) -> None:
+        held = set(self.own_tree.gone)
+        self.own_tree.forget(self)
+        self.forgotten |= held - set(self.own_tree.gone)
+        self.is_followed &= self.forgotten.isdisjoint(self.own_tree.items)
+        self.is_followed &= all(map(self.is_kept, self.own_tree.items))
 
     def exec(self, name: str | bytes, value: str | bytes = "", denied: Iterable[str] = ()) -> bool:
         try:

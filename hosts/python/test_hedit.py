@@ -9,7 +9,9 @@ import sys
 import threading
 import unittest
 import warnings
-from collections.abc import Callable
+from bisect import bisect_right
+from collections.abc import Callable, Iterator
+from itertools import accumulate
 from pathlib import Path
 from typing import Any
 
@@ -20,6 +22,7 @@ from hedit import (
     Change,
     Editor,
     Inserted,
+    Mark,
     Moved,
     NodeKind,
     Point,
@@ -194,6 +197,12 @@ class Arguments(unittest.TestCase):
         for path in ((7,), (0, 2**32), (-1,), (0, 0, 0)):
             with self.subTest(path=path), self.assertRaises(hedit.BadPlace):
                 editor.label_at(path)
+        for wrong in (2**32, -1):
+            with self.subTest(wrong=wrong), self.assertRaises(hedit.BadPlace):
+                editor.is_kept(wrong)
+        for bad in (1.0, "1", None):
+            with self.subTest(bad=bad), self.assertRaises(TypeError):
+                editor.is_kept(bad)
 
 
 class Denials(unittest.TestCase):
@@ -272,6 +281,28 @@ class Steps(unittest.TestCase):
         with self.assertRaises(hedit.BadPlace):
             self.editor.replace(Point(self.text, 0), Point(self.text, 9), "x")
         self.assertEqual(self.editor.selection(), before)
+
+
+def parts_of(editor: Editor, label: int) -> Iterator[tuple[int, str]]:
+    """The texts of a node and its line breaks, in tree order: their labels and their characters."""
+    is_break = editor.node_name(label) == "br"
+    if is_break or editor.node(label).kind is NodeKind.TEXT:
+        yield label, "\n" if is_break else editor.node_value(label)
+    for child in editor.children(label):
+        yield from parts_of(editor, child)
+
+
+def find_across(editor: Editor, wanted: str, block: int) -> list[tuple[Point, Point]]:
+    """Where a text of one line occurs in a block, from point to point, none overlapping."""
+    parts = list(parts_of(editor, block))
+    starts = list(accumulate((len(part) for _, part in parts), initial=0))
+
+    def point(at: int, last: int) -> Point:
+        place = bisect_right(starts, last) - 1
+        return Point(parts[place][0], at - starts[place])
+
+    found = re.finditer(re.escape(wanted), "".join(part for _, part in parts))
+    return [(point(at.start(), at.start()), point(at.end(), at.end() - 1)) for at in found]
 
 
 class Nodes(unittest.TestCase):
@@ -418,6 +449,19 @@ class Nodes(unittest.TestCase):
                     self.assertTrue(mail.exec("insertText", "three"))
                 self.assertEqual(mail.node_text(0), "three two three")
 
+    def test_a_text_is_found_over_several(self) -> None:
+        with Editor("<p contenteditable>\u00e9one <b>tw</b>o<i>two</i> t<br>wo</p>") as editor:
+            block = editor.label_at((0,))
+            paths = (0, 1, 0), (0, 2), (0, 3, 0)
+            bold, after, italic = map(editor.label_at, paths)
+            across = (Point(bold, 0), Point(after, 1)), (Point(italic, 0), Point(italic, 3))
+            self.assertEqual(find_across(editor, "two", block), list(across))
+            self.assertEqual(find_across(editor, "otwo t", block)[0][0], Point(after, 0))
+            self.assertEqual(find_across(editor, "three", block), [])
+            for anchor, focus in reversed(across):
+                self.assertTrue(editor.replace(anchor, focus, "2"))
+            self.assertEqual(editor.node_text(block), "\u00e9one 22 t\nwo")
+
     def test_calls_are_refused_after_the_end_and_in_another_thread(self) -> None:
         editor = Editor(PAGE)
         calls: list[Callable[[], object]] = [
@@ -438,8 +482,10 @@ class Nodes(unittest.TestCase):
             editor.selection_html,
             editor.selection_text,
             editor.counts,
+            editor.marks,
             editor.revision,
             editor.changes,
+            lambda: editor.is_kept(0),
         ]
         for call in calls:
             self.assertIsInstance(in_another_thread(call), hedit.WrongThread)
@@ -483,6 +529,23 @@ class Points(unittest.TestCase):
             self.editor.mark(f"m{number}", *NAME)
         with self.assertRaises(hedit.TooManyMarks):
             self.editor.mark("m14", Point(self.text, 0), Point(self.text, 4))
+
+    def test_marks_are_records(self) -> None:
+        editor, text = self.editor, self.text
+        self.assertEqual(editor.marks(), [])
+        editor.mark("note", Point(text, 8), Point(text, 5))
+        editor.mark("\u00e9" * 50, ((), 0), Point(text, 0))
+        editor.mark(b"\xff", Point(text, 1), Point(text, 1))
+        end = Mark(b"\xff", Point(text, 1), Point(text, 1))
+        name, anchor, focus = editor.marks()[0]
+        self.assertEqual((name, anchor, focus), ("note", Point(text, 8), Point(text, 5)))
+        self.assertEqual(editor.marks()[1:], [Mark("\u00e9" * 50, Point(0, 0), Point(text, 0)), end])
+        editor.mark("note", Point(text, 5), Point(text, 8))
+        editor.replace(Point(text, 4), Point(text, 4), "xy")
+        self.assertEqual(editor.marks()[0], Mark("note", Point(text, 7), Point(text, 10)))
+        for mark in editor.marks():
+            self.assertTrue(editor.unmark(mark.name))
+        self.assertEqual(editor.marks(), [])
 
     def test_counts_are_those_of_the_line(self) -> None:
         self.editor.select(*NAME)
@@ -590,6 +653,29 @@ class Changes(unittest.TestCase):
         inserted = self.editor.changes()[2]
         assert isinstance(inserted, Inserted)
         self.assertEqual(list(inserted.tree[0].attributes), ["lang", "id"])
+
+    def test_what_went_is_kept_as_long_as_it_may_come_back(self) -> None:
+        editor = self.editor
+        self.assertEqual([label for label in range(9) if editor.is_kept(label)], [0, 1, 2])
+        self.assertFalse(editor.is_kept(2**32 - 1))
+        editor.select(Point(2, 0), Point(2, 2))
+        editor.exec("bold")
+        editor.undo()
+        self.assert_tells(2, [Moved(2, 1, None), Removed(3)])
+        self.assertTrue(editor.is_kept(3))
+        editor.exec("styleWithCSS", "true")
+        self.assertTrue(editor.is_kept(3))
+        editor.exec("insertText", "c")
+        self.assertFalse(editor.is_kept(3))
+        self.assertTrue(editor.is_kept(2))
+
+    def test_the_oldest_step_goes_with_what_it_needs(self) -> None:
+        with Editor("<p contenteditable>ab</p>", undo_depth=1) as editor:
+            editor.select(Point(2, 0), Point(2, 2))
+            editor.exec("delete")
+            self.assertTrue(editor.is_kept(2))
+            editor.exec("insertText", "c")
+            self.assertFalse(editor.is_kept(2))
 
     def test_changes_longer_than_the_room_are_whole(self) -> None:
         address = "\u00fc" * 5_000

@@ -20,17 +20,28 @@ const REFERENCES = { "&": "&amp;", "<": "&lt;", ">": "&gt;", '"': "&quot;", "\u0
 
 const escaped = (text, pattern) => text.replace(pattern, (character) => REFERENCES[character]);
 
-/** A tree that was a page once, and follows it. */
+/**
+ * A tree that was a page once, and follows it. It holds what went, too, as long as undo or redo may
+ * bring it back.
+ */
 export class Tree {
   #items = new Map();
+
+  /** What went. */
+  #gone = new Map();
+
+  /** How many of them were kept when the tree last asked. */
+  #asked = 0;
 
   constructor(editor) {
     this.#read(editor, 0);
   }
 
-  /** Keeps a node of what the editor says of it: its label, its kind and its content. */
+  /** The item of a node, the one that it had or else a new one, with what the editor says of it. */
   #keep({ label, kind, name, attributes, value }) {
-    const item = { label, kind, name, attributes, value, parent: null, children: [] };
+    const item = this.#gone.get(label) ?? { label, kind, name, parent: null, children: [] };
+    this.#gone.delete(label);
+    Object.assign(item, { attributes, value });
     this.#items.set(label, item);
     return item;
   }
@@ -60,9 +71,12 @@ export class Tree {
     children.splice(children.indexOf(item), 1);
   }
 
-  #forget(item) {
+  #leave(item) {
     this.#items.delete(item.label);
-    item.children.forEach((child) => this.#forget(child));
+    this.#gone.set(item.label, item);
+    item.children.forEach((child) => this.#leave(child));
+    item.children = [];
+    item.parent = null;
   }
 
   #insert({ tree, parent, before }) {
@@ -83,7 +97,7 @@ export class Tree {
     switch (change.type) {
       case "remove":
         this.#take(item);
-        this.#forget(item);
+        this.#leave(item);
         break;
       case "insert":
         this.#insert(change);
@@ -105,6 +119,32 @@ export class Tree {
   /** Does what changes say, one after another. */
   follow(changes) {
     changes.forEach((change) => this.#followOne(change));
+  }
+
+  /** The labels of the nodes. */
+  get labels() {
+    return this.#items.keys();
+  }
+
+  /** The labels of what went and is held. */
+  get gone() {
+    return this.#gone.keys();
+  }
+
+  /**
+   * Forgets what can't come back any more. It asks once there is twice as much as it kept the last
+   * time, so that it asks for each node that goes twice at most, on average.
+   */
+  forget(editor) {
+    if (this.#gone.size <= 2 * this.#asked) {
+      return;
+    }
+    for (const label of this.#gone.keys()) {
+      if (!editor.isKept(label)) {
+        this.#gone.delete(label);
+      }
+    }
+    this.#asked = this.#gone.size;
   }
 
   #html({ kind, name, attributes, value, children }) {
@@ -165,6 +205,7 @@ async function main() {
     if (editor.revision() !== seen) {
       seen = editor.revision();
       tree.follow(editor.changes());
+      tree.forget(editor);
     }
   }
   stdout.write(tree.html());

@@ -114,6 +114,13 @@ export interface Selection {
   readonly focus: Point;
 }
 
+/** A name for what is between two points; the name is bytes where it isn't UTF-8. */
+export interface Mark {
+  readonly name: Text;
+  readonly anchor: Point;
+  readonly focus: Point;
+}
+
 /** What a node is, with the labels of the nodes beside it, null where there is none. */
 export interface Node {
   readonly label: number;
@@ -278,8 +285,17 @@ export declare class Editor {
    */
   changes(): Change[];
 
+  /**
+   * Whether the node of a label is in the page, or may come back by `undo` or `redo`. A node that went
+   * and isn't kept never comes back, so what is held of it can be forgotten.
+   */
+  isKept(label: number): boolean;
+
   /** The points of the selection; null where nothing is selected. */
   selection(): Selection | null;
+
+  /** The marks: a new one goes last, and one that is set anew keeps its place. */
+  marks(): Mark[];
 
   /** The HTML of what is selected, for the clipboard; null where nothing is selected. */
   selectionHtml(): string | null;

@@ -64,6 +64,11 @@ export const VERSION = "0.9.0";
 /** @typedef {{ readonly anchor: Point, readonly focus: Point }} Selection */
 
 /**
+ * A name for what is between two points; the name is bytes where it isn't UTF-8.
+ * @typedef {{ readonly name: Text, readonly anchor: Point, readonly focus: Point }} Mark
+ */
+
+/**
  * What a node is: the count of its characters or of its children, and the labels of the nodes beside
  * it, null where there is none.
  * @typedef {object} Node
@@ -122,6 +127,15 @@ function readLabel(data, at) {
  */
 function readPoint(data, at) {
   return { label: readNumber(data, at), offset: readNumber(data, at + 4) };
+}
+
+/**
+ * @param {DataView} data
+ * @param {number} at
+ * @returns {Selection}
+ */
+function readSelection(data, at) {
+  return { anchor: readPoint(data, at), focus: readPoint(data, at + 8) };
 }
 
 /**
@@ -504,15 +518,57 @@ export class Editor {
   }
 
   /**
+   * Whether the node of a label is in the page, or may come back by `undo` or `redo`. A node that went
+   * and isn't kept never comes back, so what is held of it can be forgotten.
+   * @param {number} label
+   */
+  isKept(label) {
+    const number = placeNumber(label);
+    return answer(this.#status("hedit_is_kept", () => [number]));
+  }
+
+  /**
    * The points of the selection; null where nothing is selected.
    * @returns {Selection | null}
    */
   selection() {
-    const both = (/** @type {DataView} */ data, /** @type {number} */ at) => ({
-      anchor: readPoint(data, at),
-      focus: readPoint(data, at + 8),
+    return this.#record("hedit_selection", 16, readSelection) ?? null;
+  }
+
+  /**
+   * The marks: a new one goes last, and one that is set anew keeps its place.
+   * @returns {Mark[]}
+   */
+  marks() {
+    /** @type {Mark[]} */
+    const marks = [];
+    for (;;) {
+      const place = BigInt(marks.length);
+      const range = this.#record("hedit_mark_range", 16, readSelection, () => [place]);
+      if (range === undefined) {
+        return marks;
+      }
+      marks.push({ name: this.#markName(place), ...range });
+    }
+  }
+
+  /**
+   * The name of the mark at a place of the list of marks.
+   * @param {bigint} place
+   * @returns {Text}
+   */
+  #markName(place) {
+    return this.#library.borrow((loan) => {
+      const { status, bytes } = loan.printed(64, (...buffer) =>
+        this.#call("hedit_mark_name", place, ...buffer),
+      );
+      answer(status);
+      try {
+        return DECODER.decode(bytes);
+      } catch {
+        return bytes.slice();
+      }
     });
-    return this.#record("hedit_selection", 16, both) ?? null;
   }
 
   /**

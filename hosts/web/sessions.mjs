@@ -138,6 +138,15 @@ function linesOf(bytes) {
 function followed(editor) {
   const tree = new Tree(editor);
   let [seen, isFollowed] = [editor.revision(), true];
+  // The labels of what the tree has forgotten, which no change may name.
+  const forgotten = new Set();
+  const forget = () => {
+    const held = new Set(tree.gone);
+    tree.forget(editor);
+    for (const label of tree.gone) held.delete(label);
+    held.forEach((label) => forgotten.add(label));
+    return [...tree.labels].every((label) => !forgotten.has(label) && editor.isKept(label));
+  };
   for (const name of ["exec", "undo", "redo"]) {
     const call = editor[name].bind(editor);
     editor[name] = (...words) => {
@@ -148,6 +157,7 @@ function followed(editor) {
         if (revision !== seen) {
           isFollowed &&= revision === seen + 1;
           tree.follow(editor.changes());
+          isFollowed = forget() && isFollowed;
           seen = revision;
         }
         isFollowed &&= tree.html() === editor.html();

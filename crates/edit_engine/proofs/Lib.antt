@@ -15,6 +15,7 @@ pub mod Tameness
 pub mod HtmlParts
 pub mod Confining
 pub mod HistoryKinds
+pub mod GoneLabels
 pub mod ThereAndBack
 pub mod ObjectsTaken
 pub mod ReplayedSteps

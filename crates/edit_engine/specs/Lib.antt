@@ -15,6 +15,7 @@ pub mod Logs
 pub mod Faults
 pub mod Running
 pub mod Labels
+pub mod KeptLabels
 pub mod Bringing
 pub mod HtmlAround
 pub mod ThereAndBack

@@ -17,6 +17,7 @@ ghost use Rattle.edit_actions.specs.ActiveRange.{affected_host, host_of_pair};
 ghost use Rattle.edit_engine.specs.Execution.{gated_outcome, outcome, joined_outcome, replaced_outcome, outcome_by, command_outcome, run_outcome, host_at, run_at, Tells, TellsReplaced};
 ghost use Rattle.edit_engine.specs.Following.{first_following};
 ghost use Rattle.edit_engine.specs.Going.{goes_on, joins_by};
+ghost use Rattle.edit_engine.specs.KeptLabels.{IsKept, IsGone};
 ghost use Rattle.edit_engine.specs.Labels.{KeepsLabels, HaveOneKind};
 ghost use Rattle.edit_engine.specs.Logs.{log_text};
 ghost use Rattle.edit_engine.specs.Places.{pair_at, pair_from, placed_pair, selecting, unselecting, marking, unmarking, IsCrowded};
@@ -585,6 +586,21 @@ impl Editor {
             Some(node) => Some(node.label),
             None => None,
         }
+    }
+
+    /// Whether the node of a label is in the document, or is kept beside it for undo and redo.
+    /// Where it isn't, no later call brings a node of that label, since commands draw each label
+    /// once; so a host may forget what it keeps of the node. It takes no memory and is one look-up.
+    pub fn is_kept(&self, label: u32) -> bool
+        ensures kept { IsTrue result ↔ IsKept (document self.now) label }
+        ensures gone { result ≡ false → IsGone label self.now.editing }
+        ensures drawn { IsTrue result → label < self.now.editing.state.next }
+    {
+        self.kept_nodes();
+        let nodes = self.doc.arena();
+        nodes.valid();
+        nodes.slotted();
+        nodes.find(label).is_some()
     }
 
     /// The document. Between the calls of an editor each node that is held is in the document, or

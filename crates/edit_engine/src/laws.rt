@@ -1,6 +1,7 @@
 //! The laws of commands. Each is the contract of a function that does nothing.
 
 ghost use Rattle.edit_engine.specs.Independence.{HistoryIsIgnored};
+ghost use Rattle.edit_engine.specs.KeptLabels.{StayGone};
 ghost use Rattle.edit_engine.specs.PlainRuns.{RunsArePlain};
 ghost use Rattle.edit_engine.specs.Refusals.{RefusalsLeave};
 ghost use Rattle.edit_engine.specs.WorkedIslands.{LockedSpanIsIsland};
@@ -26,4 +27,10 @@ pub fn runs_are_plain()
 /// in both for one cause, or answers the same and leaves both in one state.
 pub fn history_is_ignored()
     ensures { HistoryIsIgnored }
+{}
+
+/// Where no document that undo and redo lead to has a node of some label, and no edit of a kept
+/// entry names it, that is so after undo and after redo too.
+pub fn gone_labels_stay()
+    ensures { StayGone }
 {}

@@ -25,6 +25,7 @@ pub use answers::{Answer, ExecFault, LogFault, PlaceFault, ReplaceFault, ViewFau
 pub use edit_query::Reply;
 pub use editor::Editor;
 pub use laws::{
-    history_is_ignored, locked_span_is_island, refusals_leave_the_state, runs_are_plain,
+    gone_labels_stay, history_is_ignored, locked_span_is_island, refusals_leave_the_state,
+    runs_are_plain,
 };
 pub use turning::Turn;

@@ -59,6 +59,11 @@ Asks number None old new told = (number ≡ number_of Closed) × (new ≡ old)
 Asks number (Some e) old new told =
     (status : Status) × (number ≡ number_of status) × told status e
 
+-- the same of a call that changes nothing at all: its answer is its status
+abbrev pub Answers : {E : Type 0} → ℕ → Option E → (Status → E → Type 0) → Type 0
+Answers number None told = number ≡ number_of Closed
+Answers number (Some e) told = (status : Status) × (number ≡ number_of status) × told status e
+
 -- ---- items in a buffer, as the bytes of a text: they stand at the front, and what follows there is
 -- as before; or only their count is told
 

@@ -1,10 +1,11 @@
 -- What a host that follows the document of a handle is told.
-use Rattle.std.specs.Prelude.{◌≡◌, ℕ, List, Option, Some, None}
+use Rattle.std.specs.Prelude.{◌≡◌, ℕ, ◌<◌, List, Option, Some, None}
 use Rattle.packed_edits.specs.Packed.{packed}
 use Rattle.edit_engine.specs.Changes.{CanFollow, changes_of}
-use Rattle.edit_engine.specs.Editing.{EditorValue}
+use Rattle.edit_engine.specs.Editing.{EditorValue, document}
+use Rattle.edit_engine.specs.KeptLabels.{IsKept, IsGone}
 use Rattle.hedit_c.specs.declared.editor.status.Status.{Status}
-use Rattle.hedit_c.specs.declared.editor.status.Status.TheVariants.{Done}
+use Rattle.hedit_c.specs.declared.editor.status.Status.TheVariants.{Done, No}
 use Rattle.hedit_c.specs.Calls.{PutsUnlessMemory}
 
 -- what holds between the editors of a handle before a call and after it
@@ -29,3 +30,10 @@ ChangesTell status v old new n = PutsUnlessMemory status (packed (changes_of v))
 abbrev pub RevisionTells : Status → EditorValue → (new : ℕ) → Type 0
 RevisionTells Done v new = new ≡ v.following.revision
 RevisionTells status v new = ⊥
+
+-- whether the node of a label is kept, in the document or for undo and redo; a label that isn't is
+-- gone
+abbrev pub KeptTells : Status → EditorValue → (label : ℕ) → Type 0
+KeptTells Done v label = IsKept (document v) label × (label < v.editing.state.next)
+KeptTells No v label = ¬ (IsKept (document v) label) × IsGone label v.editing
+KeptTells status v label = ⊥

@@ -105,7 +105,7 @@ AttributeTells text status e label place old new n =
     IsSomeAnd (content_of e.state.trees label) (λ c.
     IsSomeAnd (slice_get (attributes_in c) place) (λ a. Puts status (text a) old new n))
 
--- ---- the selection, and the numbers of the document and the history
+-- ---- the selection, the marks, and the numbers of the document and the history
 
 abbrev pub selection_of : Pair → SelectionFacts
 selection_of pair = record {
@@ -120,6 +120,21 @@ SelectionTells Done e old new =
     IsSomeAnd e.state.points.selection (λ pair. new ≡ selection_of pair)
 SelectionTells No e old new = (e.state.points.selection ≡ None) × (new ≡ old)
 SelectionTells status e old new = ⊥
+
+-- the name of the mark at a place of their list, in a buffer, and its points; none where there are no
+-- more
+abbrev pub MarkNameTells : Status → Editing → (place : ℕ) → (old new : List ℕ) → (n : ℕ) → Type 0
+MarkNameTells No e place old new n =
+    (slice_get e.state.points.marks place ≡ None) × (new ≡ old)
+MarkNameTells status e place old new n =
+    IsSomeAnd (slice_get e.state.points.marks place) (λ m. Puts status m.0 old new n)
+
+abbrev pub MarkRangeTells : Status → Editing → (place : ℕ) → (old new : SelectionFacts) → Type 0
+MarkRangeTells Done e place old new =
+    IsSomeAnd (slice_get e.state.points.marks place) (λ m. new ≡ selection_of m.1)
+MarkRangeTells No e place old new =
+    (slice_get e.state.points.marks place ≡ None) × (new ≡ old)
+MarkRangeTells status e place old new = ⊥
 
 abbrev pub numbers_of : Editing → NumberFacts
 numbers_of e = record {

@@ -7,10 +7,10 @@ ghost use Rattle.std.specs.Prelude.{◌≡◌, None, true, false};
 ghost use Rattle.std.specs.Option.{option_map};
 ghost use Rattle.edit_engine.specs.Editing.{undone, redone};
 ghost use Rattle.edit_engine.specs.Places.{unselecting};
-ghost use Rattle.hedit_c.specs.Calls.{editing_of, Leaves, Asks, Opens, ExecTells, GatedTells, QueryTells, ViewTells, SelectTells, MarkTells, UnmarkTells, ReplaceTells, pair_there, pair_of_points, place, point, taken_status, unselect_status};
-ghost use Rattle.hedit_c.specs.Following.{Between, StaysFollowed, KeepsFollowing, ChangesTell, RevisionTells};
+ghost use Rattle.hedit_c.specs.Calls.{editing_of, Leaves, Asks, Answers, Opens, ExecTells, GatedTells, QueryTells, ViewTells, SelectTells, MarkTells, UnmarkTells, ReplaceTells, pair_there, pair_of_points, place, point, taken_status, unselect_status};
+ghost use Rattle.hedit_c.specs.Following.{Between, StaysFollowed, KeepsFollowing, ChangesTell, KeptTells, RevisionTells};
 ghost use Rattle.node_texts.specs.NodeHtml.{node_html};
-ghost use Rattle.hedit_c.specs.Nodes.{NodeTells, LabelTells, PathTells, name_text, value_text, TextTells, attribute_name, attribute_value, AttributeTells, SelectionTells, NumbersTell};
+ghost use Rattle.hedit_c.specs.Nodes.{NodeTells, LabelTells, PathTells, name_text, value_text, TextTells, attribute_name, attribute_value, AttributeTells, SelectionTells, MarkNameTells, MarkRangeTells, NumbersTell};
 ghost use Rattle.hedit_c.specs.Statuses.{number_of};
 ghost use Rattle.hedit_c.specs.Subtrees.{SubtreeTells, FindTells, SelectedTells, plain_bytes, html_selected, text_selected};
 
@@ -30,11 +30,11 @@ use acts::{
 };
 use answers::{query, view};
 use edit_doc::Point;
-use following::{changes, revision};
+use following::{changes, is_kept, revision};
 use handle::Handle;
 use nodes::{
-    NodeFacts, NumberFacts, SelectionFacts, attribute_name, attribute_value, label_at, node,
-    node_name, node_value, numbers, path_of, selection,
+    NodeFacts, NumberFacts, SelectionFacts, attribute_name, attribute_value, label_at, mark_name,
+    mark_range, node, node_name, node_value, numbers, path_of, selection,
 };
 use opening::{Refusal, open};
 use status::Status;
@@ -428,6 +428,21 @@ pub extern "C" fn hedit_changes(
     status.number()
 }
 
+/// Whether the node of a label is in the document, or is kept for undo and redo. Where the answer is
+/// false, no later call brings a node of that label.
+#[unsafe(no_mangle)]
+pub extern "C" fn hedit_is_kept(alloc: Global, editor: &mut Handle, label: u32) -> u32
+    ensures stays { editor.new.value ≡ editor.old.value }
+    ensures told { Answers result editor.old.value (λ status v. KeptTells status v label) }
+{
+    let Some(held) = editor.take(alloc) else {
+        return Status::Closed.number();
+    };
+    let status = is_kept(&held, label);
+    editor.put(held);
+    status.number()
+}
+
 /// What the node of a label is, and the labels of the nodes beside it.
 #[unsafe(no_mangle)]
 pub extern "C" fn hedit_node(
@@ -662,6 +677,49 @@ pub extern "C" fn hedit_selection(
         return Status::Closed.number();
     };
     let status = selection(&held, facts);
+    editor.put(held);
+    status.number()
+}
+
+/// Puts the name of a mark into the buffer, the one at a place of the list of marks. The answer is
+/// false where there are no more.
+#[unsafe(no_mangle)]
+pub extern "C" fn hedit_mark_name(
+    alloc: Global,
+    editor: &mut Handle,
+    place: usize,
+    buffer: &mut [u8],
+    length: &mut usize,
+) -> u32
+    ensures stays { editor.new.value ≡ editor.old.value }
+    ensures told { Asks result (editing_of editor.old.value) buffer.old buffer.new
+        (λ status e. MarkNameTells status e place buffer.old buffer.new length.new) }
+{
+    let Some(held) = editor.take(alloc) else {
+        return Status::Closed.number();
+    };
+    let status = mark_name(&held, place, buffer, length);
+    editor.put(held);
+    status.number()
+}
+
+/// The points of a mark, the one at a place of the list of marks. The answer is false where there are
+/// no more.
+#[unsafe(no_mangle)]
+pub extern "C" fn hedit_mark_range(
+    alloc: Global,
+    editor: &mut Handle,
+    place: usize,
+    facts: &mut SelectionFacts,
+) -> u32
+    ensures stays { editor.new.value ≡ editor.old.value }
+    ensures told { Asks result (editing_of editor.old.value) facts.old facts.new
+        (λ status e. MarkRangeTells status e place facts.old facts.new) }
+{
+    let Some(held) = editor.take(alloc) else {
+        return Status::Closed.number();
+    };
+    let status = mark_range(&held, place, facts);
     editor.put(held);
     status.number()
 }

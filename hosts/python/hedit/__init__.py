@@ -41,7 +41,7 @@ from ._errors import (
     WrongThread,
 )
 from ._library import __version__, version
-from ._nodes import Counts, Node, NodeKind, Point, Selection
+from ._nodes import Counts, Mark, Node, NodeKind, Point, Selection
 
 __all__ = [
     "AttributesSet",
@@ -53,6 +53,7 @@ __all__ = [
     "EditorClosed",
     "HeditError",
     "Inserted",
+    "Mark",
     "Moved",
     "Node",
     "NodeKind",

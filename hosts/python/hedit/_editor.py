@@ -32,7 +32,7 @@ from ._library import (
     SelectionFacts,
     library,
 )
-from ._nodes import Counts, Node, NodeKind, Point, Selection
+from ._nodes import Counts, Mark, Node, NodeKind, Point, Selection
 
 Place = tuple[Sequence[int], int]
 
@@ -113,6 +113,13 @@ def names_words(names: Iterable[str]) -> tuple[bytes, int]:
 def node_there(label: int) -> int | None:
     """A label that the library gives, where a node is there."""
     return None if label == NO_NODE else label
+
+
+def selection_of(facts: SelectionFacts) -> Selection:
+    """The points that the library gives."""
+    return Selection(
+        Point(facts.anchor, facts.anchor_offset), Point(facts.focus, facts.focus_offset)
+    )
 
 
 def limit(name: str, value: SupportsIndex, most: int) -> int:
@@ -355,14 +362,33 @@ class Editor:
         answer(status)
         return read_changes(data)
 
+    def is_kept(self, label: int) -> bool:
+        """Whether the node of a label is in the page, or may come back by `undo` or `redo`. A node that
+        went and isn't kept never comes back, so what is held of it can be forgotten."""
+        return answer(self._call("hedit_is_kept", place_number(label)))
+
     def selection(self) -> Selection | None:
         """The points of the selection; None where nothing is selected."""
         facts = SelectionFacts()
         if not answer(self._call("hedit_selection", ctypes.byref(facts))):
             return None
-        return Selection(
-            Point(facts.anchor, facts.anchor_offset), Point(facts.focus, facts.focus_offset)
-        )
+        return selection_of(facts)
+
+    def marks(self) -> list[Mark]:
+        """The marks: a new one goes last, and one that is set anew keeps its place."""
+        found: list[Mark] = []
+        facts = SelectionFacts()
+        while answer(self._call("hedit_mark_range", len(found), ctypes.byref(facts))):
+            found.append(Mark(self._mark_name(len(found)), *selection_of(facts)))
+        return found
+
+    def _mark_name(self, place: int) -> str | bytes:
+        status, name = read_text(lambda *buffer: self._call("hedit_mark_name", place, *buffer), 64)
+        answer(status)
+        try:
+            return name.decode()
+        except UnicodeDecodeError:
+            return name
 
     def selection_html(self) -> str | None:
         """The HTML of what is selected, for the clipboard; None where nothing is selected."""

@@ -42,7 +42,7 @@ class NodeFacts(ctypes.Structure):
 
 
 class SelectionFacts(ctypes.Structure):
-    """The points of the selection."""
+    """The points of the selection or of a mark."""
 
     _fields_ = [
         ("anchor", NUMBER),
@@ -109,11 +109,14 @@ CALLS: dict[str, list[Any]] = {
     "hedit_node_text": [*EDITOR, NUMBER, *BUFFER],
     "hedit_find": [*EDITOR, NUMBER, *TEXT, *POINTS],
     "hedit_selection": [*EDITOR, ctypes.POINTER(SelectionFacts)],
+    "hedit_mark_name": [*EDITOR, LENGTH, *BUFFER],
+    "hedit_mark_range": [*EDITOR, LENGTH, ctypes.POINTER(SelectionFacts)],
     "hedit_selection_html": [*EDITOR, *BUFFER],
     "hedit_selection_text": [*EDITOR, *BUFFER],
     "hedit_numbers": [*EDITOR, ctypes.POINTER(NumberFacts)],
     "hedit_revision": [*EDITOR, ctypes.POINTER(ctypes.c_uint64)],
     "hedit_changes": [*EDITOR, *BUFFER],
+    "hedit_is_kept": [*EDITOR, NUMBER],
     "hedit_session_with_words": TEXT + TEXT + BUFFER,
 }
 

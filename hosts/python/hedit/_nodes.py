@@ -27,6 +27,14 @@ class Selection(NamedTuple):
     focus: Point
 
 
+class Mark(NamedTuple):
+    """A name for what is between two points: a text, or bytes where they aren't UTF-8."""
+
+    name: str | bytes
+    anchor: Point
+    focus: Point
+
+
 @dataclass(frozen=True, slots=True)
 class Node:
     """What a node is: the count of its characters or of its children, and the labels of the nodes

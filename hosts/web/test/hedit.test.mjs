@@ -258,6 +258,35 @@ describe("denied names", () => {
   });
 });
 
+function* partsOf(editor, label) {
+  const isBreak = editor.nodeName(label) === "br";
+  if (isBreak || editor.node(label).kind === NodeKind.TEXT) {
+    yield { label, text: isBreak ? "\n" : editor.nodeValue(label) };
+  }
+  for (const child of editor.children(label)) {
+    yield* partsOf(editor, child);
+  }
+}
+
+function findAcross(editor, wanted, block) {
+  const parts = [...partsOf(editor, block)];
+  const whole = parts.map(({ text }) => text).join("");
+  /** The point of a unit of the whole, in the text that has the unit `last`. */
+  const point = (at, last) => {
+    let [place, start] = [0, 0];
+    for (; start + parts[place].text.length <= last; place += 1) {
+      start += parts[place].text.length;
+    }
+    return { label: parts[place].label, offset: toCharacters(parts[place].text, at - start) };
+  };
+  const found = [];
+  for (let at = whole.indexOf(wanted); at >= 0; at = whole.indexOf(wanted, at + wanted.length)) {
+    const end = at + wanted.length;
+    found.push([point(at, at), point(end, end - 1)]);
+  }
+  return found;
+}
+
 describe("nodes", () => {
   const NODES = '<!--n--><p contenteditable><i class="x&amp;y" lang>é😀</i>b</p>';
 
@@ -350,6 +379,29 @@ describe("nodes", () => {
     refused(mark, "TooManyMarks", Status.TOO_MANY_MARKS);
   });
 
+  it("have marks as records", (t) => {
+    const editor = open(t, PAGE);
+    const text = editor.labelAt([0, 0]);
+    const point = (offset, label = text) => ({ label, offset });
+    assert.deepEqual(editor.marks(), []);
+    editor.mark("note", point(8), point(5));
+    editor.mark("é".repeat(50), at([], 0), point(0));
+    editor.mark(Uint8Array.of(255), point(1), point(1));
+    const [first, ...others] = editor.marks();
+    assert.deepEqual(first, { name: "note", anchor: point(8), focus: point(5) });
+    assert.deepEqual(others, [
+      { name: "é".repeat(50), anchor: point(0, 0), focus: point(0) },
+      { name: Uint8Array.of(255), anchor: point(1), focus: point(1) },
+    ]);
+    editor.mark("note", point(5), point(8));
+    editor.replace(point(4), point(4), "xy");
+    assert.deepEqual(editor.marks()[0], { name: "note", anchor: point(7), focus: point(10) });
+    for (const { name } of editor.marks()) {
+      assert.equal(editor.unmark(name), true);
+    }
+    assert.deepEqual(editor.marks(), []);
+  });
+
   it("are counted as in the line of numbers", (t) => {
     const editor = open(t, PAGE);
     editor.select(...NAME);
@@ -425,6 +477,24 @@ describe("nodes", () => {
       assert.equal(mail.exec("insertText", "three"), true);
     }
     assert.equal(mail.nodeText(0), "three two three");
+  });
+
+  it("are searched for a text that runs over several", (t) => {
+    const editor = open(t, "<p contenteditable>😀one <b>😀tw</b>o<i>two</i> t<br>wo</p>");
+    const block = editor.labelAt([0]);
+    const [bold, after, italic] = [[0, 1, 0], [0, 2], [0, 3, 0]].map((path) => editor.labelAt(path));
+    const point = (label, offset) => ({ label, offset });
+    const across = [
+      [point(bold, 1), point(after, 1)],
+      [point(italic, 0), point(italic, 3)],
+    ];
+    assert.deepEqual(findAcross(editor, "two", block), across);
+    assert.deepEqual(findAcross(editor, "otwo t", block)[0][0], point(after, 0));
+    assert.deepEqual(findAcross(editor, "three", block), []);
+    for (const [anchor, focus] of across.toReversed()) {
+      assert.equal(editor.replace(anchor, focus, "2"), true);
+    }
+    assert.equal(editor.nodeText(block), "😀one 😀22 t\nwo");
   });
 
   it("are refused where they are none", (t) => {
@@ -554,6 +624,26 @@ describe("changes", () => {
     assert.deepEqual([...editor.changes()[2].tree[0].attributes.keys()], ["lang", "id"]);
   });
 
+  it("leave what went, as long as it may come back", (t) => {
+    const editor = open(t);
+    const kept = () => [0, 1, 2, 3, 4, 2 ** 32 - 1].filter((label) => editor.isKept(label));
+    assert.deepEqual(kept(), [0, 1, 2]);
+    editor.select({ label: 2, offset: 0 }, { label: 2, offset: 2 });
+    editor.exec("bold");
+    editor.undo();
+    tells(editor, 2, went);
+    editor.exec("styleWithCSS", "true");
+    assert.deepEqual(kept(), [0, 1, 2, 3]);
+    editor.exec("insertText", "c");
+    assert.deepEqual(kept(), [0, 1, 2]);
+    for (const label of [2 ** 32, -1]) {
+      refused(() => editor.isKept(label), "BadPlace", Status.BAD_PLACE);
+    }
+    for (const label of [0.5, "0", null, undefined, 1n]) {
+      assert.throws(() => editor.isKept(label), TypeError);
+    }
+  });
+
   it("are whole where they are longer than the room", (t) => {
     const editor = open(t);
     editor.select({ label: 2, offset: 1 });
@@ -586,6 +676,7 @@ describe("changes", () => {
     editor.close();
     refused(() => editor.revision(), "EditorClosed", Status.CLOSED);
     refused(() => editor.changes(), "EditorClosed", Status.CLOSED);
+    refused(() => editor.isKept(0), "EditorClosed", Status.CLOSED);
   });
 });
 
@@ -694,6 +785,7 @@ describe("a cause has a class", () => {
       () => editor.mark("note", { label: 0, offset: 0 }, at([], 0)),
       () => editor.counts(),
       () => editor.selection(),
+      () => editor.marks(),
       () => editor.labelAt([]),
       () => editor.node(0),
       () => editor.children(0),

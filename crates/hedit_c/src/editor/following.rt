@@ -1,9 +1,9 @@
-//! What C is told of what changed.
+//! What C is told of what changed, and of which labels are kept.
 
 ghost use Rattle.std.specs.Prelude.{◌≡◌, IfOk};
 ghost use Rattle.packed_edits.specs.Packed.{packed};
 ghost use Rattle.edit_engine.specs.Changes.{changes_of};
-ghost use Rattle.hedit_c.specs.Following.{ChangesTell, RevisionTells};
+ghost use Rattle.hedit_c.specs.Following.{ChangesTell, KeptTells, RevisionTells};
 
 use super::status::Status;
 use super::texts::put;
@@ -41,4 +41,15 @@ pub(crate) fn revision(editor: &Editor, revision: &mut u64) -> Status
 {
     *revision = editor.revision();
     Status::Done
+}
+
+/// Whether the node of a label is in the document, or is kept for undo and redo.
+pub(crate) fn is_kept(editor: &Editor, label: u32) -> Status
+    ensures { KeptTells result editor.now label }
+{
+    if editor.is_kept(label) {
+        Status::Done
+    } else {
+        Status::No
+    }
 }

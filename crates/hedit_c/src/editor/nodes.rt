@@ -1,15 +1,15 @@
-//! What C reads of the nodes of an editor, of its selection and of its numbers, by labels.
+//! What C reads of the nodes of an editor, of its selection, its marks and its numbers, by labels.
 
 ghost use Rattle.std.specs.Prelude.{◌≡◌, [], MatchOption, encode_utf8_all, slice_get};
 ghost use Rattle.std.specs.Option.{option_map};
 ghost use Rattle.edit_doc.specs.Held.{Holds};
 ghost use Rattle.edit_model.specs.Gives.{label_of};
-ghost use Rattle.hedit_c.specs.Nodes.{label_number, node_type, facts_of, NodeTells, LabelTells, PathTells, name_text, value_text, TextTells, attributes_in, attribute_name, attribute_value, AttributeTells, selection_of, SelectionTells, numbers_of, NumbersTell};
+ghost use Rattle.hedit_c.specs.Nodes.{label_number, node_type, facts_of, NodeTells, LabelTells, PathTells, name_text, value_text, TextTells, attributes_in, attribute_name, attribute_value, AttributeTells, selection_of, SelectionTells, MarkNameTells, MarkRangeTells, numbers_of, NumbersTell};
 
 use super::status::Status;
 use super::texts::{put, put_chars};
 use dom_model::{Attributes, Chars, Content};
-use edit_doc::{Doc, NodeRef};
+use edit_doc::{Doc, NodeRef, Pair};
 use edit_engine::{Editor, ViewFault};
 use script_read::Path;
 use std::alloc::Global;
@@ -28,7 +28,7 @@ pub struct NodeFacts {
     pub next: u32,
 }
 
-/// The two points of a selection.
+/// The two points of a selection or a mark.
 #[repr(C)]
 #[derive(Clone, Copy)]
 pub struct SelectionFacts {
@@ -251,18 +251,52 @@ pub(crate) fn attribute_value(
     }
 }
 
+fn pair_facts(pair: Pair) -> SelectionFacts
+    ensures { result ≡ selection_of pair }
+{
+    SelectionFacts {
+        anchor: pair.anchor.label,
+        anchor_offset: pair.anchor.offset,
+        focus: pair.focus.label,
+        focus_offset: pair.focus.offset,
+    }
+}
+
 /// The points of the selection, if there is one.
 pub(crate) fn selection(editor: &Editor, facts: &mut SelectionFacts) -> Status
     ensures { SelectionTells result editor.now.editing facts.old facts.new }
 {
     match editor.document().points().selection() {
         Some(pair) => {
-            *facts = SelectionFacts {
-                anchor: pair.anchor.label,
-                anchor_offset: pair.anchor.offset,
-                focus: pair.focus.label,
-                focus_offset: pair.focus.offset,
-            };
+            *facts = pair_facts(pair);
+            Status::Done
+        }
+        None => Status::No,
+    }
+}
+
+/// The name of the mark at a place of the list of marks.
+pub(crate) fn mark_name(
+    editor: &Editor,
+    place: usize,
+    buffer: &mut [u8],
+    length: &mut usize,
+) -> Status
+    ensures { MarkNameTells result editor.now.editing place buffer.old buffer.new length.new }
+{
+    match editor.document().points().mark_at(place) {
+        Some((name, _)) => put(name, buffer, length),
+        None => Status::No,
+    }
+}
+
+/// The points of the mark at a place of the list of marks.
+pub(crate) fn mark_range(editor: &Editor, place: usize, facts: &mut SelectionFacts) -> Status
+    ensures { MarkRangeTells result editor.now.editing place facts.old facts.new }
+{
+    match editor.document().points().mark_at(place) {
+        Some((_, pair)) => {
+            *facts = pair_facts(pair);
             Status::Done
         }
         None => Status::No,
