@@ -110,7 +110,8 @@ impl Editor {
             self.old.editing self.new.editing }
         ensures labels { KeepsLabels self.old.editing self.new.editing }
         ensures drawn { DrawsLabels self.old.editing self.new.editing }
-        ensures known { BringsKnown self.old.editing self.new.editing }
+        ensures known { BringsKnown (command_named name.now) value.now
+            self.old.editing self.new.editing }
         ensures selection { KeepsSelection self.old.editing self.new.editing }
         ensures marks { KeepsMarks (affected_host self.old.editing.state)
             self.old.editing self.new.editing }
@@ -145,7 +146,8 @@ impl Editor {
             self.old.editing self.new.editing }
         ensures labels { KeepsLabels self.old.editing self.new.editing }
         ensures drawn { DrawsLabels self.old.editing self.new.editing }
-        ensures known { BringsKnown self.old.editing self.new.editing }
+        ensures known { BringsKnown (command_named name.now) value.now
+            self.old.editing self.new.editing }
         ensures selection { KeepsSelection self.old.editing self.new.editing }
         ensures marks { KeepsMarks (affected_host self.old.editing.state)
             self.old.editing self.new.editing }
@@ -177,7 +179,8 @@ impl Editor {
             self.old.editing self.new.editing }
         ensures labels { KeepsLabels self.old.editing self.new.editing }
         ensures drawn { DrawsLabels self.old.editing self.new.editing }
-        ensures known { BringsKnown self.old.editing self.new.editing }
+        ensures known { BringsKnown (command_named name.now) value.now
+            self.old.editing self.new.editing }
         ensures selection { KeepsSelection self.old.editing self.new.editing }
         ensures marks { KeepsMarks (affected_host self.old.editing.state)
             self.old.editing self.new.editing }
@@ -225,7 +228,8 @@ impl Editor {
             self.old.editing self.new.editing }
         ensures labels { KeepsLabels self.old.editing self.new.editing }
         ensures drawn { DrawsLabels self.old.editing self.new.editing }
-        ensures known { BringsKnown self.old.editing self.new.editing }
+        ensures known { BringsKnown (Some Command.InsertText) text.now
+            self.old.editing self.new.editing }
         ensures selection { KeepsSelection self.old.editing self.new.editing }
         ensures marks { KeepsMarks (host_of_pair self.old.editing.state.trees (pair_from anchor focus))
             self.old.editing self.new.editing }
@@ -262,7 +266,8 @@ impl Editor {
             self.old.editing self.new.editing }
         ensures labels { KeepsLabels self.old.editing self.new.editing }
         ensures drawn { DrawsLabels self.old.editing self.new.editing }
-        ensures known { BringsKnown self.old.editing self.new.editing }
+        ensures known { BringsKnown (Some Command.InsertText) text.now
+            self.old.editing self.new.editing }
         ensures selection { KeepsSelection self.old.editing self.new.editing }
         ensures marks { KeepsMarks (host_of_pair self.old.editing.state.trees range)
             self.old.editing self.new.editing }
@@ -301,7 +306,8 @@ impl Editor {
             self.old.editing self.new.editing }
         ensures labels { KeepsLabels self.old.editing self.new.editing }
         ensures drawn { DrawsLabels self.old.editing self.new.editing }
-        ensures known { BringsKnown self.old.editing self.new.editing }
+        ensures known { BringsKnown (command_named name.now) value.now
+            self.old.editing self.new.editing }
         ensures selection { KeepsSelection self.old.editing self.new.editing }
         ensures marks { KeepsMarks (affected_host self.old.editing.state)
             self.old.editing self.new.editing }

@@ -5,7 +5,7 @@ use Rattle.html_names.specs.declared.commands.Command.TheVariants.{InsertText}
 use Rattle.edit_engine.specs.Confinement.{joins_last}
 use Rattle.edit_engine.specs.Editing.{EditorValue}
 use Rattle.edit_engine.specs.Going.{joins_by}
-use Rattle.edit_engine.proofs.Confining.{standing, outside_kept, html_kept, labels_kept, known_kept, selection_kept, marks_kept, same_islands, same_back, same_characters}
+use Rattle.edit_engine.proofs.Confining.{standing, outside_kept, html_kept, labels_kept, same_known, selection_kept, marks_kept, same_islands, same_back, same_characters}
 use Rattle.edit_engine.proofs.GoingOn.{joins_on}
 use Rattle.edit_engine.proofs.Outcomes.{denied_outcome, allowed_outcome}
 use Rattle.edit_engine.proofs.editor.Editor.exec_gated.Goals as goal
@@ -27,7 +27,7 @@ returns-then-denies g c =
       html = html_kept old old None joining InsertText v joins stands (inl refl);
       labels = (labels_kept old old None joining InsertText v joins stands (inl refl)).0;
       drawn = (labels_kept old old None joining InsertText v joins stands (inl refl)).1;
-      known = known_kept old old None joining InsertText v joins stands (inl refl);
+      known = same_known old old None joining InsertText v joins stands (command_named name);
       selection = selection_kept old old None joining InsertText v joins stands (inl refl);
       marks = marks_kept old old None joining InsertText v joins stands (inl refl);
       islands = same_islands old old None joining InsertText v joins stands (command_named name);

@@ -4,11 +4,12 @@ use Rattle.html_names.specs.Commands.{command_named}
 use Rattle.html_names.specs.declared.commands.Command.{Command}
 use Rattle.html_names.specs.declared.commands.Command.TheVariants.{InsertText}
 use Rattle.edit_actions.specs.ActiveRange.{affected_host}
+use Rattle.edit_engine.specs.Bringing.{BringsKnown}
 use Rattle.edit_engine.specs.Confinement.{KeepsIslands, GivesBack, joins_last}
 use Rattle.edit_engine.specs.Editing.{EditorValue}
 use Rattle.edit_engine.specs.Execution.{Tells, outcome_by}
 use Rattle.edit_engine.specs.Going.{joins_by}
-use Rattle.edit_engine.proofs.Confining.{standing, changes, outside_kept, html_kept, labels_kept, known_kept, selection_kept, marks_kept, islands_kept, same_islands, characters_kept, given_back, same_back, same_characters}
+use Rattle.edit_engine.proofs.Confining.{standing, changes, outside_kept, html_kept, labels_kept, known_kept, same_known, selection_kept, marks_kept, islands_kept, same_islands, characters_kept, given_back, same_back, same_characters}
 use Rattle.edit_engine.proofs.GoingOn.{joins_on}
 use Rattle.edit_engine.proofs.Outcomes.{named_outcome, unnamed_outcome}
 use Rattle.edit_engine.proofs.editor.Editor.exec_named.Goals as goal
@@ -31,7 +32,7 @@ returns-in-Some c =
       html = html_kept old new None joining command v joins stands k;
       labels = (labels_kept old new None joining command v joins stands k).0;
       drawn = (labels_kept old new None joining command v joins stands k).1;
-      known = known_kept old new None joining command v joins stands k;
+      known = subst (λ (o : Option Command). BringsKnown o v old new) (sym named) (known_kept old new None joining command v joins stands k);
       selection = selection_kept old new None joining command v joins stands k;
       marks = marks_kept old new None joining command v joins stands k;
       islands = subst (λ (o : Option Command). KeepsIslands (affected_host old.state) None o v old new) (sym named) (islands_kept old new None joining command v joins stands k);
@@ -55,7 +56,7 @@ returns-in-None c =
       html = html_kept old old None joining InsertText v joins stands (inl refl);
       labels = (labels_kept old old None joining InsertText v joins stands (inl refl)).0;
       drawn = (labels_kept old old None joining InsertText v joins stands (inl refl)).1;
-      known = known_kept old old None joining InsertText v joins stands (inl refl);
+      known = same_known old old None joining InsertText v joins stands (command_named name);
       selection = selection_kept old old None joining InsertText v joins stands (inl refl);
       marks = marks_kept old old None joining InsertText v joins stands (inl refl);
       islands = same_islands old old None joining InsertText v joins stands (command_named name);
