@@ -54,7 +54,7 @@ characters_known source g l known = by_content (content_of g l) refl
 -- ---- blanks
 
 abbrev pub AreBlanks : List ℕ → Type 0
-AreBlanks list = Each (λ c. is_blank c ≡ true) list
+AreBlanks list = Each (λ (c : ℕ). is_blank c ≡ true) list
 
 pub blanks_known : (source : Source) (list : List ℕ) → AreBlanks list → Each (IsKnownCharacter source) list
 blanks_known source [] h = tt

@@ -64,9 +64,9 @@ tame_lay_out a = search tame_parts
 module _ (spaces : List ℕ) (blanks : AreBlanks spaces) where
   tame_lay_char : (a : Laid) (c : ℕ) → Tame (lay_char spaces a c)
   unfolding lay_char
-  tame_lay_char a c = by_space (slice_get spaces a.laid) (each_get (λ space. is_blank space ≡ true) spaces a.laid blanks)
+  tame_lay_char a c = by_space (slice_get spaces a.laid) (each_get (λ (space : ℕ). is_blank space ≡ true) spaces a.laid blanks)
     where
-      by_space : (o : Option ℕ) → IfSome o (λ space. is_blank space ≡ true)
+      by_space : (o : Option ℕ) → IfSome o (λ (space : ℕ). is_blank space ≡ true)
           → Tame (given o (answer a) λ space. put_space a.place c space >> answer (next_laid a))
       by_space None blank = tame_answer a
       by_space (Some space) blank =
