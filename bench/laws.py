@@ -63,7 +63,7 @@ class Step:
 
 
 class Content(HTMLParser):
-    """What a page has: its elements with their attributes, its characters, and what editing keeps, in order."""
+    """What a page has: its elements with their attributes, the characters of texts and comments, and what editing keeps, in order."""
 
     def __init__(self, html):
         super().__init__(convert_charrefs=True)
@@ -80,6 +80,9 @@ class Content(HTMLParser):
     def handle_data(self, data):
         self.chars |= set(data)
         self.kept += [char for char in data if char not in BLANKS]
+
+    def handle_comment(self, data):
+        self.chars |= set(data)
 
 
 content = cache(Content)
@@ -189,10 +192,11 @@ def reads_back(tree):
 def made(program, session, steps):
     """What a command brings in: names and attributes of elements, and characters."""
     for before, step, name, value in commands(steps):
-        old, new, given = content(before.html), content(step.html), unescaped(value)
+        old, new = content(before.html), content(step.html)
         attributes = {pair for pair in new.attributes - old.attributes if pair[0] not in MADE_ATTRIBUTES}
         yield not (new.names - old.names - MADE_NAMES) and not attributes
-        yield not (new.chars - old.chars - set(given) - set(" \u00a0") - {char for _, text in new.attributes for char in text or ""})
+        typed = set(unescaped(value)) if name == "inserttext" else set()
+        yield new.chars <= old.chars | typed | set(" \u00a0")
 
 
 def round_trip(program, session, steps):

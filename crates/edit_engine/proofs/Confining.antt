@@ -38,7 +38,8 @@ use Rattle.edit_engine.specs.declared.answers.Answer.TheVariants.{Yes, No}
 use Rattle.edit_engine.specs.declared.answers.ExecFault.{ExecFault}
 use Rattle.edit_engine.specs.declared.answers.ExecFault.TheVariants as fault
 use Rattle.edit_engine.specs.Commands.{row_of, action_of, is_enabled_in}
-use Rattle.edit_engine.specs.Bringing.{BringsKnown}
+use Rattle.making_laws.specs.Known.{source_of}
+use Rattle.edit_engine.specs.Bringing.{typed_by, BringsKnown}
 use Rattle.edit_engine.specs.Confinement.{KeepsOutside, KeepsHtml, KeepsMarks, KeepsSelection, HasEntry, HasJoined, IsTakenBy, KeepsIslands, KeepsCharacters, CommandKeeps, GivesBack}
 use Rattle.edit_engine.specs.Editing.{Editing, IsJoinable, IsResting}
 use Rattle.edit_engine.specs.Going.{goes_on}
@@ -168,13 +169,18 @@ module _ (old new : Editing) (at : Option Pair) (joining : Bool) (c : Command) (
 
   -- ---- what is brought in
 
-  known_kept : (new ≡ old) ⊎ IsRun old new at joining c v → BringsKnown old new
+  -- where nothing changed, each node is known, whatever the command
+  same_known : (o : Option Command) → BringsKnown o v old old
+  same_known o = own_known (source_of old.state (typed_by o v))
+
+  known_kept : (new ≡ old) ⊎ IsRun old new at joining c v → BringsKnown (Some c) v old new
   unfolding begun final
-  known_kept (inl same) = subst (λ (e : Editing). BringsKnown old e) (sym same) (own_known old.state.trees)
+  known_kept (inl same) = subst (λ (e : Editing). BringsKnown (Some c) v old e) (sym same) (same_known (Some c))
   known_kept (inr run) =
       let b = begun host k old.state in
-      let tame = (tame_at at c v).stays old.state.trees b (valid_begun host k old.state law) (own_known old.state.trees) in
-      subst (λ (e : Editing). BringsKnown old e) run.is (commands_make_known old.state (final m b) host k law (m.by_actions b) tame)
+      let typed = typed_by (Some c) v in
+      let tame = (tame_at old.state at c v).stays b (valid_begun host k old.state law) (own_known (source_of old.state typed)) in
+      subst (λ (e : Editing). BringsKnown (Some c) v old e) run.is (commands_make_known old.state (final m b) typed host k law (m.by_actions b) tame)
 
   -- ---- the HTML around the host
 
@@ -301,7 +307,7 @@ module _ (old new : Editing) (at : Option Pair) (joining : Bool) (c : Command) (
     html = html_kept (inl same);
     labels = (labels_kept (inl same)).0;
     drawn = (labels_kept (inl same)).1;
-    known = known_kept (inl same);
+    known = subst (λ (e : Editing). BringsKnown o v old e) (sym same) (same_known o);
     selection = selection_kept (inl same);
     marks = marks_kept (inl same);
     islands = same_islands o same;

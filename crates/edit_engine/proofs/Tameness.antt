@@ -1,5 +1,5 @@
--- The action of each command is tame, a line for each command.
-use Rattle.std.proofs.Common.{ℕ, Bool, true, false, List, Option, Some, None}
+-- The action of each command is tame from the document before it and what it types, a line for each command.
+use Rattle.std.proofs.Common.{ℕ, Bool, true, false, List, Option, Some, None, inr}
 use Rattle.std.specs.Prelude.{not, codes, if◌then◌else◌}
 use Rattle.html_names.specs.declared.commands.Command.{Command}
 use Rattle.html_names.specs.declared.commands.Command.TheVariants as command
@@ -7,8 +7,12 @@ use Rattle.live_range.specs.declared.places.Pair.{Pair}
 use Rattle.edit_model.specs.Action.{Flag, Select}
 use Rattle.edit_model.specs.Run.{Run, ◌>>=◌, ◌>>◌, answer, done, given, select, set_flags}
 use Rattle.edit_model.specs.declared.settings.Flags.{Flags}
-use Rattle.making_laws.specs.Tame.{Tame}
-use Rattle.making_laws.proofs.TameRuns.{tame_answer, tame_bind, tame_look, tame_if, tame_given, tame_perform}
+use Rattle.forest_changes.specs.Named.{Each}
+use Rattle.edit_model.specs.State.{State}
+use Rattle.making_laws.specs.Known.{Source, source_of, IsKnownCharacter}
+use Rattle.making_laws.specs.Tame.{Tame, TameFrom}
+use Rattle.making_laws.proofs.Attributes.{each_contained}
+use Rattle.making_laws.proofs.TameRuns.{from_any, from_bind, from_look, from_perform, tame_answer, tame_bind, tame_look, tame_if, tame_given, tame_perform}
 use Rattle.making_laws.proofs.BlockRuns.{tame_format_block, tame_justify}
 use Rattle.making_laws.proofs.DeleteRuns.{tame_delete}
 use Rattle.making_laws.proofs.FormatRuns.{tame_remove_format}
@@ -18,11 +22,12 @@ use Rattle.making_laws.proofs.ListToggleRuns.{tame_toggle_lists}
 use Rattle.making_laws.proofs.ObjectRuns.{tame_insert_line_break, tame_insert_horizontal_rule, tame_insert_image}
 use Rattle.making_laws.proofs.RestoringRuns.{tame_restore_states}
 use Rattle.making_laws.proofs.TogglingRuns.{tame_toggle_style, tame_toggle_script, tame_apply_value}
-use Rattle.making_laws.proofs.TypingRuns.{tame_insert_text, tame_insert_paragraph}
+use Rattle.making_laws.proofs.TypingRuns.{from_insert_text, tame_insert_paragraph}
 use Rattle.inline_value.specs.Overrides.{overrides_of}
 use Rattle.inline_value.specs.declared.overrides.Override.{Override}
 use Rattle.inline_commands.specs.RestoringStates.{restore_states}
 use Rattle.edit_query.specs.Carets.{is_caret}
+use Rattle.edit_engine.specs.Bringing.{typed_by}
 use Rattle.edit_engine.specs.Framing.{restore_at_caret, give_back, recorded_action, framed}
 use Rattle.edit_engine.specs.Execution.{run_at}
 use Rattle.edit_engine.specs.Commands.{row_of, own_action, action_of, is_value, flags_taken, set_css_styling, separator_set, set_separator}
@@ -44,39 +49,43 @@ tame_separator value =
 
 -- ---- all commands
 
-own_tame : (c : Command) (value : List ℕ) → Tame (own_action c value)
-own_tame command.Bold value = tame_toggle_style command.Bold
-own_tame command.Italic value = tame_toggle_style command.Italic
-own_tame command.Underline value = tame_toggle_style command.Underline
-own_tame command.Strikethrough value = tame_toggle_style command.Strikethrough
-own_tame command.Subscript value = tame_toggle_script command.Subscript
-own_tame command.Superscript value = tame_toggle_script command.Superscript
-own_tame command.CreateLink value = tame_create_link value
-own_tame command.Unlink value = tame_unlink
-own_tame command.FontName value = tame_apply_value command.FontName value
-own_tame command.FontSize value = tame_apply_value command.FontSize value
-own_tame command.ForeColor value = tame_apply_value command.ForeColor value
-own_tame command.BackColor value = tame_apply_value command.BackColor value
-own_tame command.HiliteColor value = tame_apply_value command.HiliteColor value
-own_tame command.RemoveFormat value = tame_remove_format
-own_tame command.FormatBlock value = tame_format_block value
-own_tame command.JustifyLeft value = tame_justify (codes "left")
-own_tame command.JustifyCenter value = tame_justify (codes "center")
-own_tame command.JustifyRight value = tame_justify (codes "right")
-own_tame command.JustifyFull value = tame_justify (codes "justify")
-own_tame command.Indent value = tame_indent
-own_tame command.Outdent value = tame_outdent
-own_tame command.Delete value = tame_delete
-own_tame command.InsertText value = tame_insert_text value
-own_tame command.InsertParagraph value = tame_insert_paragraph
-own_tame command.StyleWithCss value = tame_styling (not (is_value value (codes "false")))
-own_tame command.UseCss value = tame_styling (is_value value (codes "false"))
-own_tame command.DefaultParagraphSeparator value = tame_separator value
-own_tame command.InsertOrderedList value = tame_toggle_lists true
-own_tame command.InsertUnorderedList value = tame_toggle_lists false
-own_tame command.InsertLineBreak value = tame_insert_line_break
-own_tame command.InsertHorizontalRule value = tame_insert_horizontal_rule
-own_tame command.InsertImage value = tame_insert_image value
+-- the value is known by itself
+value_known : (s : State) (value : List ℕ) → Each (IsKnownCharacter (source_of s value)) value
+value_known s value = each_contained (IsKnownCharacter (source_of s value)) value (λ c there. inr (inr there))
+
+own_tame : (s : State) (c : Command) (value : List ℕ) → TameFrom (source_of s (typed_by (Some c) value)) (own_action c value)
+own_tame s command.Bold value = from_any _ _ (tame_toggle_style command.Bold)
+own_tame s command.Italic value = from_any _ _ (tame_toggle_style command.Italic)
+own_tame s command.Underline value = from_any _ _ (tame_toggle_style command.Underline)
+own_tame s command.Strikethrough value = from_any _ _ (tame_toggle_style command.Strikethrough)
+own_tame s command.Subscript value = from_any _ _ (tame_toggle_script command.Subscript)
+own_tame s command.Superscript value = from_any _ _ (tame_toggle_script command.Superscript)
+own_tame s command.CreateLink value = from_any _ _ (tame_create_link value)
+own_tame s command.Unlink value = from_any _ _ tame_unlink
+own_tame s command.FontName value = from_any _ _ (tame_apply_value command.FontName value)
+own_tame s command.FontSize value = from_any _ _ (tame_apply_value command.FontSize value)
+own_tame s command.ForeColor value = from_any _ _ (tame_apply_value command.ForeColor value)
+own_tame s command.BackColor value = from_any _ _ (tame_apply_value command.BackColor value)
+own_tame s command.HiliteColor value = from_any _ _ (tame_apply_value command.HiliteColor value)
+own_tame s command.RemoveFormat value = from_any _ _ tame_remove_format
+own_tame s command.FormatBlock value = from_any _ _ (tame_format_block value)
+own_tame s command.JustifyLeft value = from_any _ _ (tame_justify (codes "left"))
+own_tame s command.JustifyCenter value = from_any _ _ (tame_justify (codes "center"))
+own_tame s command.JustifyRight value = from_any _ _ (tame_justify (codes "right"))
+own_tame s command.JustifyFull value = from_any _ _ (tame_justify (codes "justify"))
+own_tame s command.Indent value = from_any _ _ tame_indent
+own_tame s command.Outdent value = from_any _ _ tame_outdent
+own_tame s command.Delete value = from_any _ _ tame_delete
+own_tame s command.InsertText value = from_insert_text (source_of s value) value (value_known s value)
+own_tame s command.InsertParagraph value = from_any _ _ tame_insert_paragraph
+own_tame s command.StyleWithCss value = from_any _ _ (tame_styling (not (is_value value (codes "false"))))
+own_tame s command.UseCss value = from_any _ _ (tame_styling (is_value value (codes "false")))
+own_tame s command.DefaultParagraphSeparator value = from_any _ _ (tame_separator value)
+own_tame s command.InsertOrderedList value = from_any _ _ (tame_toggle_lists true)
+own_tame s command.InsertUnorderedList value = from_any _ _ (tame_toggle_lists false)
+own_tame s command.InsertLineBreak value = from_any _ _ tame_insert_line_break
+own_tame s command.InsertHorizontalRule value = from_any _ _ tame_insert_horizontal_rule
+own_tame s command.InsertImage value = from_any _ _ (tame_insert_image value)
 
 -- ---- with the overrides recorded and restored
 
@@ -88,16 +97,20 @@ tame_back list true =
     (λ _. tame_answer true)
 tame_back list false = tame_answer false
 
-framed_tame : (recording : Bool) (m : Run Bool) → Tame m → Tame (framed recording m)
-unfolding recorded_action
-framed_tame true m h = tame_look (λ s. m >>= give_back (overrides_of s)) (λ s. tame_bind m (give_back (overrides_of s)) h (tame_back (overrides_of s)))
-framed_tame false m h = h
+module _ (source : Source) where
+  framed_tame : (recording : Bool) (m : Run Bool) → TameFrom source m → TameFrom source (framed recording m)
+  unfolding recorded_action
+  framed_tame true m h =
+      from_look source (λ s. m >>= give_back (overrides_of s))
+      (λ s. from_bind source m (give_back (overrides_of s)) h (λ b. from_any source (give_back (overrides_of s) b) (tame_back (overrides_of s) b)))
+  framed_tame false m h = h
 
-tame_action : (c : Command) (value : List ℕ) → Tame (action_of c value)
-tame_action c value = framed_tame (row_of c).recording (own_action c value) (own_tame c value)
+tame_action : (s : State) (c : Command) (value : List ℕ) → TameFrom (source_of s (typed_by (Some c) value)) (action_of c value)
+tame_action s c value = framed_tame (source_of s (typed_by (Some c) value)) (row_of c).recording (own_action c value) (own_tame s c value)
 
 -- and on a range, which is selected first
-pub tame_at : (at : Option Pair) (c : Command) (value : List ℕ) → Tame (run_at at (action_of c value))
-tame_at None c value = tame_action c value
-tame_at (Some range) c value =
-    tame_bind (select range.anchor range.focus) (λ _. action_of c value) (tame_perform (Select range.anchor range.focus) tt) (λ _. tame_action c value)
+pub tame_at : (s : State) (at : Option Pair) (c : Command) (value : List ℕ) → TameFrom (source_of s (typed_by (Some c) value)) (run_at at (action_of c value))
+tame_at s None c value = tame_action s c value
+tame_at s (Some range) c value =
+    let source = source_of s (typed_by (Some c) value) in
+    from_bind source (select range.anchor range.focus) (λ _. action_of c value) (from_perform source (Select range.anchor range.focus) tt) (λ _. tame_action s c value)

@@ -109,7 +109,7 @@ pub record CommandKeeps (host : Option ℕ) (at : Option Pair) (c : Option Comma
   pub html : KeepsHtml host old new
   pub labels : KeepsLabels old new
   pub drawn : DrawsLabels old new
-  pub known : BringsKnown old new
+  pub known : BringsKnown c v old new
   pub selection : KeepsSelection old new
   pub marks : KeepsMarks host old new
   pub islands : KeepsIslands host at c v old new

@@ -13,7 +13,7 @@ use Rattle.dom_model.specs.Forest.{Forest, content_of}
 use Rattle.edit_model.specs.Compositions.{attribute_list_of}
 use Rattle.forest_changes.specs.Named.{Each}
 use Rattle.making_laws.specs.Names.{is_set_name}
-use Rattle.making_laws.specs.Known.{IsKnownAttribute, KnowsAll}
+use Rattle.making_laws.specs.Known.{Source, IsKnownAttribute, KnowsAll}
 
 -- ---- each of a list, and what a list contains
 
@@ -43,16 +43,16 @@ module _ (f : Forest Content) where
     | inr t ↦ rw t (h.0, each_unset list name h.1)
   ]
 
-  -- the attributes of a node of known elements
-  pub list_known : (g : Forest Content) (l : ℕ) → KnowsAll f g → Each (IsKnownAttribute f) (attribute_list_of g l)
-  list_known g l known = by_content (content_of g l) refl
-    where
-      by_content : (o : Option Content) → content_of g l ≡ o → Each (IsKnownAttribute f) (unwrap_or (option_and_then attributes_in o) [])
-      by_content None e = tt
-      by_content (Some Document) e = tt
-      by_content (Some (Element name list)) e = (known l (Element name list) e).1
-      by_content (Some (Words chars)) e = tt
-      by_content (Some (Remark chars)) e = tt
+-- the attributes of a node that is known
+pub list_known : (source : Source) (g : Forest Content) (l : ℕ) → KnowsAll source g → Each (IsKnownAttribute source.forest) (attribute_list_of g l)
+list_known source g l known = by_content (content_of g l) refl
+  where
+    by_content : (o : Option Content) → content_of g l ≡ o → Each (IsKnownAttribute source.forest) (unwrap_or (option_and_then attributes_in o) [])
+    by_content None e = tt
+    by_content (Some Document) e = tt
+    by_content (Some (Element name list)) e = (known l (Element name list) e).1
+    by_content (Some (Words chars)) e = tt
+    by_content (Some (Remark chars)) e = tt
 
 -- ---- an attribute of a name that commands don't set
 

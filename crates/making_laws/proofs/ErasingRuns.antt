@@ -1,14 +1,20 @@
 -- Deleting the selection is tame.
-use Rattle.std.proofs.Common.{ℕ, Bool, List, Option, Some, None}
+use Rattle.std.proofs.Common.{◌≡◌, ℕ, Bool, true, List, [], ◌∷◌, slice_get, Option, Some, None, IfSome}
 use Rattle.live_range.specs.declared.places.Point.{Point}
 use Rattle.inline_value.specs.Recording.{Recorded}
+use Rattle.edit_model.specs.Edit.{Replace}
+use Rattle.edit_model.specs.Run.{◌>>◌, answer, given}
+use Rattle.delete_core.specs.declared.laying.Laid.{Laid}
+use Rattle.delete_core.specs.declared.scanning.Scan.{Scan}
+use Rattle.delete_core.specs.Spaces.{is_blank}
 use Rattle.delete_core.specs.Deletion.{erase_across, erase, delete_recorded, delete_selected, delete_range, delete_between, delete_selection}
 use Rattle.delete_core.specs.Ends.{collapse_selection, canonicalize_start, canonicalize_end}
 use Rattle.delete_core.specs.Erasing.{erase_within, cut_after, cut_before, fill_hollow, removed_up, strip_empty, strip_from, remove_under, remove_node, remove_nodes}
 use Rattle.delete_core.specs.Merging.{drop_prop, drop_sole, part_lines, remove_own, drop_parted, drop_soles, drop_block, split_line, split_out, drop_break_before, take_out_line, take_line, merge_content, merge_inner, drop_last_break, take_following, merge_outer, drop_emptied, take_children, merge_beside, merged, join_lists_at, join_next, join_once, join_lists, fill_empty, finish, finish_if, merge, merge_both, merge_if}
-use Rattle.delete_core.specs.Whitespace.{scan_blank, scan_char, scan_turn, scan_blanks, trim_char, trim_turn, trimmed, trimmed_if, put_space, lay_char, lay_out, lay_text, lay_turn, lay_all, laid_between, canonicalize_from, canonicalize}
+use Rattle.delete_core.specs.Whitespace.{scan_blank, scan_char, scan_turn, scan_blanks, trim_char, trim_turn, trimmed, trimmed_if, starts_line, ends_line, spaces_for, put_space, next_laid, lay_char, lay_out, lay_text, lay_turn, lay_all, laid_between, canonicalize_from, canonicalize}
 use Rattle.making_laws.specs.Tame.{Tame}
-use Rattle.making_laws.proofs.TameRuns.{tame_answer, tame_moves, tame_parts}
+use Rattle.making_laws.proofs.Characters.{AreBlanks, canonical_blanks, each_get}
+use Rattle.making_laws.proofs.TameRuns.{tame_answer, tame_bind, tame_edit, tame_look, tame_moves, tame_parts}
 use Rattle.making_laws.proofs.Wraps.{tame_append_break}
 use Rattle.making_laws.proofs.Splits.{tame_breaks_at_end, tame_split}
 use Rattle.making_laws.proofs.PushingRuns.{tame_restore_values}
@@ -47,33 +53,42 @@ tame_trimmed_if : (fix : Bool) (p : Point) (a : _) → Tame (trimmed_if fix p a)
 unfolding trimmed_if
 tame_trimmed_if fix p a = search (tame_parts, tame_trimmed)
 
-tame_put_space : (p : Point) (c space : ℕ) → Tame (put_space p c space)
+tame_put_space : (p : Point) (c space : ℕ) → is_blank space ≡ true → Tame (put_space p c space)
 unfolding put_space
-tame_put_space p c space = search tame_parts
-
-tame_lay_char : (spaces : List ℕ) (a : _) (c : ℕ) → Tame (lay_char spaces a c)
-unfolding lay_char
-tame_lay_char spaces a c = search (tame_parts, tame_put_space)
+tame_put_space p c space blank = (let put = tame_edit (Replace p.label p.offset 0 (space ∷ [])) (blank, tt) in search (put, tame_parts))
 
 tame_lay_out : (a : _) → Tame (lay_out a)
 unfolding lay_out
 tame_lay_out a = search tame_parts
 
-tame_lay_text : (spaces : List ℕ) (a : _) → Tame (lay_text spaces a)
-unfolding lay_text
-tame_lay_text spaces a = search (tame_parts, tame_lay_out, tame_lay_char)
+module _ (spaces : List ℕ) (blanks : AreBlanks spaces) where
+  tame_lay_char : (a : Laid) (c : ℕ) → Tame (lay_char spaces a c)
+  unfolding lay_char
+  tame_lay_char a c = by_space (slice_get spaces a.laid) (each_get (λ (space : ℕ). is_blank space ≡ true) spaces a.laid blanks)
+    where
+      by_space : (o : Option ℕ) → IfSome o (λ (space : ℕ). is_blank space ≡ true)
+          → Tame (given o (answer a) λ space. put_space a.place c space >> answer (next_laid a))
+      by_space None blank = tame_answer a
+      by_space (Some space) blank =
+          tame_bind (put_space a.place c space) (λ _. answer (next_laid a)) (tame_put_space a.place c space blank) (λ _. tame_answer (next_laid a))
 
-tame_lay_turn : (spaces : List ℕ) (a : _) → Tame (lay_turn spaces a)
-unfolding lay_turn
-tame_lay_turn spaces a = search (tame_parts, tame_lay_text)
+  tame_lay_text : (a : _) → Tame (lay_text spaces a)
+  unfolding lay_text
+  tame_lay_text a = search (tame_parts, tame_lay_out, tame_lay_char)
 
-tame_lay_all : (spaces : List ℕ) (start end : Point) → Tame (lay_all spaces start end)
-unfolding lay_all
-tame_lay_all spaces start end = search (tame_parts, tame_lay_turn)
+  tame_lay_turn : (a : _) → Tame (lay_turn spaces a)
+  unfolding lay_turn
+  tame_lay_turn a = search (tame_parts, tame_lay_text)
 
-tame_laid_between : (p : Point) (a : _) → Tame (laid_between p a)
-unfolding laid_between
-tame_laid_between p a = search (tame_parts, tame_lay_all)
+  tame_lay_all : (start end : Point) → Tame (lay_all spaces start end)
+  unfolding lay_all
+  tame_lay_all start end = search (tame_parts, tame_lay_turn)
+
+tame_laid_between : (p : Point) (a : Scan) → Tame (laid_between p a)
+unfolding laid_between spaces_for
+tame_laid_between p a =
+    tame_look (λ s. lay_all (spaces_for s p a) p a.end)
+    (λ s. tame_lay_all (spaces_for s p a) (canonical_blanks a.count (starts_line s.trees p) (ends_line s.trees a.end)) p a.end)
 
 tame_canonicalize_from : (fix : Bool) (p : Point) → Tame (canonicalize_from fix p)
 unfolding canonicalize_from

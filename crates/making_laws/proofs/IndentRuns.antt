@@ -5,7 +5,7 @@ use Rattle.std.specs.Option.{option_map_or}
 use Rattle.std.proofs.lemmas.Bool.{or_cases}
 use Rattle.std.proofs.lemmas.Slice.Eq.{bytes_eq-Decides}
 use Rattle.dom_model.specs.Contents.{has_name, name_of}
-use Rattle.dom_model.specs.Forest.{first_in, parent_of, Forest}
+use Rattle.dom_model.specs.Forest.{first_in, parent_of}
 use Rattle.edit_model.specs.State.{State}
 use Rattle.edit_model.specs.Compositions.{tag_of}
 use Rattle.edit_model.specs.Valid.{IsValid}
@@ -17,9 +17,8 @@ use Rattle.list_indent.specs.Sublists.{is_list}
 use Rattle.list_indent.specs.Indenting.{if_list, nested, fixed, quoted, indent_list}
 use Rattle.list_indent.specs.Outdenting.{to_div, unboxed, unindented, unwrapped, released, outdent_list, part_around, part_level, part_levels, outdent_through, outdent_along, outdent_node}
 use Rattle.list_indent.specs.Commands.{normalize_range, normalize_before, goes_on, indent_nodes, indent, split_items, goes_on_items, outdent_series, outdent_nodes, outdent}
-use Rattle.dom_model.specs.declared.Content.{Content}
 use Rattle.list_indent.specs.Series.{take_series, series_at_most, for_series}
-use Rattle.making_laws.specs.Known.{KnowsAll}
+use Rattle.making_laws.specs.Known.{Source, KnowsAll}
 use Rattle.making_laws.specs.Names.{made_names, is_made_name}
 use Rattle.making_laws.specs.Tame.{Tame}
 use Rattle.making_laws.proofs.TameRuns.{At, at_look, made_div, tame_answer, tame_bind, tame_given, tame_look, tame_look_at, tame_parts}
@@ -79,21 +78,21 @@ unfolding quoted
 tame_quoted list = tame_bind _ fixed (tame_wrap SimpleIndentation (Make (bare (codes "blockquote"))) (made_blockquote, tt) list) tame_fixed
 
 -- the list that is made has the name of one that is there, an ol or ul
-nested_at : (f : Forest Content) (s : State) → IsValid s → KnowsAll f s.trees → (list : List ℕ) (p : ℕ) → is_list s p ≡ true → At f s (nested list p)
+nested_at : (source : Source) (s : State) → IsValid s → KnowsAll source s.trees → (list : List ℕ) (p : ℕ) → is_list s p ≡ true → At source s (nested list p)
 unfolding nested
-nested_at f s is known list p h =
-    at_look f _ s ((tame_bind _ (λ _. done) (tame_wrap (Named (tag_of s.trees p) false) (Make (bare (tag_of s.trees p))) (made_list s p h, tt) list) (λ _. tame_answer tt)).stays f s is known)
+nested_at source s is known list p h =
+    at_look source _ s ((tame_bind _ (λ _. done) (tame_wrap (Named (tag_of s.trees p) false) (Make (bare (tag_of s.trees p))) (made_list s p h, tt) list) (λ _. tame_answer tt)).stays source s is known)
 
 tame_indent_at : (list : List ℕ) (a : ℕ) → Tame (look λ s. given (if_list s (parent_of s.trees a)) (quoted list) (nested list))
-tame_indent_at list a = tame_look_at _ (λ f s is known. by_parent f s is known (parent_of s.trees a))
+tame_indent_at list a = tame_look_at _ (λ source s is known. by_parent source s is known (parent_of s.trees a))
   where
-    by_test : (f : Forest Content) (s : State) → IsValid s → KnowsAll f s.trees → (p : ℕ) (v : Bool) → is_list s p ≡ v → At f s (given (if v then Some p else None) (quoted list) (nested list))
-    by_test f s is known p true e = nested_at f s is known list p e
-    by_test f s is known p false e = (tame_quoted list).stays f s is known
+    by_test : (source : Source) (s : State) → IsValid s → KnowsAll source s.trees → (p : ℕ) (v : Bool) → is_list s p ≡ v → At source s (given (if v then Some p else None) (quoted list) (nested list))
+    by_test source s is known p true e = nested_at source s is known list p e
+    by_test source s is known p false e = (tame_quoted list).stays source s is known
 
-    by_parent : (f : Forest Content) (s : State) → IsValid s → KnowsAll f s.trees → (o : Option ℕ) → At f s (given (if_list s o) (quoted list) (nested list))
-    by_parent f s is known None = (tame_quoted list).stays f s is known
-    by_parent f s is known (Some p) = by_test f s is known p (is_list s p) refl
+    by_parent : (source : Source) (s : State) → IsValid s → KnowsAll source s.trees → (o : Option ℕ) → At source s (given (if_list s o) (quoted list) (nested list))
+    by_parent source s is known None = (tame_quoted list).stays source s is known
+    by_parent source s is known (Some p) = by_test source s is known p (is_list s p) refl
 
 tame_indent_list : (list : List ℕ) → Tame (indent_list list)
 unfolding indent_list

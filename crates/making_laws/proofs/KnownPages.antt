@@ -1,11 +1,11 @@
--- A document knows its own elements, and what a command leaves is known by the document before it.
+-- A document knows its own nodes, and what a command leaves is known by the document before it.
 use Rattle.std.proofs.Common.{◌≡◌, ℕ, ◌≤◌, cond, eqb, [], Option, Some, None, refl, sym, ap, ◌∙◌, inl, inr, arith}
 use Rattle.std.specs.Prelude.{unwrap_or}
 use Rattle.std.specs.Option.{option_map, option_and_then}
 use Rattle.dom_model.specs.declared.Content.{Content}
 use Rattle.dom_model.specs.declared.Content.TheVariants.{Document, Element, Words, Remark}
 use Rattle.dom_model.specs.AttributeList.{value_of}
-use Rattle.dom_model.specs.Contents.{name_in, attributes_in}
+use Rattle.dom_model.specs.Contents.{name_in, attributes_in, chars_in}
 use Rattle.dom_model.specs.Forest.{Forest, Seen, seek, count_of, tree_of, content_of, IsDistinct}
 use Rattle.dom_model.proofs.Links.{found_count}
 use Rattle.dom_model.proofs.Stands.{Stands-count, Stands-tree_of, seek_Stands}
@@ -14,19 +14,21 @@ use Rattle.edit_model.specs.History.{begun, rested}
 use Rattle.edit_model.specs.Valid.{IsValid}
 use Rattle.edit_model.proofs.Commands.{valid_begun}
 use Rattle.edit_model.proofs.ValidRuns.{valid_along}
-use Rattle.making_laws.specs.Known.{IsKnownAttribute}
+use Rattle.making_laws.specs.Known.{IsKnownAttribute, IsKnownCharacter, source_of}
 use Rattle.making_laws.specs.Laws.{CommandsMakeKnown, NoneComes, OwnAreKnown}
 use Rattle.making_laws.proofs.Attributes.{each_contained, no_value}
 use Rattle.making_laws.proofs.Knowing.{knows_along}
 
 pub own_known : OwnAreKnown
-own_known f l Document e = tt
-own_known f l (Element name list) e = (
+own_known source l Document e = tt
+own_known source l (Element name list) e = (
   inr (l, ap (λ (o : Option Content). option_and_then name_in o) e),
-  each_contained (IsKnownAttribute f) list (λ a there. inr (l, list, ap (λ (o : Option Content). option_and_then attributes_in o) e, there)),
+  each_contained (IsKnownAttribute source.forest) list (λ a there. inr (l, list, ap (λ (o : Option Content). option_and_then attributes_in o) e, there)),
 )
-own_known f l (Words chars) e = tt
-own_known f l (Remark chars) e = tt
+own_known source l (Words chars) e =
+    each_contained (IsKnownCharacter source) chars (λ c there. inr (inl (l, chars, ap (λ (o : Option Content). option_and_then chars_in o) e, there)))
+own_known source l (Remark chars) e =
+    each_contained (IsKnownCharacter source) chars (λ c there. inr (inl (l, chars, ap (λ (o : Option Content). option_and_then chars_in o) e, there)))
 
 -- a node of a tree has its content in the forest
 content-tree : (f : Forest Content) (n l : ℕ) (c : Content) → IsDistinct f → content_of (tree_of f n) l ≡ Some c → content_of f l ≡ Some c
@@ -48,16 +50,17 @@ content-tree f n l c once e = by_seen (seek None (tree_of f n) l) refl e
 
 pub commands_make_known : CommandsMakeKnown
 unfolding rested begun
-commands_make_known s t host keeping is r tame l c e =
+commands_make_known s t value host keeping is r tame l c e =
     let began : IsValid (begun host keeping s) = valid_begun host keeping s is in
-    knows_along s.trees r began (own_known s.trees) tame l c (content-tree t.trees 0 l c (valid_along r began).forest.distinct e)
+    let source = source_of s value in
+    knows_along source r began (own_known source) tame l c (content-tree t.trees 0 l c (valid_along r began).forest.distinct e)
 
 pub none_comes : NoneComes
-none_comes name f g off known without l = by_content (content_of g l) refl
+none_comes name source g off known without l = by_content (content_of g l) refl
   where
     by_content : (o : Option Content) → content_of g l ≡ o → value_of (unwrap_or (option_and_then attributes_in o) []) name ≡ None
     by_content None e = refl
     by_content (Some Document) e = refl
-    by_content (Some (Element own list)) e = no_value f name list off without (known l (Element own list) e).1
+    by_content (Some (Element own list)) e = no_value source.forest name list off without (known l (Element own list) e).1
     by_content (Some (Words chars)) e = refl
     by_content (Some (Remark chars)) e = refl

@@ -1,4 +1,5 @@
 pub mod Attributes
+pub mod Characters
 pub mod Named
 pub mod Knowing
 pub mod KnownPages

@@ -21,7 +21,7 @@ use Rattle.edit_laws.proofs.StayingKinds.{kind_along}
 use Rattle.edit_actions.specs.Siblings.{first_parent, members, starts_in, ends_in, until}
 use Rattle.wrap_split.specs.Breaks.{breaks_before, breaks_at_end, breaks_from}
 use Rattle.wrap_split.specs.Split.{break_before, break_after, clear_before, copied, copy_front, drop_first_break, close, tidy_after, split_end, split_rest, split_marked, is_void_thing, split_at, split_members, split_parent, split_around, remove_keeping_children}
-use Rattle.making_laws.specs.Known.{IsKnownName, KnowsAll}
+use Rattle.making_laws.specs.Known.{Source, IsKnownName, KnowsAll}
 use Rattle.making_laws.specs.Tame.{Tame}
 use Rattle.making_laws.proofs.Attributes.{list_known}
 use Rattle.making_laws.proofs.Named.{IsNamed, named_parent}
@@ -85,14 +85,14 @@ tame_tail o list a z before after = search (tame_parts, tame_moves, tame_break_b
 
 -- ---- elements stay elements
 
--- the name of an element of known elements
-pub name_known : (f g : Forest Content) (l : ℕ) → KnowsAll f g → IsNamed g l → IsKnownName f (tag_of g l)
-name_known f g l known (name, e) = subst (IsKnownName f) (sym (ap (λ (o : Option (List ℕ)). unwrap_or o []) e)) (by_content (content_of g l) refl e)
+-- the name of an element that is known
+pub name_known : (source : Source) (g : Forest Content) (l : ℕ) → KnowsAll source g → IsNamed g l → IsKnownName source.forest (tag_of g l)
+name_known source g l known (name, e) = subst (IsKnownName source.forest) (sym (ap (λ (o : Option (List ℕ)). unwrap_or o []) e)) (by_content (content_of g l) refl e)
   where
-    by_content : (o : Option Content) → content_of g l ≡ o → option_and_then name_in o ≡ Some name → IsKnownName f name
+    by_content : (o : Option Content) → content_of g l ≡ o → option_and_then name_in o ≡ Some name → IsKnownName source.forest name
     by_content None at t = absurd (let u : None ≡ Some name = t in cc)
     by_content (Some Document) at t = absurd (let u : None ≡ Some name = t in cc)
-    by_content (Some (Element own list)) at t = (let same : own ≡ name = (let u : Some own ≡ Some name = t in cc) in subst (IsKnownName f) same (known l (Element own list) at).0)
+    by_content (Some (Element own list)) at t = (let same : own ≡ name = (let u : Some own ≡ Some name = t in cc) in subst (IsKnownName source.forest) same (known l (Element own list) at).0)
     by_content (Some (Words chars)) at t = absurd (let u : None ≡ Some name = t in cc)
     by_content (Some (Remark chars)) at t = absurd (let u : None ≡ Some name = t in cc)
 
@@ -126,63 +126,63 @@ still_named m s l is low (name, e) = kind_named (m.run s).0.trees l name (kind_a
 abbrev pub IsElement : State → ℕ → Type 0
 IsElement s o = (o < s.next) × IsNamed s.trees o
 
-module _ (f : Forest Content) where
-  copied_at : (o a : ℕ) (s : State) → IsValid s → KnowsAll f s.trees → IsNamed s.trees o → At f s (copied o a)
+module _ (source : Source) where
+  copied_at : (o a : ℕ) (s : State) → IsValid s → KnowsAll source s.trees → IsNamed s.trees o → At source s (copied o a)
   unfolding copied
   copied_at o a s is known named =
       let m : Run ℕ = make_element (tag_of s.trees o) (attribute_list_of s.trees o) in
-      let first : At f s m = make_at f s (tag_of s.trees o) (attribute_list_of s.trees o) (name_known f s.trees o known named, list_known f s.trees o known) in
-      at_look f _ s (at_bind f m _ s first ((tame_rest (value m s)).stays f (final m s) (valid_final m s is) (known_final f m s is known first)))
+      let first : At source s m = make_at source s (tag_of s.trees o) (attribute_list_of s.trees o) (name_known source s.trees o known named, list_known source s.trees o known) in
+      at_look source _ s (at_bind source m _ s first ((tame_rest (value m s)).stays source (final m s) (valid_final m s is) (known_final source m s is known first)))
     where
       tame_rest : (x : ℕ) → Tame (unset_attribute o (codes "id") >> (insert_before o x >> move_each_last (until a (children_of s.trees o)) x))
       tame_rest x = search (tame_parts, tame_moves)
 
-  front_at : (o : ℕ) (list : List ℕ) (a : ℕ) (s : State) → IsValid s → KnowsAll f s.trees → IsNamed s.trees o → At f s (copy_front o list a)
+  front_at : (o : ℕ) (list : List ℕ) (a : ℕ) (s : State) → IsValid s → KnowsAll source s.trees → IsNamed s.trees o → At source s (copy_front o list a)
   unfolding copy_front
-  front_at o list a s is known named = at_look f _ s (by_start (starts_in s o list))
+  front_at o list a s is known named = at_look source _ s (by_start (starts_in s o list))
     where
-      by_start : (v : Bool) → At f s (if v then done else copied o a)
-      by_start true = (tame_answer tt).stays f s is known
+      by_start : (v : Bool) → At source s (if v then done else copied o a)
+      by_start true = (tame_answer tt).stays source s is known
       by_start false = copied_at o a s is known named
 
-  rest_at : (o : ℕ) (list : List ℕ) (a z : ℕ) (before after : Bool) (s : State) → IsValid s → KnowsAll f s.trees → IsNamed s.trees o → At f s (split_rest o list a z before after)
+  rest_at : (o : ℕ) (list : List ℕ) (a z : ℕ) (before after : Bool) (s : State) → IsValid s → KnowsAll source s.trees → IsNamed s.trees o → At source s (split_rest o list a z before after)
   unfolding split_rest tail
   rest_at o list a z before after s is known named =
       let front = front_at o list a s is known named in
-      at_bind f (copy_front o list a) (λ _. tail o list a z before after) s front
-      ((tame_tail o list a z before after).stays f (final (copy_front o list a) s) (valid_final (copy_front o list a) s is) (known_final f (copy_front o list a) s is known front))
+      at_bind source (copy_front o list a) (λ _. tail o list a z before after) s front
+      ((tame_tail o list a z before after).stays source (final (copy_front o list a) s) (valid_final (copy_front o list a) s is) (known_final source (copy_front o list a) s is known front))
 
-  marked_at : (o : ℕ) (list : List ℕ) (a z : ℕ) (s : State) → IsValid s → KnowsAll f s.trees → IsNamed s.trees o → At f s (split_marked o list a z)
+  marked_at : (o : ℕ) (list : List ℕ) (a z : ℕ) (s : State) → IsValid s → KnowsAll source s.trees → IsNamed s.trees o → At source s (split_marked o list a z)
   unfolding split_marked
   marked_at o list a z s is known named =
-      at_look f _ s (by_ends (not (starts_in s o list) && ends_in s o list) (starts_in s o list && follows_break s.trees o) (ends_in s o list && precedes_break s.trees o))
+      at_look source _ s (by_ends (not (starts_in s o list) && ends_in s o list) (starts_in s o list && follows_break s.trees o) (ends_in s o list && precedes_break s.trees o))
     where
-      by_ends : (v before after : Bool) → At f s (if v then split_end o list z after else split_rest o list a z before after)
-      by_ends true before after = (tame_end o list z after).stays f s is known
+      by_ends : (v before after : Bool) → At source s (if v then split_end o list z after else split_rest o list a z before after)
+      by_ends true before after = (tame_end o list z after).stays source s is known
       by_ends false before after = rest_at o list a z before after s is known named
 
   -- the lists are those of the children of o, which is an element if it is editable
-  split_at_at : (o : ℕ) (list : List ℕ) (a z : ℕ) (s : State) → IsValid s → KnowsAll f s.trees → (is_editable_for s o ≡ true → IsElement s o) → At f s (split_at o list a z)
+  split_at_at : (o : ℕ) (list : List ℕ) (a z : ℕ) (s : State) → IsValid s → KnowsAll source s.trees → (is_editable_for s o ≡ true → IsElement s o) → At source s (split_at o list a z)
   unfolding split_at
-  split_at_at o list a z s is known named = at_look f _ s (by_test (is_editable_for s o) (is_none (parent_of s.trees o) || is_void_thing s o) refl)
+  split_at_at o list a z s is known named = at_look source _ s (by_test (is_editable_for s o) (is_none (parent_of s.trees o) || is_void_thing s o) refl)
     where
-      by_test : (v w : Bool) → is_editable_for s o ≡ v → At f s (if not v || w then done else (clear_before o list >> split_marked o list a z))
-      by_test false w e = (tame_answer tt).stays f s is known
-      by_test true true e = (tame_answer tt).stays f s is known
+      by_test : (v w : Bool) → is_editable_for s o ≡ v → At source s (if not v || w then done else (clear_before o list >> split_marked o list a z))
+      by_test false w e = (tame_answer tt).stays source s is known
+      by_test true true e = (tame_answer tt).stays source s is known
       by_test true false e =
           let m = clear_before o list in
           let own = named e in
-          let first = (tame_clear_before o list).stays f s is known in
-          at_bind f m (λ _. split_marked o list a z) s first
-          (marked_at o list a z (final m s) (valid_final m s is) (known_final f m s is known first) (still_named m s o is own.0 own.1))
+          let first = (tame_clear_before o list).stays source s is known in
+          at_bind source m (λ _. split_marked o list a z) s first
+          (marked_at o list a z (final m s) (valid_final m s is) (known_final source m s is known first) (still_named m s o is own.0 own.1))
 
-  members_at : (o : ℕ) (list : List ℕ) (s : State) → IsValid s → KnowsAll f s.trees → (is_editable_for s o ≡ true → IsElement s o) → At f s (split_members o list)
+  members_at : (o : ℕ) (list : List ℕ) (s : State) → IsValid s → KnowsAll source s.trees → (is_editable_for s o ≡ true → IsElement s o) → At source s (split_members o list)
   unfolding split_members
   members_at o list s is known named = by_first (first_in list) (last_in list)
     where
-      by_first : (p q : Option ℕ) → At f s (given p done λ a. given q done λ z. split_at o list a z)
-      by_first None q = (tame_answer tt).stays f s is known
-      by_first (Some a) None = (tame_answer tt).stays f s is known
+      by_first : (p q : Option ℕ) → At source s (given p done λ a. given q done λ z. split_at o list a z)
+      by_first None q = (tame_answer tt).stays source s is known
+      by_first (Some a) None = (tame_answer tt).stays source s is known
       by_first (Some a) (Some z) = split_at_at o list a z s is known named
 
 -- the parent of a member has a child
@@ -204,11 +204,11 @@ parent_element s x o is child editable =
 
 pub tame_split : (list : List ℕ) → Tame (split_parent list)
 unfolding split_parent
-tame_split list = record { stays = λ f s is known. at_look f _ s (by_parent f s is known (first_parent s list) refl) }
+tame_split list = record { stays = λ source s is known. at_look source _ s (by_parent source s is known (first_parent s list) refl) }
   where
-    by_parent : (f : Forest Content) (s : State) → IsValid s → KnowsAll f s.trees → (p : Option ℕ) → first_parent s list ≡ p → At f s (given p done λ o. split_members o (members s o list))
-    by_parent f s is known None e = (tame_answer tt).stays f s is known
-    by_parent f s is known (Some o) e = (let child = first_parent_is s list o e in members_at f o (members s o list) s is known (parent_element s child.0 o is child.1))
+    by_parent : (source : Source) (s : State) → IsValid s → KnowsAll source s.trees → (p : Option ℕ) → first_parent s list ≡ p → At source s (given p done λ o. split_members o (members s o list))
+    by_parent source s is known None e = (tame_answer tt).stays source s is known
+    by_parent source s is known (Some o) e = (let child = first_parent_is s list o e in members_at source o (members s o list) s is known (parent_element s child.0 o is child.1))
 
 pub tame_split_around : (n : ℕ) → Tame (split_around n)
 unfolding split_around

@@ -1,4 +1,4 @@
--- Inserting text and paragraphs is tame.
+-- Inserting paragraphs is tame, and inserting text is from a source that has its characters.
 use Rattle.std.proofs.Common.{◌≡◌, ℕ, Bool, true, false, ◌&&◌, if◌then◌else◌, List, [], ◌∷◌, Option, Some, None, refl, sym, subst, ◌∙◌, true≢false, ap, inl}
 use Rattle.std.specs.Prelude.{codes}
 use Rattle.std.specs.Option.{option_map_or, option_and_then}
@@ -11,7 +11,8 @@ use Rattle.edit_model.specs.Compositions.{attribute_list_of, tag_of}
 use Rattle.edit_model.specs.Confined.{is_editable_for}
 use Rattle.edit_model.specs.Valid.{IsValid}
 use Rattle.edit_model.specs.Moves.{insert_after}
-use Rattle.edit_model.specs.Run.{◌>>=◌, ◌>>◌, final, value, answer, done, given, extract_tail}
+use Rattle.edit_model.specs.Edit.{Replace}
+use Rattle.edit_model.specs.Run.{◌>>=◌, ◌>>◌, final, value, answer, done, given, for_each, replace, make_words, extract_tail}
 use Rattle.edit_model.proofs.Steps.{final-answer, final-look, value-bind, value-answer, value-look}
 use Rattle.wrap_split.specs.declared.rule.Criterion.TheVariants.{Never}
 use Rattle.wrap_split.specs.declared.rule.Recipe.TheVariants.{Make}
@@ -20,7 +21,7 @@ use Rattle.text_insertion.specs.Containers.{make_container, insert_container, ad
 use Rattle.text_insertion.specs.Entries.{is_empty_entry, leave_list}
 use Rattle.text_insertion.specs.Halves.{parting_point, second_name, make_second, fill_hidden, close_both, part_at, part_container, ends_line, is_heading_at, name_after}
 use Rattle.text_insertion.specs.Paragraph.{leave_text, split_text, holds_lines, break_line, part_line, part_line_if, part_paragraph, insert_paragraph_inside, insert_paragraph}
-use Rattle.text_insertion.specs.Start.{active_start, insert_at, insert_at_start}
+use Rattle.text_insertion.specs.Start.{active_start, insert_at, insert_at_start, erase}
 use Rattle.text_insertion.specs.Typing.{drop_sole_break, put_at, put_char, close_text, type_char, insert_char_at, insert_char_inside, insert_char, insert_several, insert_chars, insert_text}
 use Rattle.dom_model.specs.declared.Content.{Content}
 use Rattle.dom_model.specs.declared.Content.TheVariants.{Document, Element, Words, Remark}
@@ -28,11 +29,15 @@ use Rattle.dom_model.specs.Contents.{has_name, name_in}
 use Rattle.dom_model.specs.Forest.{Forest, content_of}
 use Rattle.edit_query.specs.Rows.{container_name}
 use Rattle.html_names.specs.ElementNames.{is_single_line_container}
-use Rattle.making_laws.specs.Known.{IsKnownName, KnowsAll}
+use Rattle.forest_changes.specs.Named.{Each}
+use Rattle.inline_commands.specs.RestoringStates.{restore_states}
+use Rattle.inline_value.specs.declared.overrides.Override.{Override}
+use Rattle.delete_core.specs.Whitespace.{canonicalize}
+use Rattle.making_laws.specs.Known.{Source, IsKnownName, IsKnownCharacter, KnowsAll}
 use Rattle.making_laws.specs.Names.{made_names, is_made_name}
-use Rattle.making_laws.specs.Tame.{Tame}
+use Rattle.making_laws.specs.Tame.{Tame, TameFrom}
 use Rattle.making_laws.proofs.NamedWraps.{AnswersNamed, named_given, named_look, named_parts, named_wrap}
-use Rattle.making_laws.proofs.TameRuns.{At, at_bind, at_look, known_final, make_at, tame_answer, tame_bind, tame_insert_after, tame_look, tame_make, tame_moves, tame_parts, valid_final}
+use Rattle.making_laws.proofs.TameRuns.{At, at_bind, at_look, from_answer, from_any, from_bind, from_edit, from_parts, from_words, known_final, make_at, tame_answer, tame_bind, tame_insert_after, tame_look, tame_make, tame_moves, tame_parts, valid_final}
 use Rattle.making_laws.proofs.Named.{IsNamed}
 use Rattle.making_laws.proofs.Attributes.{each_unset, list_known}
 use Rattle.making_laws.proofs.AncestorRuns.{made_container, tame_fix_ancestors}
@@ -167,64 +172,64 @@ tame_put_second q c d = search (tame_parts, tame_insert_after, tame_close_both)
 
 -- ---- inserting a paragraph
 
-module _ (f : Forest Content) (s : State) (is : IsValid s) (known : KnowsAll f s.trees) (c : ℕ) (named : IsNamed s.trees c) where
-  either_known : (b : Bool) (x y : List ℕ) → IsKnownName f x → IsKnownName f y → IsKnownName f (if b then x else y)
+module _ (source : Source) (s : State) (is : IsValid s) (known : KnowsAll source s.trees) (c : ℕ) (named : IsNamed s.trees c) where
+  either_known : (b : Bool) (x y : List ℕ) → IsKnownName source.forest x → IsKnownName source.forest y → IsKnownName source.forest (if b then x else y)
   either_known true x y h g = h
   either_known false x y h g = g
 
   -- the second container has the name of the first, or a name that commands make
-  second_known : (q : Point) → IsKnownName f (second_name s q c)
+  second_known : (q : Point) → IsKnownName source.forest (second_name s q c)
   unfolding second_name name_after
   second_known q =
-      let own : IsKnownName f (tag_of s.trees c) = name_known f s.trees c known named in
+      let own : IsKnownName source.forest (tag_of s.trees c) = name_known source s.trees c known named in
       either_known (ends_line s q c) _ _
       (either_known (is_heading_at s c) _ _ (inl (made_container s.flags.paragraphs))
       (either_known (has_name s.trees c (codes "dt")) _ _ (inl made_dd)
       (either_known (has_name s.trees c (codes "dd")) _ _ (inl made_dt) own)))
       own
 
-  second_at : (q : Point) → At f s (make_second q c)
+  second_at : (q : Point) → At source s (make_second q c)
   unfolding make_second
   second_at q =
       let list = attribute_list_of s.trees c in
-      at_look f _ s (make_at f s (second_name s q c) (unset_in list (codes "id")) (second_known q, each_unset f list (codes "id") (list_known f s.trees c known)))
+      at_look source _ s (make_at source s (second_name s q c) (unset_in list (codes "id")) (second_known q, each_unset source.forest list (codes "id") (list_known source s.trees c known)))
 
-  part_at_at : (q : Point) → At f s (part_at q c)
+  part_at_at : (q : Point) → At source s (part_at q c)
   unfolding part_at
   part_at_at q =
       let m = make_second q c in
       let first = second_at q in
-      at_bind f m _ s first ((tame_put_second q c (value m s)).stays f (final m s) (valid_final m s is) (known_final f m s is known first))
+      at_bind source m _ s first ((tame_put_second q c (value m s)).stays source (final m s) (valid_final m s is) (known_final source m s is known first))
 
-  part_container_at : At f s (part_container c)
+  part_container_at : At source s (part_container c)
   unfolding part_container
-  part_container_at = at_look f _ s (by_start (active_start s))
+  part_container_at = at_look source _ s (by_start (active_start s))
     where
-      by_start : (o : Option Point) → At f s (given o done λ p. part_at (parting_point s p) c)
-      by_start None = (tame_answer tt).stays f s is known
+      by_start : (o : Option Point) → At source s (given o done λ p. part_at (parting_point s p) c)
+      by_start None = (tame_answer tt).stays source s is known
       by_start (Some p) = part_at_at (parting_point s p)
 
-  part_line_at : (p : Point) → At f s (part_line p c)
+  part_line_at : (p : Point) → At source s (part_line p c)
   unfolding part_line
-  part_line_at p = at_look f _ s (by_tests (holds_lines s c) (is_empty_entry s c))
+  part_line_at p = at_look source _ s (by_tests (holds_lines s c) (is_empty_entry s c))
     where
-      by_tests : (v w : Bool) → At f s (if v then break_line p c else (if w then leave_list c else part_container c))
-      by_tests true w = (tame_break_line p c).stays f s is known
-      by_tests false true = (tame_leave_list c).stays f s is known
+      by_tests : (v w : Bool) → At source s (if v then break_line p c else (if w then leave_list c else part_container c))
+      by_tests true w = (tame_break_line p c).stays source s is known
+      by_tests false true = (tame_leave_list c).stays source s is known
       by_tests false false = part_container_at
 
 -- ---- inserting a paragraph
 
 tame_part_own : (p : Point) (c : ℕ) → Tame (own_container c >>= part_line_if p)
 tame_part_own p c = record {
-  stays = λ f s is known.
-      let first = (tame_own_container c).stays f s is known in
-      at_bind f (own_container c) (part_line_if p) s first (by_answer f s is (known_final f (own_container c) s is known first) (value (own_container c) s) refl);
+  stays = λ source s is known.
+      let first = (tame_own_container c).stays source s is known in
+      at_bind source (own_container c) (part_line_if p) s first (by_answer source s is (known_final source (own_container c) s is known first) (value (own_container c) s) refl);
 }
   where
-    by_answer : (f : Forest Content) (s : State) → IsValid s → KnowsAll f (final (own_container c) s).trees → (o : Option ℕ) → value (own_container c) s ≡ o → At f (final (own_container c) s) (part_line_if p o)
-    by_answer f s is known None e = (tame_answer tt).stays f (final (own_container c) s) (valid_final (own_container c) s is) known
-    by_answer f s is known (Some x) e = part_line_at f (final (own_container c) s) (valid_final (own_container c) s is) known x (own_named c s is x e) p
+    by_answer : (source : Source) (s : State) → IsValid s → KnowsAll source (final (own_container c) s).trees → (o : Option ℕ) → value (own_container c) s ≡ o → At source (final (own_container c) s) (part_line_if p o)
+    by_answer source s is known None e = (tame_answer tt).stays source (final (own_container c) s) (valid_final (own_container c) s is) known
+    by_answer source s is known (Some x) e = part_line_at source (final (own_container c) s) (valid_final (own_container c) s is) known x (own_named c s is x e) p
 
 tame_part_paragraph : (p : Point) → Tame (part_paragraph p)
 unfolding part_paragraph
@@ -244,45 +249,82 @@ tame_drop_sole_break : (n : ℕ) → Tame (drop_sole_break n)
 unfolding drop_sole_break
 tame_drop_sole_break n = search tame_parts depth 8
 
-tame_put_at : (c : ℕ) (p : Point) → Tame (put_at c p)
-unfolding put_at
-tame_put_at c p = search (tame_parts, tame_drop_sole_break, tame_insert_at_start) depth 9
-
-tame_put_char : (c : ℕ) → Tame (put_char c)
-unfolding put_char
-tame_put_char c = search (tame_parts, tame_put_at)
-
 tame_close_text : Tame close_text
 unfolding close_text
 tame_close_text = search (tame_parts, tame_canonicalize_start, tame_canonicalize_end, tame_collapse_selection)
 
-tame_type_char : (c : ℕ) (p : Point) → Tame (type_char c p)
-unfolding type_char
-tame_type_char c p =
-    search (tame_parts, tame_canonicalize, tame_put_char, tame_restore_states, tame_close_text) depth 8
+module _ (source : Source) where
+  from_drop : (n : ℕ) → TameFrom source (drop_sole_break n)
+  from_drop n = from_any source (drop_sole_break n) (tame_drop_sole_break n)
 
-tame_char_at : (c : ℕ) (p : Point) → Tame (insert_char_at c p)
-unfolding insert_char_at
-tame_char_at c p = search (tame_parts, tame_insert_paragraph, tame_type_char)
+  from_insert : (x : ℕ) → TameFrom source (insert_at_start x)
+  from_insert x = from_any source (insert_at_start x) (tame_insert_at_start x)
 
-tame_char_inside : (c : ℕ) → Tame (insert_char_inside c)
-unfolding insert_char_inside
-tame_char_inside c = search (tame_parts, tame_char_at)
+  from_canonicalize : (fix : Bool) (p : Point) → TameFrom source (canonicalize fix p)
+  from_canonicalize fix p = from_any source (canonicalize fix p) (tame_canonicalize fix p)
 
-tame_char : (c : ℕ) → Tame (insert_char c)
-unfolding insert_char
-tame_char c = search (tame_parts, tame_erase, tame_char_inside)
+  from_restore : (list : List Override) → TameFrom source (restore_states list)
+  from_restore list = from_any source (restore_states list) (tame_restore_states list)
 
-tame_several : (value : List ℕ) → Tame (insert_several value)
-unfolding insert_several
-tame_several value = search (tame_parts, tame_char)
+  from_close : TameFrom source close_text
+  from_close = from_any source close_text tame_close_text
 
-tame_chars : (value : List ℕ) → Tame (insert_chars value)
-unfolding insert_chars
-tame_chars [] = tame_answer tt
-tame_chars (c ∷ []) = tame_char_inside c
-tame_chars (c ∷ d ∷ rest) = tame_several (c ∷ d ∷ rest)
+  from_paragraph : TameFrom source insert_paragraph
+  from_paragraph = from_any source insert_paragraph tame_insert_paragraph
 
-pub tame_insert_text : (value : List ℕ) → Tame (insert_text value)
-unfolding insert_text
-tame_insert_text value = search (tame_parts, tame_erase, tame_chars)
+  from_erase : (merge strip backward : Bool) → TameFrom source (erase merge strip backward)
+  from_erase merge strip backward = from_any source (erase merge strip backward) (tame_erase merge strip backward)
+
+  -- ---- one character that the source has
+
+  module _ (c : ℕ) (own : IsKnownCharacter source c) where
+    from_replace : (p : Point) → TameFrom source (replace p.label p.offset 0 (c ∷ []))
+    from_replace p = from_edit source (Replace p.label p.offset 0 (c ∷ [])) (own, tt)
+
+    from_new : TameFrom source (make_words (c ∷ []))
+    from_new = from_words source (c ∷ []) (own, tt)
+
+    from_put_at : (p : Point) → TameFrom source (put_at c p)
+    unfolding put_at
+    from_put_at p = search (from_parts, from_replace, from_new, from_drop, from_insert) depth 9
+
+    from_put_char : TameFrom source (put_char c)
+    unfolding put_char
+    from_put_char = search (from_parts, from_put_at)
+
+    from_type_char : (p : Point) → TameFrom source (type_char c p)
+    unfolding type_char
+    from_type_char p = search (from_parts, from_canonicalize, from_put_char, from_restore, from_close) depth 8
+
+    from_char_at : (p : Point) → TameFrom source (insert_char_at c p)
+    unfolding insert_char_at
+    from_char_at p = search (from_parts, from_paragraph, from_type_char)
+
+    from_char_inside : TameFrom source (insert_char_inside c)
+    unfolding insert_char_inside
+    from_char_inside = search (from_parts, from_char_at)
+
+    from_char : TameFrom source (insert_char c)
+    unfolding insert_char
+    from_char = search (from_parts, from_erase, from_char_inside)
+
+  -- ---- all of them
+
+  from_each : (value : List ℕ) → Each (IsKnownCharacter source) value → TameFrom source (for_each value insert_char)
+  unfolding for_each
+  from_each [] known = from_answer source tt
+  from_each (c ∷ rest) known = from_bind source (insert_char c) (λ _. for_each rest insert_char) (from_char c known.0) (λ _. from_each rest known.1)
+
+  from_several : (value : List ℕ) → Each (IsKnownCharacter source) value → TameFrom source (insert_several value)
+  unfolding insert_several
+  from_several value known = (let every = from_each value known in search (from_parts, every))
+
+  from_chars : (value : List ℕ) → Each (IsKnownCharacter source) value → TameFrom source (insert_chars value)
+  unfolding insert_chars
+  from_chars [] known = from_answer source tt
+  from_chars (c ∷ []) known = from_char_inside c known.0
+  from_chars (c ∷ d ∷ rest) known = from_several (c ∷ d ∷ rest) known
+
+  pub from_insert_text : (value : List ℕ) → Each (IsKnownCharacter source) value → TameFrom source (insert_text value)
+  unfolding insert_text
+  from_insert_text value known = (let chars = from_chars value known in search (from_parts, from_erase, chars))

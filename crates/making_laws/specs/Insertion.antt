@@ -1,4 +1,5 @@
--- The laws of deleting and inserting: the run of each command is tame.
+-- The laws of deleting and inserting: the run of each command is tame, where the source has the
+-- characters that are typed.
 use Rattle.std.specs.Prelude.{ℕ, List}
 use Rattle.text_commands.specs.Delete.{delete}
 use Rattle.text_insertion.specs.Paragraph.{insert_paragraph}
@@ -6,13 +7,16 @@ use Rattle.text_insertion.specs.Typing.{insert_text}
 use Rattle.insert_objects.specs.Image.{insert_image}
 use Rattle.insert_objects.specs.LineBreak.{insert_line_break}
 use Rattle.insert_objects.specs.Rule.{insert_horizontal_rule}
-use Rattle.making_laws.specs.Tame.{Tame}
+use Rattle.forest_changes.specs.Named.{Each}
+use Rattle.making_laws.specs.Known.{Source, IsKnownCharacter}
+use Rattle.making_laws.specs.Tame.{Tame, TameFrom}
 
 abbrev pub DeleteIsTame : Type 0
 DeleteIsTame = Tame delete
 
 abbrev pub InsertTextIsTame : Type 0
-InsertTextIsTame = (value : List ℕ) → Tame (insert_text value)
+InsertTextIsTame = (value : List ℕ) (source : Source) → Each (IsKnownCharacter source) value
+    → TameFrom source (insert_text value)
 
 abbrev pub InsertParagraphIsTame : Type 0
 InsertParagraphIsTame = Tame insert_paragraph

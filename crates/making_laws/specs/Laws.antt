@@ -9,24 +9,25 @@ use Rattle.edit_model.specs.History.{begun, rested}
 use Rattle.edit_model.specs.Valid.{IsValid}
 use Rattle.edit_model.specs.Run.{Reaches}
 use Rattle.making_laws.specs.Names.{is_set_name}
-use Rattle.making_laws.specs.Known.{KnowsAll}
+use Rattle.making_laws.specs.Known.{Source, source_of, KnowsAll}
 use Rattle.making_laws.specs.Tame.{TameOn}
 
--- all elements stay known
+-- all nodes stay known
 abbrev pub KnownStays : Type 0
-KnownStays = (f : Forest Content) (s t : State) (r : Reaches s t) → IsValid s → KnowsAll f s.trees
-    → TameOn f r → KnowsAll f t.trees
+KnownStays =
+    (source : Source) (s t : State) (r : Reaches s t) → IsValid s → KnowsAll source s.trees
+    → TameOn source r → KnowsAll source t.trees
 
--- a document knows its own elements
+-- a document knows its own nodes
 abbrev pub OwnAreKnown : Type 0
-OwnAreKnown = (f : Forest Content) → KnowsAll f f
+OwnAreKnown = (source : Source) → KnowsAll source source.forest
 
--- so a document after a command has elements that the one before it knows
+-- so a document after a command has nodes that the one before it knows, with the value
 abbrev pub CommandsMakeKnown : Type 0
 CommandsMakeKnown =
-    (s t : State) (host : Option ℕ) (keeping : Bool) → IsValid s
-    → (r : Reaches (begun host keeping s) t)
-    → TameOn s.trees r → KnowsAll s.trees (rested t).trees
+    (s t : State) (value : List ℕ) (host : Option ℕ) (keeping : Bool) → IsValid s
+    → (r : Reaches (begun host keeping s) t) → TameOn (source_of s value) r
+    → KnowsAll (source_of s value) (rested t).trees
 
 -- no element has an attribute of the name
 abbrev pub IsWithout : List ℕ → Forest Content → Type 0
@@ -35,5 +36,5 @@ IsWithout name f = (l : ℕ) → value_of (attribute_list_of f l) name ≡ None
 -- where no element has an attribute of a name that commands don't set, no element has one in a
 -- document that is known: a page without onclick gets none
 abbrev pub NoneComes : Type 0
-NoneComes = (name : List ℕ) (f g : Forest Content) → is_set_name name ≡ false → KnowsAll f g
-    → IsWithout name f → IsWithout name g
+NoneComes = (name : List ℕ) (source : Source) (g : Forest Content) → is_set_name name ≡ false
+    → KnowsAll source g → IsWithout name source.forest → IsWithout name g

@@ -2,12 +2,13 @@
 
 ghost use Rattle.making_laws.specs.Insertion.{DeleteIsTame, InsertTextIsTame, InsertParagraphIsTame, InsertLineBreakIsTame, InsertHorizontalRuleIsTame, InsertImageIsTame};
 
-/// Deleting makes known elements alone, and sets no attributes but those that commands set.
+/// Deleting makes known elements alone, and sets no attributes but those that commands set. The
+/// characters that it puts are blanks.
 pub fn delete_is_tame()
     ensures { DeleteIsTame }
 {}
 
-/// So it is with inserting text, whatever the value.
+/// So it is with inserting text, but that it puts the characters of the value too.
 pub fn insert_text_is_tame()
     ensures { InsertTextIsTame }
 {}

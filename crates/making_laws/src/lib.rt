@@ -1,5 +1,6 @@
-//! The laws of what commands bring into a document: the names of the elements that they make, and
-//! of the attributes that they set. Each is the contract of a function that does nothing.
+//! The laws of what commands bring into a document: the names of the elements that they make and of
+//! the attributes that they set, and the characters of its texts. Each is the contract of a function
+//! that does nothing.
 #![tactic(auto)]
 
 mod blocks;
