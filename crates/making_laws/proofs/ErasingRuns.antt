@@ -4,8 +4,6 @@ use Rattle.live_range.specs.declared.places.Point.{Point}
 use Rattle.inline_value.specs.Recording.{Recorded}
 use Rattle.edit_model.specs.Edit.{Replace}
 use Rattle.edit_model.specs.Run.{◌>>◌, answer, given}
-use Rattle.delete_core.specs.declared.laying.Laid.{Laid}
-use Rattle.delete_core.specs.declared.scanning.Scan.{Scan}
 use Rattle.delete_core.specs.Spaces.{is_blank}
 use Rattle.delete_core.specs.Deletion.{erase_across, erase, delete_recorded, delete_selected, delete_range, delete_between, delete_selection}
 use Rattle.delete_core.specs.Ends.{collapse_selection, canonicalize_start, canonicalize_end}
@@ -62,7 +60,7 @@ unfolding lay_out
 tame_lay_out a = search tame_parts
 
 module _ (spaces : List ℕ) (blanks : AreBlanks spaces) where
-  tame_lay_char : (a : Laid) (c : ℕ) → Tame (lay_char spaces a c)
+  tame_lay_char : (a : _) (c : ℕ) → Tame (lay_char spaces a c)
   unfolding lay_char
   tame_lay_char a c = by_space (slice_get spaces a.laid) (each_get (λ (space : ℕ). is_blank space ≡ true) spaces a.laid blanks)
     where
@@ -84,7 +82,7 @@ module _ (spaces : List ℕ) (blanks : AreBlanks spaces) where
   unfolding lay_all
   tame_lay_all start end = search (tame_parts, tame_lay_turn)
 
-tame_laid_between : (p : Point) (a : Scan) → Tame (laid_between p a)
+tame_laid_between : (p : Point) (a : _) → Tame (laid_between p a)
 unfolding laid_between spaces_for
 tame_laid_between p a =
     tame_look (λ s. lay_all (spaces_for s p a) p a.end)
