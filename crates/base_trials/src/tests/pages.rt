@@ -2,6 +2,7 @@
 
 ghost use Rattle.std.specs.Prelude.{◌<◌};
 
+use super::rows::assert_bytes;
 use super::trees::{Trial, found};
 use node_arena::{Arena, Content};
 use page_read::{PageFault, PageKind, read_page};
@@ -76,16 +77,11 @@ static ROWS: [(&[u8], usize, PageKind); 42] = [
 ];
 
 #[test]
-fn pages_and_faults(rt: HostRuntime) -> Result<(), Fail> {
+fn pages_and_faults(rt: HostRuntime) {
     for (page, at, kind) in &ROWS {
         let fault = fault_of(rt.alloc(), page, 5);
-        assert!(rt;
-            fault.at == *at && fault.kind == *kind,
-            "{}",
-            page.escape_ascii()
-        );
+        assert_bytes(&rt, fault.at == *at && fault.kind == *kind, page);
     }
-    Ok(())
 }
 
 fn prefixes_are_unclosed(alloc: Global) -> bool {

@@ -91,17 +91,20 @@ fn is_replaced(
     put: &[char],
     want: Option<&[char]>,
 ) -> Result<bool, AllocError> {
-    match (after_replacement(alloc, at, count, put)?, want) {
-        (Some(text), Some(want)) => Ok(text.as_slice() == want),
-        (None, None) => Ok(true),
-        _ => Ok(false),
+    match after_replacement(alloc, at, count, put)? {
+        Some(text) => Ok(want == Some(text.as_slice())),
+        None => Ok(want.is_none()),
     }
+}
+
+fn has_tail_of(alloc: Global, content: &Content) -> Result<bool, AllocError> {
+    let (tail, count) = tail_of(alloc, content, 1)?;
+    Ok(tail.as_slice() == ['b', 'c'].as_slice() && count == 2)
 }
 
 fn has_tail(alloc: Global) -> Result<bool, AllocError> {
     let content = Content::Words(Chars::from_slice(alloc, &['a', 'b', 'c'])?);
-    let (tail, count) = tail_of(alloc, &content, 1)?;
-    Ok(tail.as_slice() == ['b', 'c'].as_slice() && count == 2)
+    has_tail_of(alloc, &content)
 }
 
 fn stands_once_set(list: &mut Attributes, id: &Name, value: &Chars) -> bool {

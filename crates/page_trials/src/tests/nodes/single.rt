@@ -17,8 +17,7 @@ impl Look for Lettered {
     fn meets(&self, alloc: Global, arena: &Arena) -> Result<bool, Fail> {
         for (label, wanted) in self.0 {
             let node = node_of(arena, *label)?;
-            let met = letters(alloc, arena, node)?;
-            if met.as_str() != *wanted {
+            if !has_letters(alloc, arena, node, wanted)? {
                 return Ok(false);
             }
         }
@@ -190,17 +189,34 @@ fn is_editable_anywhere(arena: &Arena, node: NodeRef) -> bool
 }
 
 // The letters of the tests that a node meets.
-fn letters(alloc: Global, arena: &Arena, node: NodeRef) -> Result<String, AllocError>
+fn has_letters(
+    alloc: Global,
+    arena: &Arena,
+    node: NodeRef,
+    wanted: &str,
+) -> Result<bool, AllocError>
     requires { Holds arena.now node }
 {
     let mut text = String::new(alloc);
-    mark(&mut text, "e", is_editable_anywhere(arena, node))?;
-    mark(&mut text, "b", is_block(arena, node))?;
-    mark(&mut text, "v", is_visible(arena, node))?;
-    mark(&mut text, "w", is_whitespace(arena, node))?;
-    mark(&mut text, "c", is_collapsed_whitespace(arena, node))?;
-    mark_breaks(&mut text, arena, node)?;
-    Ok(text)
+    marks(&mut text, arena, node, wanted)
+}
+
+fn marks(text: &mut String, arena: &Arena, node: NodeRef, wanted: &str) -> Result<bool, AllocError>
+    requires { Holds arena.now node }
+{
+    mark_each(text, arena, node)?;
+    Ok(text.as_str() == wanted)
+}
+
+fn mark_each(text: &mut String, arena: &Arena, node: NodeRef) -> Result<(), AllocError>
+    requires { Holds arena.now node }
+{
+    mark(text, "e", is_editable_anywhere(arena, node))?;
+    mark(text, "b", is_block(arena, node))?;
+    mark(text, "v", is_visible(arena, node))?;
+    mark(text, "w", is_whitespace(arena, node))?;
+    mark(text, "c", is_collapsed_whitespace(arena, node))?;
+    mark_breaks(text, arena, node)
 }
 
 fn mark_breaks(text: &mut String, arena: &Arena, node: NodeRef) -> Result<(), AllocError>
@@ -208,8 +224,7 @@ fn mark_breaks(text: &mut String, arena: &Arena, node: NodeRef) -> Result<(), Al
 {
     mark(text, "x", is_extraneous_break(arena, node))?;
     mark(text, "k", is_collapsed_break(arena, node))?;
-    mark(text, "p", is_block_prop(arena, node))?;
-    Ok(())
+    mark(text, "p", is_block_prop(arena, node))
 }
 
 #[test]
