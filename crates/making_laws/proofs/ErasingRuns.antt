@@ -1,5 +1,5 @@
 -- Deleting the selection is tame.
-use Rattle.std.proofs.Common.{◌≡◌, ℕ, Bool, true, List, [], ◌∷◌, slice_get, Option, Some, None, IfSome}
+use Rattle.std.proofs.Common.{◌≡◌, ℕ, ◌+◌, Bool, true, List, [], ◌∷◌, slice_get, Option, Some, None, IfSome}
 use Rattle.live_range.specs.declared.places.Point.{Point}
 use Rattle.inline_value.specs.Recording.{Recorded}
 use Rattle.edit_model.specs.Edit.{Replace}
@@ -12,7 +12,7 @@ use Rattle.delete_core.specs.Merging.{drop_prop, drop_sole, part_lines, remove_o
 use Rattle.delete_core.specs.Whitespace.{scan_blank, scan_char, scan_turn, scan_blanks, trim_char, trim_turn, trimmed, trimmed_if, starts_line, ends_line, spaces_for, put_space, next_laid, lay_char, lay_out, lay_text, lay_turn, lay_all, laid_between, canonicalize_from, canonicalize}
 use Rattle.making_laws.specs.Tame.{Tame}
 use Rattle.making_laws.proofs.Characters.{AreBlanks, canonical_blanks, each_get}
-use Rattle.making_laws.proofs.TameRuns.{tame_answer, tame_bind, tame_edit, tame_look, tame_moves, tame_parts}
+use Rattle.making_laws.proofs.TameRuns.{tame_answer, tame_bind, tame_edit, tame_if, tame_look, tame_moves, tame_parts}
 use Rattle.making_laws.proofs.Wraps.{tame_append_break}
 use Rattle.making_laws.proofs.Splits.{tame_breaks_at_end, tame_split}
 use Rattle.making_laws.proofs.PushingRuns.{tame_restore_values}
@@ -53,7 +53,9 @@ tame_trimmed_if fix p a = search (tame_parts, tame_trimmed)
 
 tame_put_space : (p : Point) (c space : ℕ) → is_blank space ≡ true → Tame (put_space p c space)
 unfolding put_space
-tame_put_space p c space blank = (let put = tame_edit (Replace p.label p.offset 0 (space ∷ [])) (blank, tt) in search (put, tame_parts))
+tame_put_space p c space blank =
+    tame_if _ _ _ (tame_answer tt)
+    (tame_bind _ _ (tame_edit (Replace p.label p.offset 0 (space ∷ [])) (blank, tt)) (λ _. tame_bind _ _ (tame_edit (Replace p.label (p.offset + 1) 1 []) tt) (λ _. tame_answer tt)))
 
 tame_lay_out : (a : _) → Tame (lay_out a)
 unfolding lay_out

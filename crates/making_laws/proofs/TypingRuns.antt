@@ -37,7 +37,7 @@ use Rattle.making_laws.specs.Known.{Source, IsKnownName, IsKnownCharacter, Knows
 use Rattle.making_laws.specs.Names.{made_names, is_made_name}
 use Rattle.making_laws.specs.Tame.{Tame, TameFrom}
 use Rattle.making_laws.proofs.NamedWraps.{AnswersNamed, named_given, named_look, named_parts, named_wrap}
-use Rattle.making_laws.proofs.TameRuns.{At, at_bind, at_look, from_answer, from_any, from_bind, from_edit, from_parts, from_words, known_final, make_at, tame_answer, tame_bind, tame_insert_after, tame_look, tame_make, tame_moves, tame_parts, valid_final}
+use Rattle.making_laws.proofs.TameRuns.{At, at_bind, at_look, from_answer, from_any, from_bind, from_edit, from_if, from_look, from_parts, from_words, known_final, make_at, tame_answer, tame_bind, tame_insert_after, tame_look, tame_make, tame_moves, tame_parts, valid_final}
 use Rattle.making_laws.proofs.Named.{IsNamed}
 use Rattle.making_laws.proofs.Attributes.{each_unset, list_known}
 use Rattle.making_laws.proofs.AncestorRuns.{made_container, tame_fix_ancestors}
@@ -317,7 +317,7 @@ module _ (source : Source) where
 
   from_several : (value : List ℕ) → Each (IsKnownCharacter source) value → TameFrom source (insert_several value)
   unfolding insert_several
-  from_several value known = (let every = from_each value known in search (from_parts, every))
+  from_several value known = from_look source _ (λ s. from_if source _ _ _ (from_answer source tt) (from_each value known))
 
   from_chars : (value : List ℕ) → Each (IsKnownCharacter source) value → TameFrom source (insert_chars value)
   unfolding insert_chars
@@ -327,4 +327,5 @@ module _ (source : Source) where
 
   pub from_insert_text : (value : List ℕ) → Each (IsKnownCharacter source) value → TameFrom source (insert_text value)
   unfolding insert_text
-  from_insert_text value known = (let chars = from_chars value known in search (from_parts, from_erase, chars))
+  from_insert_text value known =
+      from_bind source _ _ (from_erase true false false) (λ _. from_bind source _ _ (from_chars value known) (λ _. from_answer source true))
