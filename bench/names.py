@@ -1,11 +1,12 @@
 #!/usr/bin/env python3
 """Whether names can be chosen that make a page dear: instructions by callgrind, over pages with names that a stranger would choose.
 
-Usage: bench/names.py [--million N ..] [--seconds N] [--clock] [PROGRAM]   (PROGRAM is crates/hedit/out/hedit unless given)
+Usage: bench/names.py [--million N ..] [--seconds N] [--clock] [--part PART ..] [PROGRAM]   (PROGRAM is crates/hedit/out/hedit unless given)
 Valgrind is needed, or with --clock, which takes seconds of processor in place of instructions, nothing else.
 
-Two parts: one tag with as many attributes as fit, under `check`; and one style with as many declarations, under `run` with a command
-that sets a property of that style. Each at 1 MB and at 4 MB, in these forms:
+Three parts: one tag with as many attributes as fit, under `check`; one style with as many declarations, under `run` with a command
+that sets a property of that style; and as many marks, of which a session sets one and takes it out after the other. Each at 1 MB and at
+4 MB, in these forms:
 
 - plain: names that are drawn at random, of the same length and number;
 - hash: names whose places in a hash table come to lie in its first sixteenth. That is the table that held names before: it has a
@@ -130,6 +131,12 @@ def style(names):
     return "\n".join(["page <<END", page, "END", *acts, ""])
 
 
+def marks(names):
+    """A session that sets a mark of each name and takes it out again, so that one is there at a time."""
+    acts = [f"mark {name} 0:0 0:0\nunmark {name}" for name in names]
+    return "\n".join(["page <<END", '<div contenteditable="true"><p>foobar</p></div>', "END", *acts, ""])
+
+
 def measured(command, text, seconds, work):
     """The seconds of processor that a command takes with this input, or None where it takes longer than is given."""
     (work / "input").write_text(text)
@@ -165,13 +172,16 @@ def main():
     parser.add_argument("--million", type=float, nargs="+", default=[1, 4], help="the millions of bytes of a page")
     parser.add_argument("--seconds", type=int, default=600, help="the most that one page may take")
     parser.add_argument("--clock", action="store_true", help="take seconds of processor in place of instructions")
+    parser.add_argument("--part", nargs="+", choices=["attributes", "declarations", "marks"], help="these parts alone")
     parser.add_argument("program", nargs="?", default=Path(__file__).resolve().parent.parent / "crates/hedit/out/hedit")
     given = parser.parse_args()
     rng = random.Random(1)
     missed = False
-    parts = [("attributes", "check", attributes, 1, 1), ("declarations", "run", style, 3, 4)]
+    parts = [("attributes", "check", attributes, 1, 1), ("declarations", "run", style, 3, 4), ("marks", "run", marks, 30, 1)]
     with tempfile.TemporaryDirectory() as folder:
         for part, act, written, extra, width in parts:
+            if given.part and part not in given.part:
+                continue
             for millions in given.million:
                 plain = {}
                 for form, length, names, count in forms(rng, int(millions * 1_000_000), extra, width):

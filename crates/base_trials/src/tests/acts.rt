@@ -1,101 +1,85 @@
 //! Acts and faults by the grammar of a session's lines.
 
-use super::rows::{assert_bytes, assert_row};
-use dom_model::{Chars, Name};
-use html_names::QueryKind;
+use super::rows::assert_row;
+use dom_model::Name;
 use script_read::{Act, LineFault, Path, Place, read_line};
 use std::alloc::{AllocError, Global};
 use std::process::Abort;
 use std::test::Fail;
 
 fn push_path(text: &mut String, path: &Path) -> Result<(), AllocError> {
+    let alloc = *text.allocator();
     for index in path.as_slice() {
-        write!(text, "/{index}")?;
+        text.push_str(format!(in alloc; "/{index}")?.as_str())?;
     }
     Ok(())
 }
 
 fn push_place(text: &mut String, place: &Place) -> Result<(), AllocError> {
+    let alloc = *text.allocator();
     text.push_str(" ")?;
     push_path(text, &place.path)?;
-    write!(text, ":{}", place.offset)
+    let offset = place.offset;
+    text.push_str(format!(in alloc; ":{offset}")?.as_str())?;
+    Ok(())
 }
 
-// An act of two points.
-fn push_range(
-    text: &mut String,
-    act: &str,
-    anchor: &Place,
-    focus: &Place,
-) -> Result<(), AllocError> {
-    text.push_str(act)?;
-    push_place(text, anchor)?;
-    push_place(text, focus)
-}
-
-// An act on a name.
-fn push_named(text: &mut String, act: &str, name: &Name) -> Result<(), AllocError> {
-    text.push_str(act)?;
+fn push_name(text: &mut String, name: &Name) -> Result<(), AllocError> {
+    text.push_str(" ")?;
     for b in name.as_slice() {
         text.push(*b as char)?;
     }
     Ok(())
 }
 
-fn push_mark(
-    text: &mut String,
-    name: &Name,
-    anchor: &Place,
-    focus: &Place,
-) -> Result<(), AllocError> {
-    push_named(text, "mark ", name)?;
-    push_range(text, "", anchor, focus)
-}
-
-fn push_command(text: &mut String, name: &Name, value: &Chars) -> Result<(), AllocError> {
-    push_named(text, "exec ", name)?;
-    text.push_str(" = ")?;
-    for c in value.as_slice() {
-        text.push(*c)?;
-    }
-    Ok(())
-}
-
-fn push_question(text: &mut String, kind: QueryKind, name: &Name) -> Result<(), AllocError> {
-    write!(text, "query {kind:?}")?;
-    push_named(text, " ", name)
-}
-
-fn push_count(text: &mut String, act: &str, count: u32) -> Result<(), AllocError> {
-    write!(text, "{act} {count}")
-}
-
-fn push_probe(text: &mut String, path: &Path) -> Result<(), AllocError> {
-    text.push_str("probe ")?;
-    push_path(text, path)
-}
-
 fn push_act(text: &mut String, act: &Act) -> Result<(), AllocError> {
+    let alloc = *text.allocator();
     match act {
-        Act::Select { anchor, focus } => push_range(text, "select", anchor, focus),
-        Act::Unselect => text.push_str("unselect"),
+        Act::Select { anchor, focus } => {
+            text.push_str("select")?;
+            push_place(text, anchor)?;
+            push_place(text, focus)?;
+        }
+        Act::Unselect => text.push_str("unselect")?,
         Act::Mark {
             name,
             anchor,
             focus,
-        } => push_mark(text, name, anchor, focus),
-        Act::Unmark { name } => push_named(text, "unmark ", name),
-        Act::Exec { name, value } => push_command(text, name, value),
-        Act::Query { kind, name } => push_question(text, *kind, name),
-        Act::Undo { count } => push_count(text, "undo", *count),
-        Act::Redo { count } => push_count(text, "redo", *count),
-        Act::Probe { path } => push_probe(text, path),
-        Act::Html => text.push_str("html"),
-        Act::Tree => text.push_str("tree"),
-        Act::Points => text.push_str("points"),
-        Act::Stat => text.push_str("stat"),
-        Act::Log => text.push_str("log"),
+        } => {
+            text.push_str("mark")?;
+            push_name(text, name)?;
+            push_place(text, anchor)?;
+            push_place(text, focus)?;
+        }
+        Act::Unmark { name } => {
+            text.push_str("unmark")?;
+            push_name(text, name)?;
+        }
+        Act::Exec { name, value } => {
+            text.push_str("exec")?;
+            push_name(text, name)?;
+            text.push_str(" = ")?;
+            for c in value.as_slice() {
+                text.push(*c)?;
+            }
+        }
+        Act::Query { kind, name } => {
+            text.push_str(format!(in alloc; "query {kind:?}")?.as_str())?;
+            push_name(text, name)?;
+        }
+        Act::Undo { count } => text.push_str(format!(in alloc; "undo {count}")?.as_str())?,
+        Act::Redo { count } => text.push_str(format!(in alloc; "redo {count}")?.as_str())?,
+        Act::Probe { path } => {
+            text.push_str("probe ")?;
+            push_path(text, path)?;
+        }
+        Act::Html => text.push_str("html")?,
+        Act::Tree => text.push_str("tree")?,
+        Act::Points => text.push_str("points")?,
+        Act::Stat => text.push_str("stat")?,
+        Act::Log => text.push_str("log")?,
     }
+    Ok(())
 }
 
 fn push_told(text: &mut String, line: &[u8]) -> Result<(), AllocError> {
@@ -244,7 +228,7 @@ static SHORT_CASES: [(&[u8], &str); 18] = [
 
 fn compare(rt: &impl Abort, alloc: Global, cases: &[(&[u8], &str)]) {
     for (line, want) in cases {
-        assert_bytes(rt, is_told(alloc, line, want), line);
+        assert!(rt; is_told(alloc, line, want), "{}", line.escape_ascii());
     }
 }
 

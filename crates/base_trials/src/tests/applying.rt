@@ -3,7 +3,6 @@
 ghost use Rattle.std.specs.Prelude.{◌<◌, IfOk, length};
 ghost use Rattle.step_text.specs.Applying.{made_length, text_length};
 
-use super::rows::assert_row;
 use super::trees::{Trial, found, label, list_of};
 use node_arena::{Arena, Content};
 use std::alloc::Global;
@@ -38,17 +37,6 @@ fn text(alloc: Global, only: char) -> Result<Chars, Fail>
     Ok(Chars::from_slice(alloc, &[only])?)
 }
 
-fn tag(alloc: Global, label: u32, name: &[u8]) -> Result<StepLine, Fail>
-    ensures { IfOk result (λ step. text_length step < 9) }
-{
-    let attributes = list_of(alloc, b"q", &['v'])?;
-    Ok(StepLine::Tag {
-        label,
-        name: Name::from_slice(alloc, name)?,
-        attributes,
-    })
-}
-
 fn step(alloc: Global, line: Line) -> Result<StepLine, Fail>
     ensures { IfOk result (λ step. text_length step < 9) }
 {
@@ -79,7 +67,11 @@ fn step(alloc: Global, line: Line) -> Result<StepLine, Fail>
             label,
             words: text(alloc, only)?,
         },
-        Line::Tag(label, name) => tag(alloc, label, name)?,
+        Line::Tag(label, name) => StepLine::Tag {
+            label,
+            name: Name::from_slice(alloc, name)?,
+            attributes: list_of(alloc, b"q", &['v'])?,
+        },
     };
     Ok(step)
 }
@@ -302,6 +294,7 @@ fn replays_what_is_too_deep(alloc: Global, page: &mut Replay) -> Result<Option<L
     Ok(None)
 }
 
+#[derive(Debug)]
 enum Lines {
     WithBadLabels,
     WithBadPlaces,
@@ -322,35 +315,26 @@ impl Trial for Lines {
     }
 }
 
-// A trial, for how many nodes there is room beside the document, and what is tried.
-static TRIALS: [(Lines, u16, &str); 4] = [
-    (Lines::WithBadLabels, 19, "lines with bad labels"),
-    (Lines::WithBadPlaces, 19, "lines with bad places"),
-    (Lines::Applied, 19, "lines that are applied"),
-    (Lines::TooDeep, 1_999, "lines that lead too deep"),
+// A trial, and for how many nodes there is room beside the document.
+static TRIALS: [(Lines, u16); 4] = [
+    (Lines::WithBadLabels, 19),
+    (Lines::WithBadPlaces, 19),
+    (Lines::Applied, 19),
+    (Lines::TooDeep, 1_999),
 ];
 
 #[test]
 fn lines_are_applied_or_refused(rt: HostRuntime) -> Result<(), Fail> {
-    for (trial, room, name) in &TRIALS {
-        let other = found(rt.alloc(), *room, trial)?;
-        assert_row(&rt, other.is_none(), name);
+    for (trial, room) in &TRIALS {
+        assert_eq!(rt; found(rt.alloc(), *room, trial)?, None, "{trial:?}");
     }
     Ok(())
 }
 
-fn is_replayed(alloc: Global, page: &mut Replay) -> Result<bool, Fail> {
-    let other = replays_what_is_too_deep(alloc, page)?;
-    Ok(other.is_none() && place(page.arena(), 1_002) == Some((Some(1_000), None)))
-}
-
-fn replays(alloc: Global) -> Result<bool, Fail> {
-    let mut page = Replay::new(Arena::new(alloc, 2_000)?);
-    is_replayed(alloc, &mut page)
-}
-
 #[test]
 fn lines_are_replayed(rt: HostRuntime) -> Result<(), Fail> {
-    assert!(rt; replays(rt.alloc())?);
+    let mut page = Replay::new(Arena::new(rt.alloc(), 2_000)?);
+    assert!(rt; replays_what_is_too_deep(rt.alloc(), &mut page)?.is_none());
+    assert_eq!(rt; place(page.arena(), 1_002), Some((Some(1_000), None)));
     Ok(())
 }

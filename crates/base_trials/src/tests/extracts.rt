@@ -75,35 +75,10 @@ fn has(arena: &Arena, label: u32) -> bool
     arena.find(label).is_some()
 }
 
-fn is_text(alloc: Global, chars: &[char], text: &str) -> bool {
+fn is_text(alloc: Global, chars: &[char], text: &str) -> Result<bool, AllocError> {
     let mut bytes = Vec::new(alloc);
-    push_chars(&mut bytes, chars).is_ok() && bytes.as_slice() == text.as_bytes()
-}
-
-fn has_html(
-    alloc: Global,
-    arena: &Arena,
-    range: (Point, Point),
-    wanted: &str,
-) -> Result<bool, AllocError>
-    requires start { 0 < count_of arena.now.trees range.0.label }
-    requires end { 0 < count_of arena.now.trees range.1.label }
-{
-    let html = range_html(alloc, arena, range)?;
-    Ok(html.as_slice() == wanted.as_bytes())
-}
-
-fn has_text(
-    alloc: Global,
-    arena: &Arena,
-    range: (Point, Point),
-    wanted: &str,
-) -> Result<bool, AllocError>
-    requires start { 0 < count_of arena.now.trees range.0.label }
-    requires end { 0 < count_of arena.now.trees range.1.label }
-{
-    let text = range_text(alloc, arena, range)?;
-    Ok(is_text(alloc, &text, wanted))
+    push_chars(&mut bytes, chars)?;
+    Ok(bytes.as_slice() == text.as_bytes())
 }
 
 fn is_extract(alloc: Global, arena: &Arena, row: &Extract) -> Result<bool, AllocError> {
@@ -118,10 +93,9 @@ fn is_extract(alloc: Global, arena: &Arena, row: &Extract) -> Result<bool, Alloc
         label: row.end.0,
         offset: row.end.1,
     };
-    Ok(
-        has_html(alloc, arena, (start, end), row.html)?
-            && has_text(alloc, arena, (start, end), row.text)?,
-    )
+    let html = range_html(alloc, arena, (start, end))?;
+    let text = range_text(alloc, arena, (start, end))?;
+    Ok(html.as_slice() == row.html.as_bytes() && is_text(alloc, &text, row.text)?)
 }
 
 fn is_path(alloc: Global, arena: &Arena, label: u32, path: &[u32]) -> Result<bool, AllocError> {
@@ -134,20 +108,12 @@ fn is_path(alloc: Global, arena: &Arena, label: u32, path: &[u32]) -> Result<boo
     Ok(path_of(alloc, arena, node)?.as_slice() == path)
 }
 
-fn writes(alloc: Global, arena: &Arena, wanted: &[u8]) -> Result<bool, AllocError> {
-    let whole = write_html(alloc, arena)?;
-    Ok(whole.as_slice() == wanted)
-}
-
-// Whether the document as a node is written as the page is.
-fn is_whole(alloc: Global, arena: &Arena) -> Result<bool, AllocError> {
+fn is_page(alloc: Global, arena: &Arena) -> Result<bool, AllocError> {
     let html = node_html(alloc, arena, arena.document())?;
-    writes(alloc, arena, &html)
-}
-
-fn is_plain(alloc: Global, arena: &Arena) -> Result<bool, AllocError> {
     let text = plain_text(alloc, arena, arena.document())?;
-    Ok(is_text(alloc, &text, "one two\nthree\nfour"))
+    let whole = write_html(alloc, arena)?;
+    let is_written = html.as_slice() == whole.as_slice();
+    Ok(is_written && is_text(alloc, &text, "one two\nthree\nfour")?)
 }
 
 fn is_found(alloc: Global, arena: &Arena) -> Result<bool, AllocError> {
@@ -157,8 +123,7 @@ fn is_found(alloc: Global, arena: &Arena) -> Result<bool, AllocError> {
 }
 
 fn check_page(rt: &impl Abort, alloc: Global, arena: &Arena) -> Result<(), Fail> {
-    assert_row(rt, is_whole(alloc, arena)?, "the page");
-    assert_row(rt, is_plain(alloc, arena)?, "the page as plain text");
+    assert_row(rt, is_page(alloc, arena)?, "the page");
     assert_row(rt, is_found(alloc, arena)?, "what is found");
     assert_row(rt, is_path(alloc, arena, 9, &[1, 1, 0])?, "a path");
     assert_row(rt, is_path(alloc, arena, 0, &[])?, "no path");

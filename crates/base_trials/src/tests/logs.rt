@@ -373,7 +373,7 @@ fn keeps_the_numbers(rt: HostRuntime) -> Result<(), Fail> {
 }
 
 // A watcher: how many steps it saw, up to two, and the numbers before each of those.
-#[derive(Clone, Copy, PartialEq, Eq)]
+#[derive(Clone, Copy, PartialEq, Eq, Debug)]
 struct Sights {
     count: usize,
     numbers: [Numbers; 2],
@@ -395,15 +395,8 @@ static NONE: Sights = Sights {
     numbers: [[0; 4]; 2],
 };
 
-// An entry that writes 9 at 0 and swaps 0 and 3.
-static ENTRY: [Call; 4] = [
-    Call::Begin,
-    Call::Write(0, 9),
-    Call::Swap(0, 3),
-    Call::Commit,
-];
-
-// What is seen of that entry from 1 2 3 4, past each count of its steps.
+// What is seen of an entry that writes 9 at 0 and swaps 0 and 3, from 1 2 3 4, past each count of
+// its steps.
 static MADE: [Sights; 3] = [
     Sights {
         count: 2,
@@ -434,52 +427,44 @@ fn undone_sights<L: Ledger>(session: &mut Session<Edit, Numbers, L>) -> Sights {
     sights
 }
 
-fn make_entry<L: Ledger>(session: &mut Session<Edit, Numbers, L>) -> Result<(), AllocError> {
-    for call in &ENTRY {
-        answer(session, *call)?;
-    }
-    Ok(())
-}
-
-// Whether these are seen with an entry, of the last entry past each count of steps, and of the one
-// that redo would take, which isn't there.
-fn shows_made<L: Ledger>(session: &mut Session<Edit, Numbers, L>) -> bool {
-    last_sights(session, 0) == MADE[0]
-        && last_sights(session, 1) == MADE[1]
-        && last_sights(session, 2) == MADE[2]
-        && undone_sights(session) == NONE
-}
-
-// The same once the entry is undone.
-fn shows_undone<L: Ledger>(session: &mut Session<Edit, Numbers, L>) -> bool {
-    last_sights(session, 0) == NONE && undone_sights(session) == UNDONE
-}
-
-fn shows<L: Ledger>(session: &mut Session<Edit, Numbers, L>) -> bool {
-    if make_entry(session).is_err() {
-        return false;
-    }
-    let made = shows_made(session);
-    session.undo();
-    let undone = shows_undone(session);
-    session.redo();
-    made && undone && session.state == [4, 2, 3, 9]
-}
-
-fn watch_entry<L: Ledger>(alloc: Global, blank: Blank) -> Result<bool, AllocError>
+// What is seen with an entry and once it is undone, of the last entry past each count of steps, and
+// of the one that redo would take.
+fn watch_entry<L: Ledger>(
+    alloc: Global,
+    blank: Blank,
+) -> Result<([Sights; 4], [Sights; 2], Numbers), AllocError>
     requires name { blank.name ≡ L.name }
     requires parts { blank.parts ≡ L.parts }
     requires some { 0 < blank.parts }
 {
     let steps = Steps::<L>::open(blank);
     let mut session = Session::<Edit, Numbers, L>::new(alloc, 2, [1, 2, 3, 4], steps)?;
-    Ok(shows(&mut session))
+    for call in [
+        Call::Begin,
+        Call::Write(0, 9),
+        Call::Swap(0, 3),
+        Call::Commit,
+    ] {
+        answer(&mut session, call)?;
+    }
+    let made = [
+        last_sights(&mut session, 0),
+        last_sights(&mut session, 1),
+        last_sights(&mut session, 2),
+        undone_sights(&mut session),
+    ];
+    session.undo();
+    let undone = [last_sights(&mut session, 0), undone_sights(&mut session)];
+    session.redo();
+    Ok((made, undone, session.state))
 }
 
 #[test]
 fn shows_an_entry(rt: HostRuntime) -> Result<(), Fail> {
-    let shown = watch_entry::<Brand>(rt.alloc(), Blank::new(1))?;
-    assert!(rt; shown);
+    let (made, undone, numbers) = watch_entry::<Brand>(rt.alloc(), Blank::new(1))?;
+    assert_eq!(rt; made, [MADE[0], MADE[1], MADE[2], NONE]);
+    assert_eq!(rt; undone, [NONE, UNDONE]);
+    assert_eq!(rt; numbers, [4, 2, 3, 9]);
     Ok(())
 }
 

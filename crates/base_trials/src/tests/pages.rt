@@ -2,7 +2,6 @@
 
 ghost use Rattle.std.specs.Prelude.{◌<◌};
 
-use super::rows::assert_bytes;
 use super::trees::{Trial, found};
 use node_arena::{Arena, Content};
 use page_read::{PageFault, PageKind, read_page};
@@ -77,11 +76,16 @@ static ROWS: [(&[u8], usize, PageKind); 42] = [
 ];
 
 #[test]
-fn pages_and_faults(rt: HostRuntime) {
+fn pages_and_faults(rt: HostRuntime) -> Result<(), Fail> {
     for (page, at, kind) in &ROWS {
         let fault = fault_of(rt.alloc(), page, 5);
-        assert_bytes(&rt, fault.at == *at && fault.kind == *kind, page);
+        assert!(rt;
+            fault.at == *at && fault.kind == *kind,
+            "{}",
+            page.escape_ascii()
+        );
     }
+    Ok(())
 }
 
 fn prefixes_are_unclosed(alloc: Global) -> bool {

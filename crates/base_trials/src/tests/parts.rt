@@ -91,20 +91,17 @@ fn is_replaced(
     put: &[char],
     want: Option<&[char]>,
 ) -> Result<bool, AllocError> {
-    match after_replacement(alloc, at, count, put)? {
-        Some(text) => Ok(want == Some(text.as_slice())),
-        None => Ok(want.is_none()),
+    match (after_replacement(alloc, at, count, put)?, want) {
+        (Some(text), Some(want)) => Ok(text.as_slice() == want),
+        (None, None) => Ok(true),
+        _ => Ok(false),
     }
-}
-
-fn has_tail_of(alloc: Global, content: &Content) -> Result<bool, AllocError> {
-    let (tail, count) = tail_of(alloc, content, 1)?;
-    Ok(tail.as_slice() == ['b', 'c'].as_slice() && count == 2)
 }
 
 fn has_tail(alloc: Global) -> Result<bool, AllocError> {
     let content = Content::Words(Chars::from_slice(alloc, &['a', 'b', 'c'])?);
-    has_tail_of(alloc, &content)
+    let (tail, count) = tail_of(alloc, &content, 1)?;
+    Ok(tail.as_slice() == ['b', 'c'].as_slice() && count == 2)
 }
 
 fn stands_once_set(list: &mut Attributes, id: &Name, value: &Chars) -> bool {

@@ -3,7 +3,7 @@
 ghost use Rattle.std.specs.Prelude.{◌≡◌, ◌<◌};
 ghost use Rattle.live_range.specs.LivePoints.{no_points};
 
-use super::rows::{assert_nth, assert_row};
+use super::rows::assert_row;
 use live_range::{MarkFault, Pair, Point, Points};
 use std::alloc::Global;
 use std::test::Fail;
@@ -218,7 +218,7 @@ fn is_met(alloc: Global, row: Row) -> Result<bool, Fail> {
 fn points_follow_edits(rt: HostRuntime) -> Result<(), Fail> {
     for (number, (edit, at, to)) in EDITS.iter().enumerate() {
         let met = is_met(rt.alloc(), Row::Edit(*edit, *at, *to))?;
-        assert_nth(&rt, met, number);
+        assert!(rt; met, "row {number}");
     }
     Ok(())
 }

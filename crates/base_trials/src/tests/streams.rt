@@ -1,6 +1,4 @@
 //! Each form of a source and of a sink in a run of several calls, with what it must answer.
-
-use super::rows::assert_nth;
 use edit_io::{
     Failed, MemorySink, MemorySource, ReadAllFault, ReadSource, Sink, SinkFault, SliceSource,
     Source, SureSink, WriteSink, read_all, write_all,
@@ -80,10 +78,10 @@ fn reads_text_in_sevens(alloc: Global) -> Result<bool, AllocError> {
 
 #[test]
 fn reads_in_pieces(rt: HostRuntime) -> Result<(), Fail> {
-    for (number, (failing, limit, wanted, calls, at)) in READS.iter().enumerate() {
+    for (failing, limit, wanted, calls, at) in &READS {
         let found = read_in_sevens(rt.alloc(), *failing, *limit)?;
         let right = found.0 == *wanted && found.1 == *calls && found.2 == *at;
-        assert_nth(&rt, right, number);
+        assert!(rt; right, "failing at {failing}");
     }
     assert!(rt; reads_text_in_sevens(rt.alloc())?);
     Ok(())
@@ -112,9 +110,9 @@ fn writes_in_fives(
 
 #[test]
 fn writes_in_pieces(rt: HostRuntime) -> Result<(), Fail> {
-    for (number, (failing, wanted, calls, taken)) in WRITES.iter().enumerate() {
+    for (failing, wanted, calls, taken) in &WRITES {
         let right = writes_in_fives(rt.alloc(), *failing, *wanted, *calls, *taken)?;
-        assert_nth(&rt, right, number);
+        assert!(rt; right, "failing at {failing}");
     }
     Ok(())
 }

@@ -2,7 +2,7 @@
 
 use dom_model::{Attributes, Chars, Name};
 use escaped_text::{push_chars, push_escaped};
-use std::alloc::{AllocError, Global};
+use std::alloc::Global;
 use std::test::Fail;
 
 // Whether the list has these names with these values, each of one character, in this order.
@@ -38,21 +38,16 @@ fn set(list: &mut Attributes, alloc: Global, name: &[u8], value: char) -> bool {
     }
 }
 
-// Inserts an attribute of this name, and answers whether it was made as it should be.
-fn inserts(alloc: Global, list: &mut Attributes, name: Name) -> Result<bool, AllocError> {
-    let value = Chars::from_vec(['4'].to_vec(alloc)?);
-    let made = name.as_slice() == b"c".as_slice() && value.len() == 1;
-    list.insert(name, value)?;
-    Ok(made)
-}
-
 // Sets and inserts attributes, and answers whether they stand in the order in which their names
 // came.
 fn keeps_the_order(alloc: Global, list: &mut Attributes) -> Result<bool, Fail> {
     let set = set(list, alloc, b"b", '1')
         && set(list, alloc, b"a", '2')
         && set(list, alloc, b"b", '3');
-    let made = inserts(alloc, list, Name::from_vec(b"c".to_vec(alloc)?))?;
+    let name = Name::from_vec(b"c".to_vec(alloc)?);
+    let value = Chars::from_vec(['4'].to_vec(alloc)?);
+    let made = name.as_slice() == b"c".as_slice() && value.len() == 1;
+    list.insert(name, value)?;
     Ok(set && made && is_list(list, &[(b"b", '3'), (b"a", '2'), (b"c", '4')]))
 }
 
@@ -74,14 +69,10 @@ fn is_right(alloc: Global, list: &mut Attributes) -> Result<bool, Fail> {
     Ok(kept && forgets(&mut copied) && finds(list))
 }
 
-fn keeps_attributes(alloc: Global) -> Result<bool, Fail> {
-    let mut list = Attributes::new(alloc);
-    is_right(alloc, &mut list)
-}
-
 #[test]
 fn attributes_keep_their_order(rt: HostRuntime) -> Result<(), Fail> {
-    assert!(rt; keeps_attributes(rt.alloc())?);
+    let mut list = Attributes::new(rt.alloc());
+    assert!(rt; is_right(rt.alloc(), &mut list)?);
     Ok(())
 }
 

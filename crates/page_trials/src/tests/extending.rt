@@ -1,6 +1,6 @@
 //! Block-extended ranges, and the outermost nodes of a list.
 
-use crate::tests::fixtures::{Look, Page, check_pages, has_labels, node_of, range_of};
+use crate::tests::fixtures::{Look, Page, check_pages, labels, node_of, range_of};
 use block_extend::{Choice, block_extend, gather_in, is_above_prohibited};
 use node_arena::{Arena, NodeRef};
 use std::alloc::Global;
@@ -78,7 +78,8 @@ impl Look for Gathered {
     fn meets(&self, alloc: Global, arena: &Arena) -> Result<bool, Fail> {
         let range = range_of(arena, self.0.0, self.0.1)?;
         let list = gather_in(alloc, arena, range, &Every)?;
-        Ok(has_labels(list.as_slice(), self.1))
+        let found = labels(alloc, list.as_slice())?;
+        Ok(found.as_slice() == self.1)
     }
 }
 

@@ -7,20 +7,14 @@
 
 ghost use Rattle.std.specs.Prelude.{◌≡◌, ◌<◌, IfOk};
 ghost use Rattle.dom_model.specs.Forest.{count_of};
-ghost use Rattle.edit_doc.specs.Held.{Holds, Keeps};
 ghost use Rattle.edit_doc.specs.Whole.{HasNoLoose, IsClosed, IsOpen};
 
-use edit_doc::{Attributes, Doc, Name, Point};
+use edit_doc::{Doc, Point};
 use node_arena::{Arena, NodeRef, Nodes};
 use page_read::read_page;
 use page_write::write_html;
 use std::alloc::{AllocError, Global};
 use std::test::Fail;
-
-// The start and the end of an editing host that is a page.
-const START: &str = "<div contenteditable=\"true\">";
-
-const END: &str = "</div>";
 
 /// The nodes of a page.
 pub fn read(alloc: Global, page: &str) -> Result<Arena, Fail>
@@ -87,16 +81,12 @@ pub fn begin(doc: &mut Doc) -> Result<(), AllocError>
     begin_in(doc, 1)
 }
 
-fn push_page(page: &mut String, inner: &str) -> Result<(), AllocError> {
-    page.push_str(START)?;
-    page.push_str(inner)?;
-    page.push_str(END)
-}
-
 /// The page of an editing host that holds this.
 pub fn page_of(alloc: Global, inner: &str) -> Result<String, AllocError> {
     let mut page = String::new(alloc);
-    push_page(&mut page, inner)?;
+    page.push_str("<div contenteditable=\"true\">")?;
+    page.push_str(inner)?;
+    page.push_str("</div>")?;
     Ok(page)
 }
 
@@ -126,37 +116,9 @@ pub fn chars(alloc: Global, text: &str) -> Result<Vec<char>, AllocError> {
     text.chars().collect(alloc)
 }
 
-/// Whether nodes have these labels.
-pub fn has_labels(list: &[NodeRef], labels: &[u32]) -> bool {
-    if list.len() != labels.len() {
-        return false;
-    }
-    for i in 0..list.len() {
-        if list[i].label != labels[i] {
-            return false;
-        }
-    }
-    true
-}
-
-// Makes an element of a name, with a list of attributes.
-fn make_named(doc: &mut Doc, name: &Name, attributes: &Attributes) -> Result<NodeRef, Fail>
-    requires { IsOpen doc.old }
-    ensures held { IfOk result (λ r. Holds doc.new r) }
-    ensures keeps { Keeps doc.old doc.new }
-{
-    Ok(doc.make_element(name, attributes)?)
-}
-
-/// Makes an element without attributes.
-pub fn make_element(alloc: Global, doc: &mut Doc, name: &[u8]) -> Result<NodeRef, Fail>
-    requires { IsOpen doc.old }
-    ensures held { IfOk result (λ r. Holds doc.new r) }
-    ensures keeps { Keeps doc.old doc.new }
-{
-    let name = Name::from_slice(alloc, name)?;
-    let attributes = Attributes::new(alloc);
-    make_named(doc, &name, &attributes)
+/// The labels of nodes.
+pub fn labels(alloc: Global, list: &[NodeRef]) -> Result<Vec<u32>, AllocError> {
+    list.iter().map(|node| node.label).collect(alloc)
 }
 
 /// What is looked for in a page.
@@ -208,57 +170,32 @@ pub trait Act {
 /// A row of a table: what the editing host holds, what is done, and what the host then holds.
 pub struct Row<A>(pub &'static str, pub A, pub &'static str);
 
-// Whether a page is an editing host that holds this.
-fn is_page_of(page: &[u8], inner: &str) -> bool {
-    match page.strip_prefix(START.as_bytes()) {
-        Some(rest) => rest.strip_suffix(END.as_bytes()) == Some(inner.as_bytes()),
-        None => false,
-    }
-}
-
-/// What fails at a row, and what was found there.
-pub fn fault(alloc: Global, row: &str, found: &[u8]) -> Result<Fail, AllocError> {
-    let found = str::from_utf8(found).unwrap_or("no text");
-    Ok(Fail::new(format!(in alloc; "{row}: {found}")?))
-}
-
-fn compare(alloc: Global, row: &str, wanted: &str, page: &[u8]) -> Result<(), Fail> {
-    if is_page_of(page, wanted) {
-        Ok(())
-    } else {
-        Err(fault(alloc, row, page)?)
-    }
-}
-
-// Fails where the document does not hold what its row wants.
-fn compare_page(alloc: Global, row: &str, wanted: &str, doc: &Doc) -> Result<(), Fail> {
-    let page = write_html(alloc, doc.arena())?;
-    compare(alloc, row, wanted, &page)
-}
-
-// Whether the act, in a command of its own, answers as it should and leaves its page.
+// The page that the act leaves, in a command of its own; or a word that is no page where that
+// answered otherwise.
 impl<A: Act> Trial for Row<A> {
-    type Found = ();
+    type Found = String;
 
-    fn run(&self, alloc: Global, doc: &mut Doc) -> Result<(), Fail> {
+    fn run(&self, alloc: Global, doc: &mut Doc) -> Result<String, Fail> {
         begin(doc)?;
-        if !self.1.act(alloc, doc)? {
-            return Err(fault(alloc, self.0, b"another answer")?);
+        if self.1.act(alloc, doc)? {
+            let html = write_html(alloc, doc.arena())?;
+            Ok(String::from_utf8(html).ok().ok_or("text")?)
+        } else {
+            Ok(format!(in alloc; "another answer")?)
         }
-        compare_page(alloc, self.0, self.2, doc)
     }
-}
-
-// Tries one row.
-fn check_row<A: Act>(alloc: Global, row: &Row<A>) -> Result<(), Fail> {
-    let page = page_of(alloc, row.0)?;
-    found(alloc, page.as_str(), row)
 }
 
 /// Goes through a table, and fails at the first row that leaves another page.
 pub fn check_rows<A: Act>(alloc: Global, rows: &[Row<A>]) -> Result<(), Fail> {
     for row in rows {
-        check_row(alloc, row)?;
+        let page = page_of(alloc, row.0)?;
+        let wanted = page_of(alloc, row.2)?;
+        let html = found(alloc, page.as_str(), row)?;
+        if html.as_str() != wanted.as_str() {
+            let found = html.as_str();
+            return Err(Fail::new(format!(in alloc; "{}: {found}", row.0)?));
+        }
     }
     Ok(())
 }

@@ -512,22 +512,6 @@ fn is_wording(reply: Reply, wanted: &str) -> bool {
     }
 }
 
-// What the editing host answers to a question for a flag.
-fn flag_of(
-    alloc: Global,
-    doc: &Doc,
-    kind: QueryKind,
-    command: Command,
-) -> Result<Option<bool>, AllocError> {
-    Ok(flag(query(alloc, doc, doc.find(1), kind, command)?))
-}
-
-// Whether it answers the question for a value so.
-fn tells(alloc: Global, doc: &Doc, command: Command, wanted: &str) -> Result<bool, AllocError> {
-    let value = query(alloc, doc, doc.find(1), QueryKind::Value, command)?;
-    Ok(is_wording(value, wanted))
-}
-
 // Whether the answers are these.
 impl Trial for Question {
     type Found = bool;
@@ -535,24 +519,20 @@ impl Trial for Question {
     fn run(&self, alloc: Global, doc: &mut Doc) -> Result<bool, Fail> {
         let Question(_, anchor, focus, command, indeterm, state, value) = self;
         doc.select(point(*anchor), point(*focus));
-        let parted = flag_of(alloc, doc, QueryKind::Indeterm, *command)?;
-        let on = flag_of(alloc, doc, QueryKind::State, *command)?;
-        let told = tells(alloc, doc, *command, value)?;
-        Ok(parted == Some(*indeterm) && on == Some(*state) && told)
+        let host = doc.find(1);
+        let parted = query(alloc, doc, host, QueryKind::Indeterm, *command)?;
+        let on = query(alloc, doc, host, QueryKind::State, *command)?;
+        let text = query(alloc, doc, host, QueryKind::Value, *command)?;
+        Ok(flag(parted) == Some(*indeterm) && flag(on) == Some(*state) && is_wording(text, value))
     }
-}
-
-fn is_answered(alloc: Global, question: &Question) -> Result<bool, Fail> {
-    let page = page_of(alloc, question.0)?;
-    found(alloc, page.as_str(), question)
 }
 
 #[test]
 fn questions_are_answered(rt: HostRuntime) -> Result<(), Fail> {
     for question in &ANSWERS {
-        if !is_answered(rt.alloc(), question)? {
-            return Err(Fail::new(question.0));
-        }
+        let page = page_of(rt.alloc(), question.0)?;
+        let answered = found(rt.alloc(), page.as_str(), question)?;
+        assert!(rt; answered, "{}", question.0);
     }
     Ok(())
 }
@@ -567,10 +547,11 @@ impl Trial for Overrides {
         doc.select(point((2, 0)), point((2, 1)));
         begin(doc)?;
         set_each(alloc, doc)?;
-        let style = flag_of(alloc, doc, QueryKind::State, Command::Bold)?;
-        let size = tells(alloc, doc, Command::FontSize, "6")?;
-        let colour = tells(alloc, doc, Command::ForeColor, "#f00")?;
-        Ok(style == Some(true) && size && colour)
+        let host = doc.find(1);
+        let style = query(alloc, doc, host, QueryKind::State, Command::Bold)?;
+        let size = query(alloc, doc, host, QueryKind::Value, Command::FontSize)?;
+        let colour = query(alloc, doc, host, QueryKind::Value, Command::ForeColor)?;
+        Ok(flag(style) == Some(true) && is_wording(size, "6") && is_wording(colour, "#f00"))
     }
 }
 

@@ -1,16 +1,13 @@
 //! Command values.
 
-ghost use Rattle.node_arena.specs.Held.{Holds};
-
 use crate::tests::fixtures::{Look, Page, chars, check_pages, node_of};
 use command_value::{
     alignment, alike, effective, equivalent, has_alike_value, is_activated, is_modifiable_element,
     is_simple_modifiable_element, meets_value, specified, specifies, specifies_other,
 };
-use css_value::has_codes;
 use dom_model::Chars;
 use html_names::Command;
-use node_arena::{Arena, NodeRef};
+use node_arena::Arena;
 use std::alloc::{AllocError, Global};
 use std::test::Fail;
 
@@ -252,53 +249,26 @@ static VALUES: [Page<Valued>; 56] = [
     Page("<b>x</b>", Valued(1, Command::JustifyLeft, None, None)),
 ];
 
-fn is_text(value: Option<&Chars>, text: Option<&str>) -> bool {
+fn is_text(alloc: Global, value: Option<&Chars>, text: Option<&str>) -> Result<bool, AllocError> {
     match (value, text) {
-        (None, None) => true,
-        (Some(value), Some(text)) => has_codes(value.as_slice(), text.as_bytes()),
-        _ => false,
+        (None, None) => Ok(true),
+        (Some(value), Some(text)) => Ok(value.as_slice() == chars(alloc, text)?.as_slice()),
+        _ => Ok(false),
     }
-}
-
-// Whether the effective value of a node is this, and alike to itself.
-fn has_effective(
-    alloc: Global,
-    arena: &Arena,
-    node: NodeRef,
-    command: Command,
-    text: Option<&str>,
-) -> Result<bool, AllocError>
-    requires { Holds arena.now node }
-{
-    let own = effective(alloc, arena, node, command)?;
-    let value = own.as_ref();
-    Ok(is_text(value, text) && has_alike_value(arena, node, command, slice(value)))
-}
-
-// Whether the specified value of a node is this, and no other.
-fn has_specified(
-    alloc: Global,
-    arena: &Arena,
-    node: NodeRef,
-    command: Command,
-    text: Option<&str>,
-) -> Result<bool, AllocError>
-    requires { Holds arena.now node }
-{
-    let given = specified(alloc, arena, node, command)?;
-    let value = given.as_ref();
-    let is_told = specifies(arena, node, command) == value.is_some();
-    let is_other = specifies_other(arena, node, command, slice(value));
-    Ok(is_text(value, text) && is_told && !is_other)
 }
 
 impl Look for Valued {
     fn meets(&self, alloc: Global, arena: &Arena) -> Result<bool, Fail> {
         let Valued(label, command, effective_text, specified_text) = self;
         let node = node_of(arena, *label)?;
-        let is_own = has_effective(alloc, arena, node, *command, *effective_text)?;
-        let is_given = has_specified(alloc, arena, node, *command, *specified_text)?;
-        Ok(is_own && is_given)
+        let own = effective(alloc, arena, node, *command)?;
+        let is_own = is_text(alloc, own.as_ref(), *effective_text)?;
+        let is_alike = has_alike_value(arena, node, *command, slice(own.as_ref()));
+        let given = specified(alloc, arena, node, *command)?;
+        let is_given = is_text(alloc, given.as_ref(), *specified_text)?;
+        let is_told = specifies(arena, node, *command) == given.is_some();
+        let is_other = specifies_other(arena, node, *command, slice(given.as_ref()));
+        Ok(is_own && is_alike && is_given && is_told && !is_other)
     }
 }
 
@@ -381,30 +351,19 @@ static PAIRS: [(Command, Option<&str>, Option<&str>, bool, bool); 24] = [
 #[test]
 fn values_that_are_the_same(rt: HostRuntime) -> Result<(), Fail> {
     let alloc = rt.alloc();
-    for row in &PAIRS {
-        assert!(rt; is_pair(alloc, row)?);
+    for (command, a, b, are_equivalent, are_alike) in &PAIRS {
+        let first = optional(alloc, *a)?;
+        let second = optional(alloc, *b)?;
+        assert_eq!(rt;
+            equivalent(*command, first.as_ref(), second.as_ref()),
+            *are_equivalent
+        );
+        assert_eq!(rt;
+            alike(*command, first.as_ref(), second.as_ref()),
+            *are_alike
+        );
     }
     Ok(())
-}
-
-// Whether two values are equivalent and alike as their row says.
-fn is_pair(
-    alloc: Global,
-    row: &(Command, Option<&str>, Option<&str>, bool, bool),
-) -> Result<bool, AllocError> {
-    let first = optional(alloc, row.1)?;
-    is_second(alloc, row, first.as_ref())
-}
-
-fn is_second(
-    alloc: Global,
-    row: &(Command, Option<&str>, Option<&str>, bool, bool),
-    first: Option<&Chars>,
-) -> Result<bool, AllocError> {
-    let second = optional(alloc, row.2)?;
-    let are_equivalent = equivalent(row.0, first, second.as_ref());
-    let are_alike = alike(row.0, first, second.as_ref());
-    Ok(are_equivalent == row.3 && are_alike == row.4)
 }
 
 fn optional(alloc: Global, text: Option<&str>) -> Result<Option<Chars>, AllocError> {

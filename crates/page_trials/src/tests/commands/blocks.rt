@@ -7,11 +7,11 @@ mod indents;
 ghost use Rattle.std.specs.Prelude.{IfOk};
 ghost use Rattle.edit_doc.specs.Whole.{IsOpen};
 
-use crate::tests::fixtures::{Act, Row, begin_in, chars, check_rows, make_element, node_of, point};
+use crate::tests::fixtures::{Act, Row, begin_in, chars, check_rows, node_of, point};
 use Block::{Align, Format, Indent, Outdent, Refused};
 use block_commands::{format_block, justify};
 use css_value::TextAlign;
-use edit_doc::{Doc, EditFault};
+use edit_doc::{Attributes, Doc, EditFault, Name};
 use list_indent::{indent, outdent};
 use std::alloc::Global;
 use std::test::Fail;
@@ -28,19 +28,18 @@ enum Block {
 }
 
 // Whether the command answers as it should.
-fn takes_format(alloc: Global, doc: &mut Doc, value: &str) -> Result<bool, EditFault>
-    requires { IsOpen doc.old }
-{
-    let value = chars(alloc, value)?;
-    format_block(alloc, doc, &value)
-}
-
 fn takes(alloc: Global, doc: &mut Doc, block: Block) -> Result<bool, EditFault>
     requires { IsOpen doc.old }
 {
     match block {
-        Format(value) => takes_format(alloc, doc, value),
-        Refused(value) => Ok(!takes_format(alloc, doc, value)?),
+        Format(value) => {
+            let value = chars(alloc, value)?;
+            format_block(alloc, doc, &value)
+        }
+        Refused(value) => {
+            let value = chars(alloc, value)?;
+            Ok(!format_block(alloc, doc, &value)?)
+        }
         Align(alignment) => justify(alloc, doc, alignment),
         Indent => indent(alloc, doc),
         Outdent => outdent(alloc, doc),
@@ -129,7 +128,8 @@ fn fill(alloc: Global, doc: &mut Doc, label: u32) -> Result<(), Fail>
     requires { IsOpen doc.old }
     ensures { IfOk result (λ _. IsOpen doc.new) }
 {
-    let made = make_element(alloc, doc, b"br")?;
+    let name = Name::from_slice(alloc, b"br")?;
+    let made = doc.make_element(&name, &Attributes::new(alloc))?;
     let parent = node_of(doc, label)?;
     doc.insert(parent, None, made)?;
     Ok(())

@@ -1,6 +1,8 @@
 //! Deleting: each row of a table is what an editing host holds, where the caret or the ends of a
 //! range stand by labels (1 is the host), where they stand after it, and what the host then holds.
 
+ghost use Rattle.edit_doc.specs.Whole.{IsOpen};
+
 use crate::tests::fixtures::{Act, At, Row, check_rows, point, selects};
 use delete_core::{
     canonical_spaces, canonicalize, delete_selection, first_equivalent, last_equivalent,

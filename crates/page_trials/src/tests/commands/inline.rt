@@ -10,14 +10,12 @@ mod styled;
 ghost use Rattle.std.specs.Prelude.{IfOk};
 ghost use Rattle.edit_doc.specs.Held.{EachHeld, Holds};
 ghost use Rattle.edit_doc.specs.Whole.{IsOpen};
-ghost use Rattle.inline_value.specs.Records.{nodes_of};
 
 use crate::tests::fixtures::{Act, Row, chars, check_rows, node_of, point};
 use edit_doc::{Doc, EditFault, NodeRef};
 use html_names::Command;
 use inline_value::{
-    Values, clear_value, fix_ancestors, force, push_down, record_values, reorder, restore_values,
-    set_value,
+    clear_value, fix_ancestors, force, push_down, record_values, reorder, restore_values, set_value,
 };
 use std::alloc::{AllocError, Global};
 use std::test::Fail;
@@ -357,37 +355,17 @@ fn listed(alloc: Global, doc: &Doc, node: NodeRef) -> Result<Vec<NodeRef>, Alloc
     Ok(list)
 }
 
-fn recorded(alloc: Global, doc: &Doc, node: NodeRef) -> Result<Values, AllocError>
-    requires { Holds doc.now node }
-    ensures { IfOk result (λ values. EachHeld doc.now (nodes_of values)) }
-{
-    let list = listed(alloc, doc, node)?;
-    record_values(alloc, doc, &list)
-}
-
 // Records the values of a node, takes its parent out, and restores the values.
 fn restores(alloc: Global, doc: &mut Doc, node: NodeRef) -> Result<(), EditFault>
     requires open { IsOpen doc.old }
     requires held { Holds doc.old node }
 {
-    let values = recorded(alloc, doc, node)?;
-    restores_outside(alloc, doc, node, &values)
-}
-
-fn restores_outside(
-    alloc: Global,
-    doc: &mut Doc,
-    node: NodeRef,
-    values: &Values,
-) -> Result<(), EditFault>
-    requires open { IsOpen doc.old }
-    requires held { Holds doc.old node }
-    requires values_held { EachHeld doc.old (nodes_of values.now) }
-{
+    let list = listed(alloc, doc, node)?;
+    let values = record_values(alloc, doc, &list)?;
     if let Some(parent) = doc.parent(node) {
         remove_keeping_children(alloc, doc, parent)?;
     }
-    restore_values(alloc, doc, values)
+    restore_values(alloc, doc, &values)
 }
 
 // Records the values of a node, moves it into the node before it, and restores the values.
@@ -395,24 +373,12 @@ fn adopts(alloc: Global, doc: &mut Doc, node: NodeRef) -> Result<(), EditFault>
     requires open { IsOpen doc.old }
     requires held { Holds doc.old node }
 {
-    let values = recorded(alloc, doc, node)?;
-    restores_inside(alloc, doc, node, &values)
-}
-
-fn restores_inside(
-    alloc: Global,
-    doc: &mut Doc,
-    node: NodeRef,
-    values: &Values,
-) -> Result<(), EditFault>
-    requires open { IsOpen doc.old }
-    requires held { Holds doc.old node }
-    requires values_held { EachHeld doc.old (nodes_of values.now) }
-{
+    let list = listed(alloc, doc, node)?;
+    let values = record_values(alloc, doc, &list)?;
     if let Some(before) = doc.prev(node) {
         doc.move_keeping(node, before, None)?;
     }
-    restore_values(alloc, doc, values)
+    restore_values(alloc, doc, &values)
 }
 
 impl Act for Change {

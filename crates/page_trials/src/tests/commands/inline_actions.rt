@@ -5,7 +5,7 @@
 ghost use Rattle.edit_doc.specs.Whole.{IsOpen};
 
 use crate::tests::fixtures::{Act, Row, chars, check_rows, point};
-use edit_doc::{Doc, EditFault, Point, Setting};
+use edit_doc::{Doc, EditFault, Setting};
 use html_names::Command;
 use inline_commands::{
     apply_value, create_link, remove_format, restore_states, toggle_script, toggle_style, unlink,
@@ -123,20 +123,9 @@ impl Act for Action {
     fn act(&self, alloc: Global, doc: &mut Doc) -> Result<bool, Fail> {
         let Action(anchor, focus, command, value, answer) = self;
         doc.select(point(*anchor), point(*focus));
-        Ok(takes_text(alloc, doc, *command, value)? == *answer)
+        let value = chars(alloc, value)?;
+        Ok(takes(alloc, doc, *command, &value)? == *answer)
     }
-}
-
-fn takes_text(
-    alloc: Global,
-    doc: &mut Doc,
-    command: Command,
-    value: &str,
-) -> Result<bool, EditFault>
-    requires { IsOpen doc.old }
-{
-    let value = chars(alloc, value)?;
-    takes(alloc, doc, command, &value)
 }
 
 // The answer of a command.
@@ -190,19 +179,12 @@ static RESTORED: [Row<Restore>; 2] = [
     ),
 ];
 
-// Records the states, selects from one point to another, and restores the states.
-fn restores(alloc: Global, doc: &mut Doc, from: Point, to: Point) -> Result<(), EditFault>
-    requires { IsOpen doc.old }
-{
-    let list = record_states(alloc, doc)?;
-    doc.select(from, to);
-    restore_states(alloc, doc, &list)
-}
-
 impl Act for Restore {
     fn act(&self, alloc: Global, doc: &mut Doc) -> Result<bool, Fail> {
         doc.select(point((3, 0)), point((3, 2)));
-        restores(alloc, doc, point(self.from), point(self.to))?;
+        let list = record_states(alloc, doc)?;
+        doc.select(point(self.from), point(self.to));
+        restore_states(alloc, doc, &list)?;
         let bold = matches!(doc.setting(Command::Bold), Setting::On);
         let italic = matches!(doc.setting(Command::Italic), Setting::Off);
         Ok(bold == self.is_override && italic == self.is_override)

@@ -6,7 +6,7 @@ ghost use Rattle.edit_doc.specs.Whole.{IsOpen};
 
 use crate::tests::fixtures::{Act, At, Row, chars, check_rows, point, selects};
 use Object::{Image, LineBreak, Refused, Rule};
-use edit_doc::{Doc, EditFault};
+use edit_doc::Doc;
 use insert_objects::{insert_horizontal_rule, insert_image, insert_line_break};
 use std::alloc::Global;
 use std::test::Fail;
@@ -22,20 +22,16 @@ enum Object {
 }
 
 // Whether the command answers as it should.
-fn takes_image(alloc: Global, doc: &mut Doc, address: &str) -> Result<bool, EditFault>
-    requires { IsOpen doc.old }
-{
-    let address = chars(alloc, address)?;
-    insert_image(alloc, doc, &address)
-}
-
 fn takes(alloc: Global, doc: &mut Doc, object: Object) -> Result<bool, Fail>
     requires { IsOpen doc.old }
 {
     let answer = match object {
         LineBreak => insert_line_break(alloc, doc)?,
         Rule => insert_horizontal_rule(alloc, doc)?,
-        Image(address) => takes_image(alloc, doc, address)?,
+        Image(address) => {
+            let address = chars(alloc, address)?;
+            insert_image(alloc, doc, &address)?
+        }
         Refused => !insert_image(alloc, doc, &[])?,
     };
     Ok(answer)

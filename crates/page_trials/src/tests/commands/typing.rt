@@ -8,7 +8,7 @@ ghost use Rattle.edit_doc.specs.Whole.{IsOpen};
 use crate::tests::fixtures::{Act, At, Row, chars, check_rows, point, selects};
 use Override::{Off, On, Wording};
 use dom_model::Chars;
-use edit_doc::{Doc, EditFault, Setting};
+use edit_doc::{Doc, Setting};
 use html_names::Command;
 use std::alloc::{AllocError, Global};
 use std::test::Fail;
@@ -17,17 +17,11 @@ use text_insertion::insert_text;
 // A text that is typed over a range, and the caret after it.
 struct Typed(At, At, &'static str, At);
 
-fn types(alloc: Global, doc: &mut Doc, text: &str) -> Result<bool, EditFault>
-    requires { IsOpen doc.old }
-{
-    let text = chars(alloc, text)?;
-    insert_text(alloc, doc, &text)
-}
-
 impl Act for Typed {
     fn act(&self, alloc: Global, doc: &mut Doc) -> Result<bool, Fail> {
         doc.select(point(self.0), point(self.1));
-        Ok(types(alloc, doc, self.2)? && selects(doc, self.3, self.3))
+        let text = chars(alloc, self.2)?;
+        Ok(insert_text(alloc, doc, &text)? && selects(doc, self.3, self.3))
     }
 }
 
@@ -404,7 +398,8 @@ impl Act for Styled {
         for kept in self.1 {
             set(alloc, doc, *kept)?;
         }
-        Ok(types(alloc, doc, self.2)? && selects(doc, self.3, self.3))
+        let text = chars(alloc, self.2)?;
+        Ok(insert_text(alloc, doc, &text)? && selects(doc, self.3, self.3))
     }
 }
 

@@ -1,10 +1,10 @@
 //! Edits as rows of tables.
 
-ghost use Rattle.edit_doc.specs.Held.{Holds, Keeps};
+ghost use Rattle.edit_doc.specs.Held.{Keeps};
 ghost use Rattle.edit_doc.specs.Whole.{IsOpen};
 
-use crate::tests::fixtures::{make_element, node_of};
-use edit_doc::{Chars, Doc, EditFault, Kind, Name, NodeRef};
+use crate::tests::fixtures::node_of;
+use edit_doc::{Chars, Doc, Name};
 use std::alloc::Global;
 use std::test::Fail;
 
@@ -32,7 +32,8 @@ fn make(alloc: Global, doc: &mut Doc, tag: &str) -> Result<bool, Fail>
     requires { IsOpen doc.old }
     ensures { Keeps doc.old doc.new }
 {
-    make_element(alloc, doc, tag.as_bytes())?;
+    let tag = name(alloc, tag)?;
+    doc.make_element(&tag, &edit_doc::Attributes::new(alloc))?;
     Ok(true)
 }
 
@@ -83,42 +84,23 @@ fn replace(doc: &mut Doc, node: u32, at: u32, count: u32, put: &[char]) -> Resul
     Ok(doc.replace_words(node, at, count, put)?)
 }
 
-// Hands on what an edit answered.
-fn told<T>(answer: Result<T, EditFault>) -> Result<T, Fail> {
-    Ok(answer?)
-}
-
-fn set_named(
-    alloc: Global,
-    doc: &mut Doc,
-    node: NodeRef,
-    of: &Name,
-    value: &[char],
-) -> Result<bool, Fail>
-    requires open { IsOpen doc.old }
-    requires held { Holds doc.old node }
-    ensures { Keeps doc.old doc.new }
-{
-    let value = Chars::from_slice(alloc, value)?;
-    told(doc.set_attribute(node, of, &value))
-}
-
 fn set(alloc: Global, doc: &mut Doc, node: u32, of: &str, value: &[char]) -> Result<bool, Fail>
     requires { IsOpen doc.old }
     ensures { Keeps doc.old doc.new }
 {
-    let node = node_of(doc, node)?;
     let of = name(alloc, of)?;
-    set_named(alloc, doc, node, &of, value)
+    let value = Chars::from_slice(alloc, value)?;
+    let node = node_of(doc, node)?;
+    Ok(doc.set_attribute(node, &of, &value)?)
 }
 
 fn unset(alloc: Global, doc: &mut Doc, node: u32, of: &str) -> Result<bool, Fail>
     requires { IsOpen doc.old }
     ensures { Keeps doc.old doc.new }
 {
-    let node = node_of(doc, node)?;
     let of = name(alloc, of)?;
-    told(doc.unset_attribute(node, &of))
+    let node = node_of(doc, node)?;
+    Ok(doc.unset_attribute(node, &of)?)
 }
 
 // Splits a text, and answers whether there is a new one.
@@ -135,10 +117,10 @@ fn rename(alloc: Global, doc: &mut Doc, node: u32, tag: &str) -> Result<bool, Fa
     requires { IsOpen doc.old }
     ensures { Keeps doc.old doc.new }
 {
+    let tag = name(alloc, tag)?;
     let node = node_of(doc, node)?;
-    if doc.kind(node) == Kind::Element {
-        let tag = name(alloc, tag)?;
-        Ok(told(doc.set_tag_name(node, &tag))? != node)
+    if doc.kind(node) == edit_doc::Kind::Element {
+        Ok(doc.set_tag_name(node, &tag)? != node)
     } else {
         Ok(false)
     }

@@ -5,7 +5,7 @@ ghost use Rattle.edit_doc.specs.Whole.{IsClosed, IsOpen};
 
 use super::acts::{Act, make_each};
 use crate::tests::fixtures::{Trial, begin, found, point};
-use edit_doc::{Chars, Committed, Doc, Flags, NodeRef, Pair, Setting};
+use edit_doc::{Chars, Committed, Doc, Flags, Pair, Setting};
 use html_names::Command;
 use page_write::write_html;
 use std::alloc::{AllocError, Global};
@@ -47,59 +47,44 @@ static LATER: [Act; 10] = [
     Act::Remove(3),
 ];
 
-fn push_node(text: &mut String, doc: &Doc, label: u32) -> Result<(), AllocError> {
+fn push_node(alloc: Global, text: &mut String, doc: &Doc, label: u32) -> Result<(), AllocError> {
     let Some(node) = doc.find(label) else {
         return Ok(());
     };
-    let parent = label_of(doc.parent(node));
-    let prev = label_of(doc.prev(node));
-    write!(text, "{label} in {parent:?} after {prev:?}\n")
+    let parent = doc.parent(node).map(|n| n.label);
+    let prev = doc.prev(node).map(|n| n.label);
+    let line = format!(in alloc; "{label} in {parent:?} after {prev:?}\n")?;
+    text.push_str(line.as_str())
 }
 
-fn label_of(node: Option<NodeRef>) -> Option<u32> {
-    match node {
-        Some(node) => Some(node.label),
-        None => None,
-    }
-}
-
-fn push_bytes(text: &mut String, page: &[u8]) -> Result<(), Fail> {
-    match str::from_utf8(page) {
-        Ok(page) => Ok(text.push_str(page)?),
-        Err(_) => Err("text".into()),
-    }
-}
-
-fn push_tree(alloc: Global, text: &mut String, doc: &Doc) -> Result<(), Fail> {
-    push_page(alloc, text, doc)?;
+fn tree_of(alloc: Global, doc: &Doc) -> Result<String, Fail> {
+    let html = write_html(alloc, doc.arena())?;
+    let mut text = String::from_utf8(html).ok().ok_or("text")?;
     for label in 0..doc.arena().next_label() {
-        push_node(text, doc, label)?;
+        push_node(alloc, &mut text, doc, label)?;
     }
-    Ok(())
+    Ok(text)
 }
 
-fn push_page(alloc: Global, text: &mut String, doc: &Doc) -> Result<(), Fail> {
-    let page = write_html(alloc, doc.arena())?;
-    push_bytes(text, &page)
-}
-
-fn push_pair(text: &mut String, pair: Pair) -> Result<(), AllocError> {
+fn push_pair(alloc: Global, text: &mut String, pair: Pair) -> Result<(), AllocError> {
     let a = pair.anchor;
     let b = pair.focus;
-    write!(text, "{}:{} {}:{}\n", a.label, a.offset, b.label, b.offset)
+    let line = format!(in alloc; "{}:{} {}:{}\n", a.label, a.offset, b.label, b.offset)?;
+    text.push_str(line.as_str())
 }
 
-fn push_points(text: &mut String, doc: &Doc) -> Result<(), AllocError> {
+fn points_of(alloc: Global, doc: &Doc) -> Result<String, AllocError> {
     let points = doc.points();
+    let mut text = String::new(alloc);
     if let Some(pair) = points.selection() {
-        push_pair(text, pair)?;
+        push_pair(alloc, &mut text, pair)?;
     }
     for place in 0..3 {
         if let Some((_, pair)) = points.mark_at(place) {
-            push_pair(text, pair)?;
+            push_pair(alloc, &mut text, pair)?;
         }
     }
-    Ok(())
+    Ok(text)
 }
 
 fn push_setting(text: &mut String, setting: &Setting) -> Result<(), AllocError> {
@@ -116,45 +101,40 @@ fn push_setting(text: &mut String, setting: &Setting) -> Result<(), AllocError> 
     }
 }
 
-fn push_settings(text: &mut String, doc: &Doc) -> Result<(), AllocError> {
-    push_setting(text, doc.setting(Command::Bold))?;
-    push_setting(text, doc.setting(Command::ForeColor))?;
+fn settings_of(alloc: Global, doc: &Doc) -> Result<String, AllocError> {
+    let mut text = String::new(alloc);
+    push_setting(&mut text, doc.setting(Command::Bold))?;
+    push_setting(&mut text, doc.setting(Command::ForeColor))?;
     let flags = doc.flags();
-    let css = if flags.css_styling { "css " } else { "" };
-    let paragraphs = if flags.paragraphs { "p " } else { "" };
-    text.push_str(css)?;
-    text.push_str(paragraphs)
-}
-
-fn push_counts(text: &mut String, doc: &Doc) -> Result<(), AllocError> {
-    let counts = doc.counts();
-    write!(text, "{} {} {}\n", counts.nodes, counts.chars, counts.depth)
+    if flags.css_styling {
+        text.push_str("css ")?;
+    }
+    if flags.paragraphs {
+        text.push_str("p ")?;
+    }
+    Ok(text)
 }
 
 // What a document shows in each view of the history: its nodes with their parents and earlier
 // siblings, its text, its selection and marks, and its numbers with the bound on its depth.
-fn push_shown(alloc: Global, text: &mut String, doc: &Doc) -> Result<(), Fail> {
-    push_tree(alloc, text, doc)?;
-    push_points(text, doc)?;
-    Ok(push_counts(text, doc)?)
-}
-
-// That, and the overrides, the flags and the next label.
-fn push_whole(alloc: Global, text: &mut String, doc: &Doc) -> Result<(), Fail> {
-    push_shown(alloc, text, doc)?;
-    push_settings(text, doc)?;
-    Ok(write!(text, "{}", doc.arena().next_label())?)
-}
-
 fn shown(alloc: Global, doc: &Doc) -> Result<String, Fail> {
-    let mut text = String::new(alloc);
-    push_shown(alloc, &mut text, doc)?;
+    let mut text = tree_of(alloc, doc)?;
+    let points = points_of(alloc, doc)?;
+    text.push_str(points.as_str())?;
+    let counts = doc.counts();
+    let line = format!(in alloc; "{} {} {}\n", counts.nodes, counts.chars, counts.depth)?;
+    text.push_str(line.as_str())?;
     Ok(text)
 }
 
+// That, and the overrides, the flags and the next label.
 fn whole(alloc: Global, doc: &Doc) -> Result<String, Fail> {
-    let mut text = String::new(alloc);
-    push_whole(alloc, &mut text, doc)?;
+    let mut text = shown(alloc, doc)?;
+    let settings = settings_of(alloc, doc)?;
+    text.push_str(settings.as_str())?;
+    let next = doc.arena().next_label();
+    let line = format!(in alloc; "{next}")?;
+    text.push_str(line.as_str())?;
     Ok(text)
 }
 
@@ -268,20 +248,11 @@ fn has_lengths(doc: &Doc, undo: usize, redo: usize, edits: usize) -> bool
     doc.undo_len() == undo && doc.redo_len() == redo && doc.edits() == edits
 }
 
-// Whether the document has no overrides, and the flags that the edits set.
-fn is_set_back(alloc: Global, doc: &Doc) -> bool {
-    let mut settings = String::new(alloc);
-    push_settings(&mut settings, doc).is_ok() && settings.as_str() == "absent absent css p "
-}
-
-fn shows(alloc: Global, doc: &Doc, was: &str) -> Result<bool, Fail> {
-    let is = shown(alloc, doc)?;
-    Ok(is.as_str() == was)
-}
-
 // Whether the document shows what it showed, without overrides.
 fn is_as(alloc: Global, doc: &Doc, was: &str) -> Result<bool, Fail> {
-    Ok(shows(alloc, doc, was)? && is_set_back(alloc, doc))
+    let is = shown(alloc, doc)?;
+    let settings = settings_of(alloc, doc)?;
+    Ok(is.as_str() == was && settings.as_str() == "absent absent css p ")
 }
 
 // Whether undo and redo of one entry lead between what was shown before and after it.
@@ -296,26 +267,6 @@ fn turns(alloc: Global, doc: &mut Doc, before: &str, after: &str) -> Result<bool
     Ok(undone && is_before && redone && is_after)
 }
 
-fn is_whole(alloc: Global, doc: &Doc, was: &str) -> Result<bool, Fail> {
-    let is = whole(alloc, doc)?;
-    Ok(is.as_str() == was)
-}
-
-fn leads_back(
-    alloc: Global,
-    doc: &mut Doc,
-    acts: (&[Act], &[Act]),
-    resumes: bool,
-    before: &str,
-) -> Result<bool, Fail>
-    requires { IsClosed doc.old }
-    ensures { IfOk result (λ _. IsClosed doc.new) }
-{
-    run(alloc, doc, acts.0, acts.1, resumes)?;
-    take_back(doc);
-    is_whole(alloc, doc, before)
-}
-
 // Whether a command with the edits that is taken back leaves all as it was.
 fn is_taken_back(
     alloc: Global,
@@ -328,7 +279,10 @@ fn is_taken_back(
     ensures { IfOk result (λ _. IsClosed doc.new) }
 {
     let before = whole(alloc, doc)?;
-    leads_back(alloc, doc, (acts, more), resumes, before.as_str())
+    run(alloc, doc, acts, more, resumes)?;
+    take_back(doc);
+    let after = whole(alloc, doc)?;
+    Ok(after.as_str() == before.as_str())
 }
 
 fn run_to_end(
@@ -370,27 +324,6 @@ fn is_edited(doc: &Doc, is: &str) -> bool
     is.starts_with(EDITED) && has_lengths(doc, 1, 0, 20) && three_deep
 }
 
-fn goes_between(alloc: Global, doc: &mut Doc, before: &str, after: &str) -> Result<bool, Fail>
-    requires { IsClosed doc.old }
-{
-    let made = is_edited(doc, after);
-    Ok(turns(alloc, doc, before, after)? && made)
-}
-
-fn goes_both_ways(alloc: Global, doc: &mut Doc, before: &str) -> Result<bool, Fail>
-    requires { IsClosed doc.old }
-{
-    let after = shown(alloc, doc)?;
-    goes_between(alloc, doc, before, after.as_str())
-}
-
-fn is_undone(alloc: Global, doc: &mut Doc, resumes: bool, before: &str) -> Result<bool, Fail>
-    requires { IsClosed doc.old }
-{
-    run_all(alloc, doc, resumes)?;
-    goes_both_ways(alloc, doc, before)
-}
-
 // Whether the edits are made, in one command or in two of which the second joins the entry of the
 // first, and undo and redo lead between what is shown before and after them.
 #[derive(Clone, Copy)]
@@ -404,7 +337,11 @@ impl Trial for Undone {
     fn run(&self, alloc: Global, doc: &mut Doc) -> Result<bool, Fail> {
         start(alloc, doc)?;
         let before = shown(alloc, doc)?;
-        is_undone(alloc, doc, self.resumes, before.as_str())
+        run_all(alloc, doc, self.resumes)?;
+        let after = shown(alloc, doc)?;
+        let made = is_edited(doc, after.as_str());
+        let turned = turns(alloc, doc, before.as_str(), after.as_str())?;
+        Ok(made && turned)
     }
 }
 

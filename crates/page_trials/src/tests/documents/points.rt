@@ -1,7 +1,7 @@
 //! What edits do to points at every place of a page.
 
 use super::acts::{Act, make_act};
-use crate::tests::fixtures::{Trial, begin, fault, found};
+use crate::tests::fixtures::{Trial, begin, found};
 use edit_doc::{Doc, Point};
 use std::alloc::Global;
 use std::test::Fail;
@@ -81,55 +81,39 @@ fn push_step(
         return Err("not so".into());
     }
     if point != at {
-        write!(
-            text,
+        let step = format!(in alloc;
             "{}:{}>{}:{} ",
             at.label, at.offset, point.label, point.offset
         )?;
+        text.push_str(step.as_str())?;
     }
     Ok(())
 }
 
 // Where the points go.
-fn push_steps(
-    alloc: Global,
-    text: &mut String,
-    row: &'static (Act, bool, &'static str),
-) -> Result<(), Fail> {
+fn steps_of(alloc: Global, row: &'static (Act, bool, &'static str)) -> Result<String, Fail> {
+    let mut text = String::new(alloc);
     for (label, length) in &NODES {
         for offset in 0..*length {
-            let at = Point {
-                label: *label,
-                offset,
-            };
-            push_step(alloc, text, row, at)?;
+            push_step(
+                alloc,
+                &mut text,
+                row,
+                Point {
+                    label: *label,
+                    offset,
+                },
+            )?;
         }
     }
-    Ok(())
-}
-
-fn compare_steps(
-    alloc: Global,
-    text: &mut String,
-    row: &'static (Act, bool, &'static str),
-) -> Result<(), Fail> {
-    push_steps(alloc, text, row)?;
-    if text.as_str() == row.2 {
-        Ok(())
-    } else {
-        Err(fault(alloc, row.2, text.as_bytes())?)
-    }
-}
-
-fn check_steps(alloc: Global, row: &'static (Act, bool, &'static str)) -> Result<(), Fail> {
-    let mut text = String::new(alloc);
-    compare_steps(alloc, &mut text, row)
+    Ok(text)
 }
 
 #[test]
 fn points_follow_edits(rt: HostRuntime) -> Result<(), Fail> {
     for row in &ROWS {
-        check_steps(rt.alloc(), row)?;
+        let steps = steps_of(rt.alloc(), row)?;
+        assert_eq!(rt; steps.as_str(), row.2);
     }
     Ok(())
 }

@@ -1,7 +1,7 @@
 //! Tails that are extracted.
 
-use crate::tests::fixtures::{Act, Row, check_rows, make_element, node_of, point};
-use edit_doc::Doc;
+use crate::tests::fixtures::{Act, Row, check_rows, node_of, point};
+use edit_doc::{Attributes, Doc, Name};
 use std::alloc::Global;
 use std::test::Fail;
 
@@ -11,7 +11,8 @@ struct Tail(u32, (u32, u32));
 impl Act for Tail {
     fn act(&self, alloc: Global, doc: &mut Doc) -> Result<bool, Fail> {
         let Tail(end, from) = self;
-        let target = make_element(alloc, doc, b"div")?;
+        let tag = Name::from_slice(alloc, b"div")?;
+        let target = doc.make_element(&tag, &Attributes::new(alloc))?;
         let host = node_of(doc, 1)?;
         doc.insert(host, None, target)?;
         let end = node_of(doc, *end)?;

@@ -3,7 +3,7 @@
 ghost use Rattle.std.specs.Prelude.{◌<◌};
 ghost use Rattle.dom_model.specs.Forest.{count_of};
 
-use crate::tests::fixtures::{Look, Page, check_pages, has_labels, point_of, range_of};
+use crate::tests::fixtures::{Look, Page, check_pages, labels, point_of, range_of};
 use live_range::Point;
 use node_arena::Arena;
 use node_tests::*;
@@ -103,22 +103,10 @@ fn lists_each(
     requires end_held { 0 < count_of arena.now.trees range.1.label }
 {
     let contained = contained_nodes(alloc, arena, range)?;
-    let are_contained = has_labels(contained.as_slice(), lists.0);
-    Ok(are_contained && reaches_each(alloc, arena, range, lists.1)?)
-}
-
-// Whether the nodes that the range contains in effect are these.
-fn reaches_each(
-    alloc: Global,
-    arena: &Arena,
-    range: (Point, Point),
-    list: &[u32],
-) -> Result<bool, AllocError>
-    requires start_held { 0 < count_of arena.now.trees range.0.label }
-    requires end_held { 0 < count_of arena.now.trees range.1.label }
-{
+    let contained = labels(alloc, contained.as_slice())?;
     let effective = effective_nodes(alloc, arena, range)?;
-    Ok(has_labels(effective.as_slice(), list))
+    let effective = labels(alloc, effective.as_slice())?;
+    Ok(contained.as_slice() == lists.0 && effective.as_slice() == lists.1)
 }
 
 impl Look for Ranges {

@@ -17,7 +17,8 @@ impl Look for Lettered {
     fn meets(&self, alloc: Global, arena: &Arena) -> Result<bool, Fail> {
         for (label, wanted) in self.0 {
             let node = node_of(arena, *label)?;
-            if !has_letters(alloc, arena, node, wanted)? {
+            let met = letters(alloc, arena, node)?;
+            if met.as_str() != *wanted {
                 return Ok(false);
             }
         }
@@ -189,34 +190,17 @@ fn is_editable_anywhere(arena: &Arena, node: NodeRef) -> bool
 }
 
 // The letters of the tests that a node meets.
-fn has_letters(
-    alloc: Global,
-    arena: &Arena,
-    node: NodeRef,
-    wanted: &str,
-) -> Result<bool, AllocError>
+fn letters(alloc: Global, arena: &Arena, node: NodeRef) -> Result<String, AllocError>
     requires { Holds arena.now node }
 {
     let mut text = String::new(alloc);
-    marks(&mut text, arena, node, wanted)
-}
-
-fn marks(text: &mut String, arena: &Arena, node: NodeRef, wanted: &str) -> Result<bool, AllocError>
-    requires { Holds arena.now node }
-{
-    mark_each(text, arena, node)?;
-    Ok(text.as_str() == wanted)
-}
-
-fn mark_each(text: &mut String, arena: &Arena, node: NodeRef) -> Result<(), AllocError>
-    requires { Holds arena.now node }
-{
-    mark(text, "e", is_editable_anywhere(arena, node))?;
-    mark(text, "b", is_block(arena, node))?;
-    mark(text, "v", is_visible(arena, node))?;
-    mark(text, "w", is_whitespace(arena, node))?;
-    mark(text, "c", is_collapsed_whitespace(arena, node))?;
-    mark_breaks(text, arena, node)
+    mark(&mut text, "e", is_editable_anywhere(arena, node))?;
+    mark(&mut text, "b", is_block(arena, node))?;
+    mark(&mut text, "v", is_visible(arena, node))?;
+    mark(&mut text, "w", is_whitespace(arena, node))?;
+    mark(&mut text, "c", is_collapsed_whitespace(arena, node))?;
+    mark_breaks(&mut text, arena, node)?;
+    Ok(text)
 }
 
 fn mark_breaks(text: &mut String, arena: &Arena, node: NodeRef) -> Result<(), AllocError>
@@ -224,7 +208,8 @@ fn mark_breaks(text: &mut String, arena: &Arena, node: NodeRef) -> Result<(), Al
 {
     mark(text, "x", is_extraneous_break(arena, node))?;
     mark(text, "k", is_collapsed_break(arena, node))?;
-    mark(text, "p", is_block_prop(arena, node))
+    mark(text, "p", is_block_prop(arena, node))?;
+    Ok(())
 }
 
 #[test]

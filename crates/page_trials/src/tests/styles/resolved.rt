@@ -1,7 +1,6 @@
 //! Resolved styles.
 
-use crate::tests::fixtures::{Look, Page, check_pages, node_of};
-use css_value::has_codes;
+use crate::tests::fixtures::{Look, Page, chars, check_pages, node_of};
 use node_arena::Arena;
 use node_tests::*;
 use std::alloc::Global;
@@ -15,7 +14,8 @@ impl Look for Resolved {
     fn meets(&self, alloc: Global, arena: &Arena) -> Result<bool, Fail> {
         let node = node_of(arena, self.1)?;
         let value = resolved(alloc, arena, node, self.0)?;
-        Ok(has_codes(value.as_slice(), self.2.as_bytes()))
+        let wanted = chars(alloc, self.2)?;
+        Ok(value.as_slice() == wanted.as_slice())
     }
 }
 

@@ -1,5 +1,7 @@
 //! Line breaks that are removed.
 
+ghost use Rattle.edit_doc.specs.Whole.{IsOpen};
+
 use crate::tests::fixtures::{Act, Row, check_rows, node_of};
 use std::alloc::Global;
 use std::test::Fail;
