@@ -634,8 +634,9 @@ describe("changes", () => {
     tells(editor, 2, went);
     editor.exec("styleWithCSS", "true");
     assert.deepEqual(kept(), [0, 1, 2, 3]);
+    // The new text has label 4; what redo would have brought back is gone, and undo brings back 2.
     editor.exec("insertText", "c");
-    assert.deepEqual(kept(), [0, 1, 2]);
+    assert.deepEqual(kept(), [0, 1, 2, 4]);
     for (const label of [2 ** 32, -1]) {
       refused(() => editor.isKept(label), "BadPlace", Status.BAD_PLACE);
     }
