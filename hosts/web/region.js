@@ -33,9 +33,11 @@
  * attributes of the block, `unlink` at a caret takes the link around it away, `outdent` of several
  * quoted blocks takes those with formats apart, and the elements for a style are the engine's.
  */
-import { BadArgument, HeditError, PageRefused } from "./hedit.js";
-import { Commands, HABITS, lockedPart } from "./region_commands.js";
+import { HeditError } from "./hedit.js";
+import { Commands, HABITS } from "./region_commands.js";
 import { Halves, commandOfKey, isOfBrowser, meaningOf } from "./region_input.js";
+import { open } from "./region_open.js";
+import { isPartOfText, lockedPart } from "./region_places.js";
 import { Steps } from "./region_steps.js";
 import { View, difference, isCaret, isSame, isText } from "./region_view.js";
 
@@ -65,61 +67,11 @@ export { HABITS };
  */
 
 /**
- * Whether an element is an editing host.
- * @param {Element} element
- */
-function isHost(element) {
-  return ["", "true"].includes(element.getAttribute("contenteditable") ?? "false");
-}
-
-/**
  * Whether an event is of a field in the region, which the browser edits.
  * @param {Event} event
  */
 function isOfField({ target }) {
   return target instanceof HTMLInputElement || target instanceof HTMLSelectElement;
-}
-
-/**
- * The editor of what an element is to hold, and the label of the node whose children are the
- * element's.
- * @param {Engine} engine
- * @param {HTMLElement} element
- * @param {string} html
- * @param {Limits} limits
- * @returns {{ editor: Editor, root: number }}
- */
-function open(engine, element, html, limits) {
-  if (!isHost(element)) {
-    return { editor: engine.open(html, limits), root: 0 };
-  }
-  const shell = /** @type {HTMLElement} */ (element.cloneNode(false)).outerHTML;
-  const end = shell.lastIndexOf("</");
-  const editor = openWithin(engine, [shell.slice(0, end), shell.slice(end)], html, limits);
-  const { firstChild, lastChild } = editor.node(0);
-  if (firstChild === null || firstChild !== lastChild) {
-    editor.close();
-    throw new BadArgument("the markup ends the element that it stands in");
-  }
-  return { editor, root: firstChild };
-}
-
-/**
- * @param {Engine} engine
- * @param {readonly [string, string]} tags
- * @param {string} html
- * @param {Limits} limits
- */
-function openWithin(engine, [start, end], html, limits) {
-  try {
-    return engine.open(start + html + end, limits);
-  } catch (error) {
-    if (error instanceof PageRefused) {
-      const at = Math.min(Math.max(error.at - start.length, 0), html.length);
-      throw new PageRefused(at, error.kind);
-    }
-    throw error;
-  }
 }
 
 /** An editor behind an element of a page. */
@@ -434,6 +386,9 @@ export class Region extends EventTarget {
       case "insert":
         this.#insert(event, meaning);
         break;
+      case "replace":
+        this.#act(() => this.#replace(event, meaning.text));
+        break;
       case "delete":
         this.#act(() => this.#delete(event, meaning));
         break;
@@ -456,6 +411,16 @@ export class Region extends EventTarget {
       this.#aim(event, isAimed);
       return whole !== "" && this.#commands.type(whole);
     });
+  }
+
+  /**
+   * Puts a text in place of the range that an input names, or of what is selected.
+   * @param {InputEvent} event
+   * @param {string} text
+   */
+  #replace(event, text) {
+    const range = this.#target(event) ?? this.#editor.selection();
+    return range !== null && this.#commands.replace(range, text);
   }
 
   /**
@@ -509,15 +474,25 @@ export class Region extends EventTarget {
    * @param {boolean} isAimed
    */
   #aim(event, isAimed) {
-    const [range] = event.getTargetRanges();
-    const isMeant = isAimed || (isCaret(this.#editor.selection()) && !range?.collapsed);
-    const anchor = range && this.#view.point(range.startContainer, range.startOffset);
-    const focus = range && this.#view.point(range.endContainer, range.endOffset);
-    if (!isMeant || !anchor || !focus) {
+    const isMeant = isAimed || isCaret(this.#editor.selection());
+    const range = isMeant ? this.#target(event) : null;
+    if (!range || (!isAimed && isCaret(range))) {
       return false;
     }
-    this.#commands.select({ anchor, focus });
+    this.#commands.select(range);
     return true;
+  }
+
+  /**
+   * The range that an input names, as points; null where it names none in the element.
+   * @param {InputEvent} event
+   * @returns {Selection | null}
+   */
+  #target(event) {
+    const [range] = event.getTargetRanges();
+    const anchor = range && this.#view.point(range.startContainer, range.startOffset);
+    const focus = range && this.#view.point(range.endContainer, range.endOffset);
+    return anchor && focus ? { anchor, focus } : null;
   }
 
   /** @param {ClipboardEvent} event */
@@ -544,11 +519,15 @@ export class Region extends EventTarget {
 
   // Input methods, and what else the browser does by itself.
 
-  /** Begins to compose: what is selected goes before, so that it all happens in one text. */
+  /**
+   * Begins to compose. So that it all happens in one text, what is selected goes before, where that
+   * isn't a part of one.
+   */
   #compose() {
     this.#settle();
     const steps = this.#steps.length;
-    if (!isCaret(this.#editor.selection())) {
+    const selection = this.#element.ownerDocument.getSelection();
+    if (!isCaret(this.#editor.selection()) && !isPartOfText(selection)) {
       this.#act(() => this.#commands.deleteSelection());
     }
     this.#composing = { records: [], steps };
@@ -608,7 +587,7 @@ export class Region extends EventTarget {
     const isThere = selection?.isCollapsed && selection.focusNode === text;
     const change = difference(old, now, isThere ? now.length - selection.focusOffset : undefined);
     const shown = this.#pageSelection();
-    return old === now ? null : () => this.#commands.replace(text, change, shown);
+    return old === now ? null : () => this.#commands.takeOver(text, change, shown);
   }
 
   /**
