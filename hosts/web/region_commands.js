@@ -442,7 +442,8 @@ export class Commands {
     if (!anchor || !focus) {
       return false;
     }
-    const isDone = this.#write(text, { start, end, put }, { anchor, focus });
+    const isOther = start !== end || put !== "";
+    const isDone = isOther && this.#write(text, { start, end, put }, { anchor, focus });
     if (shown && text.data === whole) {
       this.selectAgain(shown);
     }
