@@ -420,7 +420,7 @@ export class Region extends EventTarget {
    */
   #replace(event, text) {
     const range = this.#target(event) ?? this.#editor.selection();
-    return range !== null && this.#commands.replace(range, text);
+    return range !== null && text !== "" && this.#commands.replace(range, text);
   }
 
   /**

@@ -422,11 +422,11 @@ export class Commands {
   replace(range, text) {
     const [from, to] = [range.anchor, range.focus].map((point) => this.#view.place(point).node);
     const isInLine = !isCaret(range) && this.#view.blockOf(from) === this.#view.blockOf(to);
-    if (isInLine && text !== "") {
+    if (isInLine) {
       return this.#keepOut(() => this.#exchange(range, text));
     }
     this.select(range);
-    return text === "" ? this.deleteSelection() : this.type(text);
+    return this.type(text);
   }
 
   /**
