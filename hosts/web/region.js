@@ -313,7 +313,7 @@ export class Region extends EventTarget {
       copy: (event) => this.#copy(event),
       cut: (event) => this.#cut(event),
       compositionstart: () => this.#compose(),
-      compositionend: () => this.#composed(),
+      compositionend: ({ data }) => this.#composed(data),
     };
     for (const [kind, call] of Object.entries(answers)) {
       const answer = (/** @type {Event} */ event) => {
@@ -533,14 +533,17 @@ export class Region extends EventTarget {
     this.#composing = { records: [], steps };
   }
 
-  /** Reads back what was composed, as one step of undo. */
-  #composed() {
+  /**
+   * Reads back what was composed, as one step of undo.
+   * @param {string} text what the input method gave, where it has ended
+   */
+  #composed(text = "") {
     if (!this.#composing) {
       return;
     }
     const { records, steps } = this.#composing;
     this.#composing = null;
-    this.#mend([...records, ...this.#observer.takeRecords()], true);
+    this.#mend([...records, ...this.#observer.takeRecords()], text);
     this.#steps.join(steps);
   }
 
@@ -548,9 +551,9 @@ export class Region extends EventTarget {
    * Reads back what the browser changed by itself, where it is in one text, and shows the engine's
    * nodes again in all that it changed.
    * @param {readonly MutationRecord[]} records
-   * @param {boolean} isComposed
+   * @param {string | null} composed what an input method gave, where one did it
    */
-  #mend(records, isComposed = false) {
+  #mend(records, composed = null) {
     if (this.#composing) {
       this.#composing.records.push(...records);
       return;
@@ -561,7 +564,7 @@ export class Region extends EventTarget {
     if (ours.length === 0) {
       return;
     }
-    const write = this.#changeOfText(ours) ?? (isComposed ? this.#newText(ours) : null);
+    const write = this.#changeOfText(ours) ?? this.#composedElsewhere(ours, composed);
     const labels = ours.flatMap(({ target }) => this.#view.nearest(target) ?? []);
     for (const label of new Set(labels)) {
       this.#view.mend(label);
@@ -571,13 +574,14 @@ export class Region extends EventTarget {
   }
 
   /**
-   * What writes the change into the engine where the browser changed one text, and nothing else; null
-   * where it did something else.
+   * What writes the change into the engine where the browser changed one text, and nothing else but
+   * attributes; null where it did something else.
    * @param {readonly MutationRecord[]} records
    * @returns {(() => boolean) | null}
    */
   #changeOfText(records) {
-    const [text, ...others] = new Set(records.map(({ target }) => target));
+    const inTexts = records.filter(({ type }) => type !== "attributes");
+    const [text, ...others] = new Set(inTexts.map(({ target }) => target));
     const label = isText(text) ? this.#view.label(text) : undefined;
     if (!isText(text) || others.length > 0 || label === undefined || !this.#view.nearest(text)) {
       return null;
@@ -588,6 +592,21 @@ export class Region extends EventTarget {
     const change = difference(old, now, isThere ? now.length - selection.focusOffset : undefined);
     const shown = this.#pageSelection();
     return () => this.#commands.takeOver(text, change, shown);
+  }
+
+  /**
+   * What writes into the engine what an input method did otherwise than in one text: a text of its
+   * own, or else what it gave, so that no word is lost where something else changed meanwhile.
+   * @param {readonly MutationRecord[]} records
+   * @param {string | null} composed
+   * @returns {(() => boolean) | null}
+   */
+  #composedElsewhere(records, composed) {
+    if (composed === null) {
+      return null;
+    }
+    const typed = composed === "" ? null : () => this.#commands.type(composed);
+    return this.#newText(records) ?? typed;
   }
 
   /**

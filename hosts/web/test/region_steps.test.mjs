@@ -74,6 +74,24 @@ for (const { Browser, name, skip } of BROWSERS) {
         await region.isOneStep("<p>see helo there</p>");
       });
 
+      it("is a word, whatever a script does meanwhile", async () => {
+        await region.open("<p>ab</p><p>c</p>");
+        await region.click([0, 0], 1);
+        await region.compose("に");
+        await region.page.evaluate(() => {
+          document.querySelector("#host p").title = "x";
+        });
+        await composeAll(["にほ", "日本"]);
+        await region.shows("<p>a日本b</p><p>c</p>");
+        await region.isOneStep("<p>ab</p><p>c</p>");
+        await region.compose("に");
+        await region.page.evaluate(() => {
+          document.querySelector("#host").append(document.createElement("hr"));
+        });
+        await composeAll(["にほ", "日本"]);
+        await region.shows("<p>a日本日本b</p><p>c</p>");
+      });
+
       it("goes on with what was typed before, and with what is typed behind it", async () => {
         await region.open("<p>ab</p>");
         await region.click([0, 0], 1);
