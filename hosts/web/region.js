@@ -37,7 +37,7 @@ import { HeditError } from "./hedit.js";
 import { Commands, HABITS } from "./region_commands.js";
 import { Halves, commandOfKey, isOfBrowser, meaningOf } from "./region_input.js";
 import { open } from "./region_open.js";
-import { lockedPart, takePartOfText } from "./region_places.js";
+import { isPartOfText, lockedPart } from "./region_places.js";
 import { Steps } from "./region_steps.js";
 import { View, difference, isCaret, isSame, isText } from "./region_view.js";
 
@@ -520,14 +520,14 @@ export class Region extends EventTarget {
   // Input methods, and what else the browser does by itself.
 
   /**
-   * Begins to compose. What is selected goes before, so that it all happens in one text: where that
-   * is in one, only from the page, and the engine puts what is composed in its place.
+   * Begins to compose. So that it all happens in one text, what is selected goes before, unless it is
+   * a part of one: then the engine puts what is composed in its place at once.
    */
   #compose() {
     this.#settle();
     const steps = this.#steps.length;
     const selection = this.#element.ownerDocument.getSelection();
-    if (!isCaret(this.#editor.selection()) && !takePartOfText(selection)) {
+    if (!isCaret(this.#editor.selection()) && !isPartOfText(selection)) {
       this.#act(() => this.#commands.deleteSelection());
     }
     this.#composing = { records: [], steps };

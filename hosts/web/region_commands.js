@@ -461,7 +461,7 @@ export class Commands {
       return this.exec("delete");
     }
     const isTyped = start === end && this.#isAt(text, start);
-    return isTyped ? this.exec("insertText", plain(put)) : this.#exchange(range, put);
+    return isTyped ? this.type(put) : this.#exchange(range, put);
   }
 
   /**

@@ -96,20 +96,13 @@ export function lockedPart(node, root) {
 }
 
 /**
- * Deletes in the page what is selected, where that is a part of one text and not all of it. False
- * where it isn't.
+ * Whether a part of one text is selected, and not all of it.
  * @param {globalThis.Selection | null} selection
  */
-export function takePartOfText(selection) {
+export function isPartOfText(selection) {
   const text = selection?.anchorNode ?? null;
   if (!selection || !isText(text) || selection.focusNode !== text) {
     return false;
   }
-  const { anchorOffset, focusOffset } = selection;
-  const length = Math.abs(anchorOffset - focusOffset);
-  if (length === 0 || length === text.length) {
-    return false;
-  }
-  text.deleteData(Math.min(anchorOffset, focusOffset), length);
-  return true;
+  return Math.abs(selection.anchorOffset - selection.focusOffset) < text.length;
 }

@@ -31,7 +31,7 @@ for (const { Browser, name, skip } of BROWSERS) {
         await region.click([0, 0], 5, 2);
         assert.equal((await region.selected()).trim(), "two");
         await composeAll(["に", "にほん", "日本"]);
-        assert.match(await region.agrees(), /^<p>one 日本(?: |&nbsp;)?three<\/p>$/);
+        assert.match(await region.agrees(), /^<p>one(?: |&nbsp;)日本(?: |&nbsp;)three<\/p>$/);
         await region.isOneStep("<p>one two three</p>");
       });
 
@@ -90,6 +90,21 @@ for (const { Browser, name, skip } of BROWSERS) {
         });
         await composeAll(["にほ", "日本"]);
         await region.shows("<p>a日本日本b</p><p>c</p>");
+      });
+
+      it("stands behind a link where it is composed at its end, as what is typed does", async () => {
+        await region.open('<p>x <a href="u">ab</a></p>');
+        await region.click([0, 1, 0], 1);
+        await region.press("End");
+        await composeAll(["に", "日本"]);
+        await region.shows('<p>x <a href="u">ab</a>日本</p>');
+        await region.press("Control+z");
+        await region.shows('<p>x <a href="u">ab</a></p>');
+        await region.open('<p>x <a href="u">ab</a></p>', { leaveLinks: false });
+        await region.click([0, 1, 0], 1);
+        await region.press("End");
+        await composeAll(["に", "日本"]);
+        await region.shows('<p>x <a href="u">ab日本</a></p>');
       });
 
       it("goes on with what was typed before, and with what is typed behind it", async () => {
