@@ -100,11 +100,6 @@ for (const { Browser, name, skip } of BROWSERS) {
         await region.shows('<p>x <a href="u">ab</a>日本</p>');
         await region.press("Control+z");
         await region.shows('<p>x <a href="u">ab</a></p>');
-        await region.open('<p>x <a href="u">ab</a></p>', { leaveLinks: false });
-        await region.click([0, 1, 0], 1);
-        await region.press("End");
-        await composeAll(["に", "日本"]);
-        await region.shows('<p>x <a href="u">ab日本</a></p>');
       });
 
       it("goes on with what was typed before, and with what is typed behind it", async () => {
