@@ -114,6 +114,9 @@ for (const { Browser, name, skip } of BROWSERS) {
     });
 
     describe("of spelling", () => {
+      // Firefox selects the word before it asks, and may begin in the text before it.
+      const options = { todo: name === "Firefox" };
+
       it("is a word that is corrected", async () => {
         await region.open("<p>see teh <b>end</b></p>");
         await region.click([0, 0], 2);
@@ -122,7 +125,7 @@ for (const { Browser, name, skip } of BROWSERS) {
         await region.isOneStep("<p>see teh <b>end</b></p>");
       });
 
-      it("is a word that is corrected while it is typed", async () => {
+      it("is a word that is corrected while it is typed", options, async () => {
         await region.open("<p>ab</p>");
         await region.click([0, 0], 1);
         await region.type(" teh");
@@ -132,7 +135,7 @@ for (const { Browser, name, skip } of BROWSERS) {
         await region.isOneStep("<p>ab</p>");
       });
 
-      it("keeps the word's style", async () => {
+      it("keeps the word's style", options, async () => {
         await region.open('<p>a <i>teh</i> <a href="u">wrod</a></p>');
         await region.click([0, 1, 0], 1);
         await region.correct("teh", "the");
@@ -144,7 +147,7 @@ for (const { Browser, name, skip } of BROWSERS) {
         await region.shows('<p>a <i>teh</i> <a href="u">wrod</a></p>');
       });
 
-      it("isn't done where typing is denied", async () => {
+      it("isn't done where typing is denied", options, async () => {
         await region.open("<p>teh</p>", { denied: ["InsertText"] });
         await region.click([0, 0], 3);
         await region.correct("teh", "the");
