@@ -7,10 +7,13 @@
  *
  * The two are measured in turn, in one run of each browser. A key's time goes from its event to the end
  * of the frame that shows what it did, with frames that wait for no screen; beside it stands what the
- * page's main thread took of the processor, which doesn't tell of what else the machine does. It ends
- * with status 1 where an aim is missed: a key takes no longer than the browser's own, and no more of
- * the processor, and a load at most 100 ms more.
+ * page's main thread took of the processor, which doesn't tell of what else the machine does. Of each
+ * there is the median and the middle half, and how often the browser's own goes into the region's; what
+ * else the machine does is told by its load before and after. It ends with status 1 where an aim is
+ * missed: a key takes no longer than the browser's own, and no more of the processor, and a load at
+ * most 100 ms more.
  */
+import { loadavg } from "node:os";
 import { argv, exit } from "node:process";
 import { BROWSERS } from "../hosts/web/test/browsers.mjs";
 import { serve } from "../hosts/web/test/server.mjs";
@@ -32,12 +35,20 @@ const MOST_LOAD = 100;
 
 const SMALL = 3;
 
+/** How often a page of so few paragraphs is loaded, of each kind in turn. */
+const LOADS = 11;
+
 function quantile(times, part) {
   const sorted = [...times].sort((left, right) => left - right);
   return sorted[Math.min(sorted.length - 1, Math.floor(sorted.length * part))];
 }
 
-const shown = (time) => `${time.toFixed(1).padStart(7)} ms`;
+/** A median with the middle half around it. */
+function shown([low, middle, high]) {
+  return `${middle.toFixed(1).padStart(7)} ms (${low.toFixed(1)} to ${high.toFixed(1)})`;
+}
+
+const tellLoad = (when) => console.log(`load ${when}: ${loadavg().map((each) => each.toFixed(1))}`);
 
 async function open(browser, address, kind, paragraphs) {
   const page = await browser.open(`${address}?kind=${kind}&paragraphs=${paragraphs}`);
@@ -69,10 +80,14 @@ async function measureKeys(browser, address, kind, found) {
   await page.close();
 }
 
-async function measureLoad(browser, address, kind, found) {
-  const { page, opened } = await open(browser, address, kind, SMALL);
-  found.push({ what: "load", time: opened });
-  await page.close();
+async function measureLoads(browser, address, found) {
+  for (let round = 0; round < LOADS; round += 1) {
+    for (const kind of KINDS) {
+      const { page, opened } = await open(browser, address, kind, SMALL);
+      found[kind].push({ what: "load", time: opened });
+      await page.close();
+    }
+  }
 }
 
 async function measureAll({ Browser }, address) {
@@ -81,33 +96,41 @@ async function measureAll({ Browser }, address) {
   for (let round = 0; round < ROUNDS; round += 1) {
     for (const kind of KINDS) {
       await measureKeys(browser, address, kind, found[kind]);
-      await measureLoad(browser, address, kind, found[kind]);
-      await measureLoad(browser, address, kind, found[kind]);
     }
   }
+  await measureLoads(browser, address, found);
   await browser.close();
   return found;
+}
+
+/** The quartiles of what was taken of something, by the clock and of the processor. */
+function quartilesOf(found, what) {
+  const taken = found.filter((each) => each.what === what);
+  const of = (name) => [0.25, 0.5, 0.75].map((part) => quantile(taken.map((each) => each[name]), part));
+  return { time: of("time"), processor: taken[0].processor === undefined ? null : of("processor") };
+}
+
+/** Whether what the region takes misses the aim. */
+function isMissed(what, [own, ours]) {
+  if (what === "opening") {
+    return false;
+  }
+  const most = what === "load" ? own.time[1] + MOST_LOAD : own.time[1];
+  return ours.time[1] > most || (ours.processor && ours.processor[1] > own.processor[1]);
 }
 
 /** Prints what was found, and gives the aims that are missed. */
 function judge(found) {
   const missed = [];
   for (const what of [...KEYS.map(([name]) => name), "opening", "load"]) {
-    const halves = KINDS.map((kind) => {
-      const taken = found[kind].filter((each) => each.what === what);
-      const of = (name) => quantile(taken.map((each) => each[name]), 0.5);
-      return { time: of("time"), processor: of("processor") };
-    });
-    const told = halves.map(({ time, processor }, place) => {
-      const more = processor === undefined ? "" : `, ${shown(processor)} of the processor`;
-      return `${KINDS[place]} ${shown(time)}${more}`;
-    });
-    console.log(`  ${what.padEnd(12)} ${told.join("; ")}`);
+    const halves = KINDS.map((kind) => quartilesOf(found[kind], what));
     const [own, ours] = halves;
-    const isKey = what !== "opening" && what !== "load";
-    if (isKey && (ours.time > own.time || ours.processor > own.processor)) {
-      missed.push(what);
-    } else if (what === "load" && ours.time > own.time + MOST_LOAD) {
+    for (const name of ["time", "processor"].filter((each) => own[each])) {
+      const told = halves.map((half, place) => `${KINDS[place]} ${shown(half[name])}`);
+      const times = (ours[name][1] / own[name][1]).toFixed(2);
+      console.log(`  ${what.padEnd(12)} ${name.padEnd(9)} ${told.join(", ")}: ${times} times`);
+    }
+    if (isMissed(what, halves)) {
       missed.push(what);
     }
   }
@@ -116,6 +139,7 @@ function judge(found) {
 
 const server = await serve("keys.html");
 const missed = [];
+tellLoad("before");
 console.log(`keys in a page of ${PARAGRAPHS} paragraphs, of ${ROUNDS} rounds`);
 for (const each of BROWSERS) {
   console.log(each.skip ? `${each.name} is skipped: ${each.skip}` : each.name);
@@ -123,5 +147,6 @@ for (const each of BROWSERS) {
   missed.push(...(found ? judge(found) : []).map((what) => `${each.name}: ${what}`));
 }
 server.close();
+tellLoad("after");
 console.log(missed.length === 0 ? "no aim is missed" : `missed: ${missed.join("; ")}`);
 exit(missed.length === 0 ? 0 : 1);

@@ -188,7 +188,10 @@ class Composer {
 
   #countSoon = gathered(() => this.#count(), PAUSE);
 
-  #keepSoon = gathered(() => this.#keep(), PAUSE);
+  /** Whether the draft that the browser keeps is the one that is shown. */
+  #isKept = true;
+
+  #keepRestSoon = gathered(() => this.#keepRest(), PAUSE);
 
   #showSourceSoon = gathered(() => this.#showSource(), PAUSE);
 
@@ -575,6 +578,7 @@ class Composer {
       }
     });
     part("save").addEventListener("click", () => this.#save());
+    window.addEventListener("pagehide", () => this.#keepRest());
     const next = new Map([
       ["to", () => part("subject").select()],
       ["subject", () => this.#region.focus()],
@@ -628,7 +632,20 @@ class Composer {
     document.title = words;
   }
 
+  #keepSoon() {
+    this.#isKept = false;
+    this.#keepRestSoon();
+  }
+
+  /** Keeps what isn't kept yet. A draft of another window of the composer stays where all is. */
+  #keepRest() {
+    if (!this.#isKept) {
+      this.#keep();
+    }
+  }
+
   #keep() {
+    this.#isKept = true;
     const draft = { to: part("to").value, subject: part("subject").value, html: this.#region.html() };
     if (draft.to + draft.subject === "" && draft.html === NEW_MESSAGE) {
       dropDraft();

@@ -33,9 +33,11 @@
  * attributes of the block, `unlink` at a caret takes the link around it away, `outdent` of several
  * quoted blocks takes those with formats apart, and the elements for a style are the engine's.
  */
-import { BadArgument, HeditError, PageRefused } from "./hedit.js";
-import { Commands, HABITS, lockedPart } from "./region_commands.js";
+import { HeditError } from "./hedit.js";
+import { Commands, HABITS } from "./region_commands.js";
 import { Halves, commandOfKey, isOfBrowser, meaningOf } from "./region_input.js";
+import { open } from "./region_open.js";
+import { isPartOfText, lockedPart } from "./region_places.js";
 import { Steps } from "./region_steps.js";
 import { View, difference, isCaret, isSame, isText } from "./region_view.js";
 
@@ -65,61 +67,11 @@ export { HABITS };
  */
 
 /**
- * Whether an element is an editing host.
- * @param {Element} element
- */
-function isHost(element) {
-  return ["", "true"].includes(element.getAttribute("contenteditable") ?? "false");
-}
-
-/**
  * Whether an event is of a field in the region, which the browser edits.
  * @param {Event} event
  */
 function isOfField({ target }) {
   return target instanceof HTMLInputElement || target instanceof HTMLSelectElement;
-}
-
-/**
- * The editor of what an element is to hold, and the label of the node whose children are the
- * element's.
- * @param {Engine} engine
- * @param {HTMLElement} element
- * @param {string} html
- * @param {Limits} limits
- * @returns {{ editor: Editor, root: number }}
- */
-function open(engine, element, html, limits) {
-  if (!isHost(element)) {
-    return { editor: engine.open(html, limits), root: 0 };
-  }
-  const shell = /** @type {HTMLElement} */ (element.cloneNode(false)).outerHTML;
-  const end = shell.lastIndexOf("</");
-  const editor = openWithin(engine, [shell.slice(0, end), shell.slice(end)], html, limits);
-  const { firstChild, lastChild } = editor.node(0);
-  if (firstChild === null || firstChild !== lastChild) {
-    editor.close();
-    throw new BadArgument("the markup ends the element that it stands in");
-  }
-  return { editor, root: firstChild };
-}
-
-/**
- * @param {Engine} engine
- * @param {readonly [string, string]} tags
- * @param {string} html
- * @param {Limits} limits
- */
-function openWithin(engine, [start, end], html, limits) {
-  try {
-    return engine.open(start + html + end, limits);
-  } catch (error) {
-    if (error instanceof PageRefused) {
-      const at = Math.min(Math.max(error.at - start.length, 0), html.length);
-      throw new PageRefused(at, error.kind);
-    }
-    throw error;
-  }
 }
 
 /** An editor behind an element of a page. */
@@ -361,7 +313,7 @@ export class Region extends EventTarget {
       copy: (event) => this.#copy(event),
       cut: (event) => this.#cut(event),
       compositionstart: () => this.#compose(),
-      compositionend: () => this.#composed(),
+      compositionend: ({ data }) => this.#composed(data),
     };
     for (const [kind, call] of Object.entries(answers)) {
       const answer = (/** @type {Event} */ event) => {
@@ -434,6 +386,9 @@ export class Region extends EventTarget {
       case "insert":
         this.#insert(event, meaning);
         break;
+      case "replace":
+        this.#act(() => this.#replace(event, meaning.text));
+        break;
       case "delete":
         this.#act(() => this.#delete(event, meaning));
         break;
@@ -456,6 +411,16 @@ export class Region extends EventTarget {
       this.#aim(event, isAimed);
       return whole !== "" && this.#commands.type(whole);
     });
+  }
+
+  /**
+   * Puts a text in place of the range that an input names, or of what is selected.
+   * @param {InputEvent} event
+   * @param {string} text
+   */
+  #replace(event, text) {
+    const range = this.#target(event) ?? this.#editor.selection();
+    return range !== null && text !== "" && this.#commands.replace(range, text);
   }
 
   /**
@@ -509,15 +474,25 @@ export class Region extends EventTarget {
    * @param {boolean} isAimed
    */
   #aim(event, isAimed) {
-    const [range] = event.getTargetRanges();
-    const isMeant = isAimed || (isCaret(this.#editor.selection()) && !range?.collapsed);
-    const anchor = range && this.#view.point(range.startContainer, range.startOffset);
-    const focus = range && this.#view.point(range.endContainer, range.endOffset);
-    if (!isMeant || !anchor || !focus) {
+    const isMeant = isAimed || isCaret(this.#editor.selection());
+    const range = isMeant ? this.#target(event) : null;
+    if (!range || (!isAimed && isCaret(range))) {
       return false;
     }
-    this.#commands.select({ anchor, focus });
+    this.#commands.select(range);
     return true;
+  }
+
+  /**
+   * The range that an input names, as points; null where it names none in the element.
+   * @param {InputEvent} event
+   * @returns {Selection | null}
+   */
+  #target(event) {
+    const [range] = event.getTargetRanges();
+    const anchor = range && this.#view.point(range.startContainer, range.startOffset);
+    const focus = range && this.#view.point(range.endContainer, range.endOffset);
+    return anchor && focus ? { anchor, focus } : null;
   }
 
   /** @param {ClipboardEvent} event */
@@ -544,24 +519,31 @@ export class Region extends EventTarget {
 
   // Input methods, and what else the browser does by itself.
 
-  /** Begins to compose: what is selected goes before, so that it all happens in one text. */
+  /**
+   * Begins to compose. So that it all happens in one text, what is selected goes before, unless it is
+   * a part of one: then the engine puts what is composed in its place at once.
+   */
   #compose() {
     this.#settle();
     const steps = this.#steps.length;
-    if (!isCaret(this.#editor.selection())) {
+    const selection = this.#element.ownerDocument.getSelection();
+    if (!isCaret(this.#editor.selection()) && !isPartOfText(selection)) {
       this.#act(() => this.#commands.deleteSelection());
     }
     this.#composing = { records: [], steps };
   }
 
-  /** Reads back what was composed, as one step of undo. */
-  #composed() {
+  /**
+   * Reads back what was composed, as one step of undo.
+   * @param {string} text what the input method gave, where it has ended
+   */
+  #composed(text = "") {
     if (!this.#composing) {
       return;
     }
     const { records, steps } = this.#composing;
     this.#composing = null;
-    this.#mend([...records, ...this.#observer.takeRecords()], true);
+    this.#mend([...records, ...this.#observer.takeRecords()], text);
     this.#steps.join(steps);
   }
 
@@ -569,9 +551,9 @@ export class Region extends EventTarget {
    * Reads back what the browser changed by itself, where it is in one text, and shows the engine's
    * nodes again in all that it changed.
    * @param {readonly MutationRecord[]} records
-   * @param {boolean} isComposed
+   * @param {string | null} composed what an input method gave, where one did it
    */
-  #mend(records, isComposed = false) {
+  #mend(records, composed = null) {
     if (this.#composing) {
       this.#composing.records.push(...records);
       return;
@@ -582,7 +564,7 @@ export class Region extends EventTarget {
     if (ours.length === 0) {
       return;
     }
-    const write = this.#changeOfText(ours) ?? (isComposed ? this.#newText(ours) : null);
+    const write = this.#changeOfText(ours) ?? this.#composedElsewhere(ours, composed);
     const labels = ours.flatMap(({ target }) => this.#view.nearest(target) ?? []);
     for (const label of new Set(labels)) {
       this.#view.mend(label);
@@ -592,13 +574,14 @@ export class Region extends EventTarget {
   }
 
   /**
-   * What writes the change into the engine where the browser changed one text, and nothing else; null
-   * where it did something else.
+   * What writes the change into the engine where the browser changed one text, and nothing else but
+   * attributes; null where it did something else.
    * @param {readonly MutationRecord[]} records
    * @returns {(() => boolean) | null}
    */
   #changeOfText(records) {
-    const [text, ...others] = new Set(records.map(({ target }) => target));
+    const inTexts = records.filter(({ type }) => type !== "attributes");
+    const [text, ...others] = new Set(inTexts.map(({ target }) => target));
     const label = isText(text) ? this.#view.label(text) : undefined;
     if (!isText(text) || others.length > 0 || label === undefined || !this.#view.nearest(text)) {
       return null;
@@ -608,7 +591,22 @@ export class Region extends EventTarget {
     const isThere = selection?.isCollapsed && selection.focusNode === text;
     const change = difference(old, now, isThere ? now.length - selection.focusOffset : undefined);
     const shown = this.#pageSelection();
-    return old === now ? null : () => this.#commands.replace(text, change, shown);
+    return () => this.#commands.takeOver(text, change, shown);
+  }
+
+  /**
+   * What writes into the engine what an input method did otherwise than in one text: a text of its
+   * own, or else what it gave, so that no word is lost where something else changed meanwhile.
+   * @param {readonly MutationRecord[]} records
+   * @param {string | null} composed
+   * @returns {(() => boolean) | null}
+   */
+  #composedElsewhere(records, composed) {
+    if (composed === null) {
+      return null;
+    }
+    const typed = composed === "" ? null : () => this.#commands.type(composed);
+    return this.#newText(records) ?? typed;
   }
 
   /**

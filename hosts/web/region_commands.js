@@ -3,11 +3,23 @@
  * a region does beside what a command does, so that users of browsers find what they know.
  */
 import { BadArgument, BadPlace, toCharacters } from "./hedit.js";
+import {
+  elementOf,
+  indexOf,
+  isCollapsing,
+  isEmpty,
+  isEnd,
+  isStart,
+  lastLeaf,
+  leafBefore,
+  lockedPart,
+} from "./region_places.js";
 import { isBlock, isCaret, isCharacters, isSame, isText } from "./region_view.js";
 
 /** @typedef {import("./hedit.js").Counts} Counts */
 /** @typedef {import("./hedit.js").Editor} Editor */
 /** @typedef {import("./hedit.js").Selection} Selection */
+/** @typedef {import("./region_places.js").NodePlace} NodePlace */
 /** @typedef {import("./region_view.js").View} View */
 
 /**
@@ -53,8 +65,6 @@ export const HABITS = Object.freeze({
   wholeClusters: true,
   leaveLocked: true,
 });
-
-/** @typedef {{ node: Node, offset: number }} NodePlace */
 
 /** @typedef {{ block: string, states: [string, boolean][], values: [string, string][] }} Style */
 
@@ -108,95 +118,6 @@ function plain(text) {
   return lines.replace(/\p{Surrogate}/gu, "\ufffd");
 }
 
-/** @param {Node} node */
-function indexOf(node) {
-  let index = 0;
-  for (let at = node.previousSibling; at; at = at.previousSibling) {
-    index += 1;
-  }
-  return index;
-}
-
-/** @param {Node} node */
-function elementOf(node) {
-  return node instanceof HTMLElement ? node : /** @type {HTMLElement} */ (node.parentElement);
-}
-
-/**
- * Whether a node shows nothing, and stands in no one's way.
- * @param {Node | null} node
- */
-function isEmpty(node) {
-  return node !== null && isCharacters(node) && (!isText(node) || node.length === 0);
-}
-
-/**
- * Whether a place is a start of its node.
- * @param {NodePlace} place
- */
-function isStart({ node, offset }) {
-  return isText(node) ? offset === 0 : [...node.childNodes].slice(0, offset).every(isEmpty);
-}
-
-/**
- * Whether a place is an end of its node.
- * @param {NodePlace} place
- */
-function isEnd({ node, offset }) {
-  return isText(node) ? offset === node.length : [...node.childNodes].slice(offset).every(isEmpty);
-}
-
-/**
- * Whether blanks at the ends of its lines aren't shown.
- * @param {Text} text
- */
-function isCollapsing(text) {
-  return /^(normal|nowrap|pre-line)$/.test(getComputedStyle(elementOf(text)).whiteSpace);
-}
-
-/**
- * The last node of all below a node, or it itself.
- * @param {Node} node
- */
-function lastLeaf(node) {
-  let at = node;
-  while (at.lastChild) {
-    at = at.lastChild;
-  }
-  return at;
-}
-
-/**
- * The last node without children before a node, in the order of the page; null where there is none
- * below the root.
- * @param {Node} node
- * @param {Node} root
- */
-function leafBefore(node, root) {
-  let at = node;
-  while (at !== root && !at.previousSibling) {
-    at = /** @type {Node} */ (at.parentNode);
-  }
-  return at === root ? null : lastLeaf(/** @type {Node} */ (at.previousSibling));
-}
-
-/**
- * The part that can't be edited and that a node stands in, as a whole; null where the node can be
- * edited, or nothing around the part can.
- * @param {Node} node
- * @param {Node} root
- */
-export function lockedPart(node, root) {
-  let at = elementOf(node);
-  if (at.isContentEditable) {
-    return null;
-  }
-  while (at !== root && !elementOf(/** @type {Node} */ (at.parentNode)).isContentEditable) {
-    at = elementOf(/** @type {Node} */ (at.parentNode));
-  }
-  return at === root ? null : at;
-}
-
 /** The commands of an editor whose nodes a view shows. */
 export class Commands {
   #editor;
@@ -246,8 +167,29 @@ export class Commands {
    * @param {string} value
    */
   exec(name, value = "") {
+    return this.#do(name, () => this.#editor.exec(name, value, this.#denied));
+  }
+
+  /**
+   * Puts a text in place of what is between two points, by one command of the engine, which goes on
+   * with what is typed as `insertText` does, and shows what it did.
+   * @param {Selection} range
+   * @param {string} text
+   */
+  #exchange({ anchor, focus }, text) {
+    const isDenied = this.#denied.some((name) => name.toLowerCase() === "inserttext");
+    const call = () => this.#editor.replace(anchor, focus, plain(text));
+    return !isDenied && this.#do("insertText", call);
+  }
+
+  /**
+   * Shows what a call of the engine did, which is a command.
+   * @param {string} name
+   * @param {() => boolean} call
+   */
+  #do(name, call) {
     const before = this.#editor.counts();
-    const isDone = this.#editor.exec(name, value, this.#denied);
+    const isDone = call();
     if (isDone) {
       const isChanged = this.#view.follow();
       this.#note(name.toLowerCase(), before, isChanged);
@@ -473,26 +415,53 @@ export class Commands {
   }
 
   /**
+   * Puts a text in place of what is between two points.
+   * @param {Selection} range
+   * @param {string} text
+   */
+  replace(range, text) {
+    const [from, to] = [range.anchor, range.focus].map((point) => this.#view.place(point).node);
+    const isInLine = !isCaret(range) && this.#view.blockOf(from) === this.#view.blockOf(to);
+    if (isInLine) {
+      return this.#keepOut(() => this.#exchange(range, text));
+    }
+    this.select(range);
+    return this.type(text);
+  }
+
+  /**
    * Puts a text in place of a part of a text, as the browser did by itself, and selects what is
    * selected there.
    * @param {Text} text
    * @param {{ start: number, end: number, put: string }} change
    * @param {Selection | null} shown what the page selects, as points in the new text
    */
-  replace(text, { start, end, put }, shown) {
+  takeOver(text, { start, end, put }, shown) {
     const whole = text.data.slice(0, start) + put + text.data.slice(end);
     const [anchor, focus] = [this.#view.point(text, start), this.#view.point(text, end)];
     if (!anchor || !focus) {
       return false;
     }
-    if (start !== end || !this.#isAt(text, start)) {
-      this.select({ anchor, focus });
-    }
-    const isDone = put === "" ? this.exec("delete") : this.exec("insertText", plain(put));
+    const isOther = start !== end || put !== "";
+    const isDone = isOther && this.#write(text, { start, end, put }, { anchor, focus });
     if (shown && text.data === whole) {
       this.selectAgain(shown);
     }
     return isDone;
+  }
+
+  /**
+   * @param {Text} text
+   * @param {{ start: number, end: number, put: string }} change
+   * @param {Selection} range
+   */
+  #write(text, { start, end, put }, range) {
+    if (put === "") {
+      this.select(range);
+      return this.exec("delete");
+    }
+    const isTyped = start === end && this.#isAt(text, start);
+    return isTyped ? this.type(put) : this.#exchange(range, put);
   }
 
   /**

@@ -6,9 +6,10 @@
 /**
  * What an input asks for: a command, a text in place of what is selected or of the range that the
  * input names, or to delete that. `isAimed` says that the range of its own is meant, whatever is
- * selected.
+ * selected, and `replace` means that too: a text that stands there is corrected.
  * @typedef {{ act: "command", command: string, value: string }
  *   | { act: "insert", text: string, isAimed: boolean }
+ *   | { act: "replace", text: string }
  *   | { act: "delete", by: "backward" | "forward" | "range", isAimed: boolean }} Meaning
  */
 
@@ -50,10 +51,11 @@ const INSERTIONS = new Map([
   ["insertFromPaste", false],
   ["insertFromPasteAsQuotation", false],
   ["insertFromYank", false],
-  ["insertReplacementText", true],
-  ["insertTranspose", true],
   ["insertFromDrop", true],
 ]);
+
+/** The kinds that correct what stands in a range of their own. */
+const CORRECTIONS = new Set(["insertReplacementText", "insertTranspose"]);
 
 /**
  * Whether an input is the browser's own: it can't be prevented, or belongs to what an input method
@@ -75,6 +77,9 @@ export function meaningOf(event) {
   const isAimed = INSERTIONS.get(kind);
   if (isAimed !== undefined) {
     return { act: "insert", text, isAimed };
+  }
+  if (CORRECTIONS.has(kind)) {
+    return { act: "replace", text };
   }
   if (kind.startsWith("delete")) {
     return { act: "delete", by: extentOf(kind), isAimed: kind === "deleteByDrag" };

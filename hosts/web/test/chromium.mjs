@@ -268,6 +268,29 @@ class ChromiumPage extends Page {
     await this.commit("");
   }
 
+  /** Chromium's own spelling can't be asked from here: the page is given the input that it makes. */
+  async correct(word, text) {
+    await this.evaluate(
+      (wrong, right) => {
+        const { focusNode } = document.getSelection();
+        const range = new Range();
+        range.setStart(focusNode, focusNode.data.indexOf(wrong));
+        range.setEnd(focusNode, range.startOffset + wrong.length);
+        const input = new InputEvent("beforeinput", {
+          inputType: "insertReplacementText",
+          data: right,
+          targetRanges: [new StaticRange(range)],
+          bubbles: true,
+          cancelable: true,
+        });
+        focusNode.parentElement.dispatchEvent(input);
+      },
+      word,
+      text,
+    );
+    await this.settle();
+  }
+
   async allowClipboard() {
     const permissions = ["clipboardReadWrite", "clipboardSanitizedWrite"];
     const browserContextId = this.#context;

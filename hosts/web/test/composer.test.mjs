@@ -376,6 +376,14 @@ for (const { Browser, name: browserName, skip } of TRIED) {
       assert.equal(await page.evaluate(() => localStorage.getItem("hedit-draft")), null);
     });
 
+    it("keeps what was written just before the page is left", async () => {
+      await compose("Call");
+      await page.until(() => localStorage.getItem("hedit-draft")?.includes("Call"));
+      await page.type(" Ann");
+      await page.reload();
+      await page.until(() => document.querySelector("#message > p")?.textContent === "Call Ann");
+    });
+
     it("saves the mail for a mail program", async () => {
       const folder = await mkdtemp(join(tmpdir(), "hedit-"));
       await compose("Call Ann");

@@ -59,9 +59,17 @@ function listenToMethod() {
     processor.setCaretInPendingComposition(text.length);
     processor.flushPendingComposition();
   };
-  addMessageListener("hedit:method", ({ data: { act, text } }) => {
+  const correct = (word, text) => {
+    const { windowUtils } = content;
+    const shown = windowUtils.sendQueryContentEvent(windowUtils.QUERY_TEXT_CONTENT, 0, 100_000, 0, 0);
+    const at = shown.text.indexOf(word);
+    windowUtils.sendContentCommandEvent("replaceText", null, text, at, word);
+  };
+  addMessageListener("hedit:method", ({ data: { act, text, word } }) => {
     processor.beginInputTransactionForTests(content);
-    if (act === "show") {
+    if (act === "correct") {
+      correct(word, text);
+    } else if (act === "show") {
       show(text);
     } else if (act === "commit") {
       processor.commitCompositionWith(text);
@@ -73,7 +81,7 @@ function listenToMethod() {
 }
 
 /** Has the method of the selected tab do something: this runs in the browser's window. */
-function askMethod(script, act, text) {
+function askMethod(script, asked) {
   const manager = gBrowser.selectedBrowser.messageManager;
   if (!manager.heditHasMethod) {
     manager.heditHasMethod = true;
@@ -85,7 +93,7 @@ function askMethod(script, act, text) {
       resolve(true);
     };
     manager.addMessageListener("hedit:method-done", done);
-    manager.sendAsyncMessage("hedit:method", { act, text });
+    manager.sendAsyncMessage("hedit:method", asked);
   });
 }
 
@@ -313,8 +321,9 @@ class FirefoxPage extends Page {
     await this.settle();
   }
 
-  async #method(act, text = "") {
-    await this.#browser.evaluateInWindow(askMethod, `(${listenToMethod})()`, act, text);
+  async #method(act, text = "", word = "") {
+    const asked = { act, text, word };
+    await this.#browser.evaluateInWindow(askMethod, `(${listenToMethod})()`, asked);
     await this.settle();
   }
 
@@ -336,6 +345,10 @@ class FirefoxPage extends Page {
 
   async cancel() {
     await this.#method("cancel");
+  }
+
+  async correct(word, text) {
+    await this.#method("correct", text, word);
   }
 
   /** It may: see the preferences. */

@@ -139,6 +139,28 @@ export class RegionPage {
     await this.agrees();
   }
 
+  /** Corrects a word as spelling does. */
+  async correct(word, text) {
+    await this.#page.correct(word, text);
+    await this.agrees();
+  }
+
+  /** How many steps the engine could take back. */
+  steps() {
+    return this.#page.evaluate(() => window.region.editor.counts().undo);
+  }
+
+  /** One undo takes all back that was done since the page was so, and one redo brings it again. */
+  async isOneStep(before) {
+    const after = await this.agrees();
+    assert.equal(await this.steps(), 1);
+    await this.press("Control+z");
+    await this.shows(before);
+    assert.equal(await this.steps(), 0);
+    await this.press("Control+y");
+    await this.shows(after);
+  }
+
   selected() {
     return this.#page.evaluate(() => String(document.getSelection()));
   }

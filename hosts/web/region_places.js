@@ -1,0 +1,108 @@
+/**
+ * Nodes of a page and places in them, for region.js: where a node stands among others, and what is
+ * at a start, at an end or in a part that can't be edited.
+ */
+import { isCharacters, isText } from "./region_view.js";
+
+/** @typedef {{ node: Node, offset: number }} NodePlace */
+
+/** @param {Node} node */
+export function indexOf(node) {
+  let index = 0;
+  for (let at = node.previousSibling; at; at = at.previousSibling) {
+    index += 1;
+  }
+  return index;
+}
+
+/** @param {Node} node */
+export function elementOf(node) {
+  return node instanceof HTMLElement ? node : /** @type {HTMLElement} */ (node.parentElement);
+}
+
+/**
+ * Whether a node shows nothing, and stands in no one's way.
+ * @param {Node | null} node
+ */
+export function isEmpty(node) {
+  return node !== null && isCharacters(node) && (!isText(node) || node.length === 0);
+}
+
+/**
+ * Whether a place is a start of its node.
+ * @param {NodePlace} place
+ */
+export function isStart({ node, offset }) {
+  return isText(node) ? offset === 0 : [...node.childNodes].slice(0, offset).every(isEmpty);
+}
+
+/**
+ * Whether a place is an end of its node.
+ * @param {NodePlace} place
+ */
+export function isEnd({ node, offset }) {
+  return isText(node) ? offset === node.length : [...node.childNodes].slice(offset).every(isEmpty);
+}
+
+/**
+ * Whether blanks at the ends of its lines aren't shown.
+ * @param {Text} text
+ */
+export function isCollapsing(text) {
+  return /^(normal|nowrap|pre-line)$/.test(getComputedStyle(elementOf(text)).whiteSpace);
+}
+
+/**
+ * The last node of all below a node, or it itself.
+ * @param {Node} node
+ */
+export function lastLeaf(node) {
+  let at = node;
+  while (at.lastChild) {
+    at = at.lastChild;
+  }
+  return at;
+}
+
+/**
+ * The last node without children before a node, in the order of the page; null where there is none
+ * below the root.
+ * @param {Node} node
+ * @param {Node} root
+ */
+export function leafBefore(node, root) {
+  let at = node;
+  while (at !== root && !at.previousSibling) {
+    at = /** @type {Node} */ (at.parentNode);
+  }
+  return at === root ? null : lastLeaf(/** @type {Node} */ (at.previousSibling));
+}
+
+/**
+ * The part that can't be edited and that a node stands in, as a whole; null where the node can be
+ * edited, or nothing around the part can.
+ * @param {Node} node
+ * @param {Node} root
+ */
+export function lockedPart(node, root) {
+  let at = elementOf(node);
+  if (at.isContentEditable) {
+    return null;
+  }
+  while (at !== root && !elementOf(/** @type {Node} */ (at.parentNode)).isContentEditable) {
+    at = elementOf(/** @type {Node} */ (at.parentNode));
+  }
+  return at === root ? null : at;
+}
+
+/**
+ * Whether a part of one text is selected, and not all of it.
+ * @param {globalThis.Selection | null} selection
+ */
+export function isPartOfText(selection) {
+  const text = selection?.anchorNode ?? null;
+  if (!selection || !isText(text) || selection.focusNode !== text) {
+    return false;
+  }
+  return Math.abs(selection.anchorOffset - selection.focusOffset) < text.length;
+}
