@@ -37,18 +37,18 @@ unfoldable pub delete_recorded : Manner → Point → Point → Run (List Overri
 delete_recorded m p q =
     look λ s. erase m p q (block_of_end s p.label) (block_of_end s q.label) >> answer (states_of s)
 
--- step 2, and then from 3 on
+-- the end of step 2, and then from 3 on
 unfoldable pub delete_selected : Manner → Point → Point → Run (List Override)
 delete_selected m p q = select p q >> delete_recorded m p q
 
--- step 1, and then from 2 on
+-- the end of step 1, and then from 2 on, which begins with going out of texts
 unfoldable pub delete_range : Manner → Point → Point → Run (List Override)
 delete_range m p q = look λ s.
     if comes_before s.trees p q then
     delete_selected m (out_of_start s.trees p) (out_of_end s.trees q)
     else (collapse_selection m.backward >> answer [])
 
--- delete the selection, step 1: with the equivalent points of the ends
+-- delete the selection, step 1: the equivalent points of the ends, and then from there on
 unfoldable pub delete_between : Manner → Run (List Override)
 delete_between m = look λ s. given s.points.selection (answer []) λ pair.
     delete_range m (last_equivalent s.trees (start_of s.trees pair))

@@ -55,10 +55,11 @@ up_inline s l = if is_block s.trees l then None else if_inside s (parent_of s.tr
 unfoldable pub top_inline : State → ℕ → ℕ
 top_inline s l = walk (up_inline s) (turn_bound s) l
 
--- step 3: a block, or the affected host, in which text may stand, and no cell of a table
+-- step 3: a cell of a table
 unfoldable pub is_cell : Forest Content → ℕ → Bool
 is_cell f l = has_name f l (codes "td") || has_name f l (codes "th")
 
+-- step 3: a block, or the affected host, in which text may stand, and no cell of a table
 unfoldable pub may_merge : State → ℕ → Bool
 may_merge s l =
     (is_block s.trees l || is_label s.host l)

@@ -133,7 +133,7 @@ unfoldable pub merge_content : ℕ → ℕ → Run (Option (List Recorded))
 merge_content b c =
     look λ s. given (first_of s.trees c) (drop_block b c >> answer None) (take_line b)
 
--- step 11
+-- step 11 a, and then from 11 b on
 unfoldable pub merge_inner : ℕ → ℕ → Run (Option (List Recorded))
 merge_inner b c = look λ s. given (child_toward s.trees b c) (answer None) λ q.
     collapse (at b (index_of s.trees q)) >> merge_content b c

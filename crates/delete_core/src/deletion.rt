@@ -119,7 +119,7 @@ fn delete_recorded(
     Ok(states)
 }
 
-// Step 2, and then from 3 on.
+// The end of step 2, and then from 3 on.
 #[tactic(auto, using(edit_model::proofs::Steps::steps, edit_model::proofs::Steps::exits, edit_model::proofs::Steps::actions), unfolding(crate::specs::Deletion::delete_selected))]
 fn delete_selected(
     alloc: Global,
@@ -144,7 +144,7 @@ fn delete_selected(
     delete_recorded(alloc, doc, manner, stretch)
 }
 
-// Step 1, and then from 2 on.
+// The end of step 1, and then from 2 on, which begins with going out of texts.
 #[tactic(auto, using(edit_model::proofs::Steps::steps, edit_model::proofs::Steps::exits), unfolding(crate::specs::Deletion::delete_range))]
 fn delete_range(
     alloc: Global,
@@ -166,7 +166,7 @@ fn delete_range(
     delete_selected(alloc, doc, manner, first, last)
 }
 
-// Step 1, with the equivalent points of the ends.
+// Step 1: the equivalent points of the ends, and then from there on.
 #[tactic(auto, using(edit_model::proofs::Steps::steps, edit_model::proofs::Steps::exits), unfolding(crate::specs::Deletion::delete_between))]
 fn delete_between(alloc: Global, doc: &mut Doc, manner: Manner) -> Result<Overrides, EditFault>
     requires open { IsOpen doc.old }

@@ -278,8 +278,8 @@ fn merge_content(
     take_line(alloc, doc, outer, first)
 }
 
-/// Delete the selection, step 11: merges a block with one that stands in it. Answers the values to
-/// restore; none where the deletion ends with that.
+/// Delete the selection, step 11 a, and then from 11 b on: merges a block with one that stands in
+/// it. Answers the values to restore; none where the deletion ends with that.
 #[tactic(auto, using(edit_model::proofs::Steps::steps, edit_model::proofs::Steps::exits, edit_model::proofs::Steps::actions, crate::proofs::Recordings::recordings), unfolding(crate::specs::Merging::merge_inner))]
 pub(crate) fn merge_inner(
     alloc: Global,

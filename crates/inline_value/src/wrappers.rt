@@ -64,7 +64,7 @@ fn size_of_keyword(value: &[char]) -> Option<u8>
     }
 }
 
-// Force the value, step 5: a font of a size, by its digit.
+// Force the value, step 5, line b: a font of a size, by its digit.
 fn font_of_size(alloc: Global, size: u8) -> Result<Blank, AllocError>
     requires { size < 8 }
     ensures { IfOk result (λ blank. blank ≡ spec.font_of_size size) }

@@ -22,7 +22,7 @@ use Rattle.list_indent.specs.Indenting.{indent_list}
 
 -- ---- steps 2 and 3: an indentation element
 
--- its tag name is set to div
+-- steps 3 and 5: the tag name of an element is set to div
 unfoldable pub to_div : ℕ → Run (Unit {0})
 to_div n = look λ s. if is_element_at s.trees n then set_tag_name n (codes "div") >> done else done
 
@@ -124,7 +124,7 @@ part_levels n (e ∷ list) = part_level n (first_in list) e >> part_levels n lis
 
 -- ---- the whole
 
--- steps 7 and 8, with c the indentation element and A the ancestors below it
+-- the end of step 6, which appends c to A, and steps 7 and 8; way is A
 unfoldable pub outdent_through : ℕ → List ℕ → ℕ → Run (Unit {0})
 outdent_through n way c = do
   part_levels n (c ∷ reverse way)

@@ -115,7 +115,7 @@ delete_across p = climb p >>= λ a. look λ s.
     else (if follows_line s p a.at then erase_line p a.at
     else join p a.at)))
 
--- steps 3 to 13, from the start of the active range
+-- steps 3 to 13, from p, the start of the active range
 unfoldable pub delete_from : Point → Run (Unit {0})
 delete_from p = go_back p >>= λ a. look λ s.
     if a.unlinked then done

@@ -75,8 +75,8 @@ bare_nodes s p = bare_in s (block_extend s.trees p p)
 unfoldable pub outdent_line : Point → Run (Unit {0})
 outdent_line p = look λ s. for_each (bare_nodes s p) outdent_node
 
--- ---- delete, step 11: the line that the entry before ends with is closed, and an empty one is put
--- after it
+-- ---- delete, step 11: the line that the child before an entry ends with is closed, and an empty
+-- one is put after it
 
 -- at the child at the point, which begins with a line of its own
 unfoldable pub opens_entry : State → Point → Bool
@@ -95,6 +95,7 @@ part_entry k = do
   look λ s. if is_open_line s (last_of s.trees k) then append_break k else done
   look λ s. if is_inline s (last_of s.trees k) then append_break k else done
 
+-- step 11
 unfoldable pub part_entries : Point → Run (Unit {0})
 part_entries p = look λ s. if opens_entry s p
     then given (child_before s.trees p.label p.offset) done part_entry else done

@@ -68,7 +68,7 @@ fn opens_entry(doc: &Doc, node: NodeRef, at: Point) -> bool
         }
 }
 
-// Whether a node, if there is one, is inline and no br.
+// Step 11: whether a node, if there is one, is inline and no br.
 fn is_open_line(doc: &Doc, node: Option<NodeRef>) -> bool
     requires { IfHeld doc.now node }
     ensures { result ≡ entries.is_open_line doc.now.state (label_of node) }
@@ -79,7 +79,8 @@ fn is_open_line(doc: &Doc, node: Option<NodeRef>) -> bool
     }
 }
 
-/// Step 11: what stands before an entry with a line of its own ends with an empty line.
+/// Step 11: where an entry begins with a line, the child before it that ends with one gets an
+/// empty line at its end.
 #[tactic(auto, using(edit_model::proofs::Steps::steps, edit_model::proofs::Steps::exits), unfolding(crate::specs::Entries::part_entry, crate::specs::Entries::part_entries))]
 pub(crate) fn part_entries(
     alloc: Global,

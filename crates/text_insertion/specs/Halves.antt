@@ -22,8 +22,7 @@ use Rattle.delete_core.specs.Places.{start_in, end_in, before_node, after_node, 
 use Rattle.text_insertion.specs.Start.{active_start}
 
 -- ---- insert a paragraph, step 7: out of the nodes that the point starts, and then of those that
--- it ends, up to a prohibited
--- paragraph child
+-- it ends, up to a prohibited paragraph child
 
 unfoldable pub leave_start : State → Point → Option Point
 leave_start s p =
@@ -93,7 +92,7 @@ deepest_last s l = walk (into_last_block s) (turn_bound s) l
 unfoldable pub fill_hidden : ℕ → Run (Unit {0})
 fill_hidden c = look λ s. if shows_child s.trees c then done else append_break c
 
--- in both, with the caret at the start of the second one
+-- step 9: a line for c and one for d, at their ends, and then the caret
 unfoldable pub close_both : ℕ → ℕ → Run (Unit {0})
 close_both c d = look λ s. do
   fill_hidden (deepest_last s c)
