@@ -33,6 +33,13 @@ pub struct Row {
 #[derive(Clone, Copy)]
 struct NamedRow(&'static str, &'static [&'static [u8]]);
 
+// Blocks that most pages have, and what most have that has no display by default.
+static BLOCK_NAMES: [&[u8]; 2] = [b"p", b"div"];
+
+static PLAIN_NAMES: [&[u8]; 9] = [
+    b"span", b"b", b"i", b"a", b"u", b"br", b"em", b"font", b"strong",
+];
+
 // Those that most pages have come first.
 static DISPLAY_ROWS: [NamedRow; 6] = [
     NamedRow(
@@ -194,6 +201,21 @@ fn rows_of(property: Property) -> &'static [NamedRow]
     }
 }
 
+// The default display. What most pages have is asked for first: a name that no row has would be
+// compared with all of them.
+#[tactic(auto, unfolding(crate::specs::DefaultStyles::default_of))]
+fn display_of(name: &[u8]) -> Option<Row>
+    ensures { option_map (λ row. row.text.now) result ≡ defaults.default_display name.now }
+{
+    if has_name(&BLOCK_NAMES, name) {
+        return Some(Row { text: "block" });
+    }
+    if has_name(&PLAIN_NAMES, name) {
+        return None;
+    }
+    value_of(rows_of(Property::Display), name)
+}
+
 /// The default of a property for an element of this name, in lower case; `has_href` says whether
 /// the element has the attribute `href`. `None` where the table has no row.
 #[tactic(auto, unfolding(crate::specs::DefaultStyles::default_of, crate::specs::DefaultStyles::default_color, crate::specs::DefaultStyles::default_text_decoration))]
@@ -202,6 +224,7 @@ pub fn default_of(name: &[u8], has_href: bool, property: Property) -> Option<Row
         ≡ defaults.default_of name.now has_href property }
 {
     match property {
+        Property::Display => display_of(name),
         Property::Color if is_link(name, has_href) => Some(Row {
             text: "rgb(0, 0, 238)",
         }),
