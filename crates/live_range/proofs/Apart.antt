@@ -4,6 +4,7 @@ use Rattle.std.specs.List.{list_any, position_or_len, IsDistinct, AllByRecursion
 use Rattle.std.specs.Map.{keys_of}
 use Rattle.std.specs.Str.{bytes_eq}
 use Rattle.std.proofs.lemmas.List.{length-append}
+use Rattle.std.proofs.lemmas.List.Folds.{list_any-append}
 use Rattle.std.proofs.lemmas.Bool.Decides.{same_from_decides, Decides-like, Decides-eqb, nat_tests}
 use Rattle.std.proofs.lemmas.Map.Made.{AllPairs-from_IsDistinct}
 use Rattle.std.proofs.lemmas.List.Quantifiers.{position-Some}
@@ -109,6 +110,31 @@ position-push p xs y none here =
     let n = end p xs y none here in
     let l : nat_lt (length xs) (length (xs ++ y ∷ [])) ≡ true = grind (arith, nat_tests, length-append xs (y ∷ [])) in
     ap (λ k. cond (nat_lt k (length (xs ++ y ∷ []))) (Some k) None) n ∙ ap (λ b. cond b (Some (length xs)) None) l
+
+position-there : {X : Type 0} (p : X → Bool) (xs : List X) → list_any p xs ≡ true → position p xs ≡ Some (position_or_len p xs)
+position-there p xs h = ap (λ c. cond c (Some (position_or_len p xs)) None) (position-any p xs ∙ h)
+
+begun : {X : Type 0} (p : X → Bool) (xs ys : List X) → list_any p xs ≡ true → position_or_len p (xs ++ ys) ≡ position_or_len p xs
+begun p [] ys h = absurd (true≢false (sym h))
+begun p (x ∷ xs) ys h = by (p x) h (begun p xs ys)
+  where
+    by : (b : Bool) → (b || list_any p xs) ≡ true → (list_any p xs ≡ true → position_or_len p (xs ++ ys) ≡ position_or_len p xs)
+        → cond (not b) (1 + position_or_len p (xs ++ ys)) 0 ≡ cond (not b) (1 + position_or_len p xs) 0
+    by true t more = refl
+    by false t more = ap (λ n. 1 + n) (more t)
+
+-- a last one that doesn't pass changes nothing
+pub position-skip : {X : Type 0} (p : X → Bool) (xs : List X) (y : X) → p y ≡ false → position p (xs ++ y ∷ []) ≡ position p xs
+position-skip p xs y other = by (list_any p xs) refl
+  where
+    by : (b : Bool) → list_any p xs ≡ b → position p (xs ++ y ∷ []) ≡ position p xs
+    by true h =
+        position-there p (xs ++ y ∷ []) (list_any-append p xs (y ∷ []) ∙ ap (λ b. b || (p y || false)) h)
+        ∙ ap Some (begun p xs (y ∷ []) h)
+        ∙ sym (position-there p xs h)
+    by false h =
+        position-absent p (xs ++ y ∷ []) (list_any-append p xs (y ∷ []) ∙ ap (λ b. b || (p y || false)) h ∙ ap (λ b. b || false) other)
+        ∙ sym (position-absent p xs h)
 
 pub unknown_name : (name : List ℕ) (ns : List (List ℕ)) (j : ℕ) → list_any (bytes_eq name) ns ≡ false → j < length ns → bytes_eq name (get_or ns j []) ≡ false
 unknown_name name [] j none h = absurd (omega (arith, h))

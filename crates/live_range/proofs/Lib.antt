@@ -8,4 +8,5 @@ pub mod RowPoints
 pub mod Apart
 pub mod Shown
 pub mod NamedMarks
+pub mod Positions
 pub mod Entries

@@ -1,9 +1,7 @@
--- Lists under map: positions, distinct keys, and the step of a loop that changes every element in turn.
-use Rattle.std.proofs.Common.{◌≡◌, ℕ, suc, zero, ◌+◌, ◌<◌, Bool, true, false, not, cond, ◌||◌, List, [], ◌∷◌, ◌++◌, length, get_or, set, take, drop, map, position, refl, sym, ap, ◌∙◌, add-one, arith, true≢false}
-use Rattle.std.proofs.lemmas.List.{length-map, map-append}
-use Rattle.std.specs.List.{list_any, position_or_len, prefix_len, IsDistinct, AllByRecursion}
-use Rattle.std.specs.Str.{bytes_eq}
-use Rattle.indexmap.specs.IndexSet.{insert_key}
+-- Lists under map: positions, and the step of a loop that changes every element in turn.
+use Rattle.std.proofs.Common.{◌≡◌, ℕ, suc, zero, ◌+◌, ◌<◌, Bool, not, ◌||◌, List, [], ◌∷◌, ◌++◌, length, get_or, set, take, drop, map, position, refl, ap, ◌∙◌, add-one, arith}
+use Rattle.std.proofs.lemmas.List.{length-map}
+use Rattle.std.specs.List.{list_any, prefix_len}
 
 module _ {X Y : Type 0} (f : X → Y) where
   pub prefix_len-map : (p : Y → Bool) (xs : List X) → prefix_len p (map f xs) ≡ prefix_len (λ x. p (f x)) xs
@@ -16,15 +14,6 @@ module _ {X Y : Type 0} (f : X → Y) where
   pub list_any-map : (p : Y → Bool) (xs : List X) → list_any p (map f xs) ≡ list_any (λ x. p (f x)) xs
   list_any-map p [] = refl
   list_any-map p (x ∷ xs) = ap (λ b. p (f x) || b) (list_any-map p xs)
-
-  AllByRecursion-map : (P : Y → Type 0) (xs : List X) → AllByRecursion (λ x. P (f x)) xs → AllByRecursion P (map f xs)
-  AllByRecursion-map P [] h = tt
-  AllByRecursion-map P (x ∷ xs) h = (h.0, AllByRecursion-map P xs h.1)
-
-  pub IsDistinct-map : (e : Y → Y → Bool) (xs : List X) → IsDistinct (λ x y. e (f x) (f y)) xs → IsDistinct e (map f xs)
-  unfolding IsDistinct
-  IsDistinct-map e [] h = tt
-  IsDistinct-map e (x ∷ xs) h = (AllByRecursion-map (λ y. e (f x) y ≡ false) xs h.0, IsDistinct-map e xs h.1)
 
 -- the first i elements are changed, and the others not yet
 abbrev pub changed_below : {X : Type 0} → (X → X) → List X → ℕ → List X
@@ -55,31 +44,3 @@ module _ {X : Type 0} (f : X → X) where
   pub changed_below-all : (xs : List X) → changed_below f xs (length xs) ≡ map f xs
   changed_below-all [] = refl
   changed_below-all (x ∷ xs) = ap (λ r. f x ∷ r) (changed_below-all xs)
-
--- ---- a new name goes last
-
-module _ {X : Type 0} (f : X → List ℕ) where
-  new_key : (e : X → X → Bool) (ks : List X) (k : X) → list_any (e k) ks ≡ false → insert_key e ks k ≡ ks ++ k ∷ []
-  new_key e ks k none = rw none refl
-
-  pub added_name : (ks : List X) (k : X) (name : List ℕ) → f k ≡ name → list_any (bytes_eq name) (map f ks) ≡ false
-      → map f (insert_key (λ x y. bytes_eq (f x) (f y)) ks k) ≡ map f ks ++ name ∷ []
-  added_name ks k name same none =
-      let e : X → X → Bool = λ x y. bytes_eq (f x) (f y) in
-      let fresh : list_any (e k) ks ≡ false = sym (list_any-map f (bytes_eq (f k)) ks) ∙ ap (λ n. list_any (bytes_eq n) (map f ks)) same ∙ none in
-      ap (map f) (new_key e ks k fresh) ∙ map-append f ks (k ∷ []) ∙ ap (λ n. map f ks ++ n ∷ []) same
-
-prefix_len-all : {X : Type 0} (p : X → Bool) (xs : List X) → list_any p xs ≡ false → position_or_len p xs ≡ length xs
-prefix_len-all p [] none = refl
-prefix_len-all p (x ∷ xs) none = by (p x) (prefix_len-all p xs) none
-  where
-    by : (b : Bool) → (list_any p xs ≡ false → position_or_len p xs ≡ length xs) → (b || list_any p xs) ≡ false
-        → cond (not b) (1 + position_or_len p xs) 0 ≡ suc (length xs)
-    by true h n = absurd (true≢false n)
-    by false h n = omega (arith, h n)
-
-pub added_place : {X : Type 0} (f : X → List ℕ) (ks : List X) (k : X) (name : List ℕ) → f k ≡ name → list_any (bytes_eq name) (map f ks) ≡ false
-    → position_or_len (λ y. bytes_eq (f k) (f y)) ks ≡ length (map f ks)
-added_place f ks k name same none =
-    prefix_len-all (λ y. bytes_eq (f k) (f y)) ks (sym (list_any-map f (bytes_eq (f k)) ks) ∙ ap (λ n. list_any (bytes_eq n) (map f ks)) same ∙ none)
-    ∙ sym (length-map ks f)

@@ -1,6 +1,11 @@
 -- Marks whose names are told by positions in a list of names.
-use Rattle.std.specs.Prelude.{ℕ, ◌<◌, ◌≤◌, zero, suc, List, [], ◌∷◌, ◌++◌, length, map, take, slice_index_or, nat_eq, IfSome}
+use Rattle.std.specs.Prelude.{◌≡◌, ℕ, ◌<◌, ◌≤◌, zero, suc, List, [], ◌∷◌, ◌++◌, length, map, take, position, slice_index_or, nat_eq, IfSome}
 use Rattle.std.specs.List.{All, IsDistinct, flat_map}
+use Rattle.std.specs.Cmp.Lexicographic.{slice_cmp}
+use Rattle.std.specs.Map.{lookup}
+use Rattle.std.specs.Ordering.{is_eq, nat_cmp}
+use Rattle.std.specs.Str.{bytes_eq}
+use Rattle.std.specs.declared.vec.Vec.{Vec}
 use Rattle.live_range.specs.declared.places.Pair.{Pair}
 use Rattle.live_range.specs.declared.places.MarkPlace.{MarkPlace}
 use Rattle.live_range.specs.declared.places.Places.{Places}
@@ -50,3 +55,9 @@ pub record PlacesFit (e : PointsEdit) (p : Places) : Type 0 where
   pub selection : IfSome p.selection (PairFits e)
   pub scratch : IfSome p.scratch (PairFits e)
   pub marks : All (λ m. PairFits e m.pair) (marks_of p)
+
+-- the entries of a map, whose keys are in their order, have each name with its first position in
+-- the list. No public clause cites it.
+abbrev pub HasPositions : {A : Type 0} → List (Vec ℕ A × ℕ) → List (List ℕ) → Type 0
+HasPositions entries names = (name : List ℕ)
+    → lookup (λ k. is_eq (slice_cmp nat_cmp name k.items)) entries ≡ position (bytes_eq name) names

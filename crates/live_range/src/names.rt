@@ -4,26 +4,32 @@ ghost use Rattle.std.specs.List.{list_any, IsDistinct};
 ghost use Rattle.std.specs.Str.{bytes_eq};
 ghost use Rattle.indexmap.specs.IndexSet.{insert_key};
 
-use indexmap::IndexSet;
 use std::alloc::{AllocError, Global};
+use std::collections::BTreeMap;
 use std::marker::Model;
 
+// A name is found by the order of the names, and no hash is taken of it, so that no choice of names
+// makes a look-up long.
 #[derive(Drop)]
 pub(crate) struct Names {
     alloc: Global,
-    set: IndexSet<Vec<u8>>,
+    list: Vec<Vec<u8>>,
+    // The position of each name in the list.
+    positions: BTreeMap<Vec<u8>, usize>,
 }
 
 impl Model for Names {
     ghost use Rattle.std.specs.Prelude.{ℕ, List, map};
     ghost use Rattle.std.specs.List.{IsDistinct};
     ghost use Rattle.std.specs.Str.{bytes_eq};
+    ghost use Rattle.live_range.specs.Names.{HasPositions};
 
     ghost Value = { List (List ℕ) };
 
-    ghost view = { λ n. map (λ v. v.items) n.set.keys };
+    ghost view = { λ n. map (λ v. v.items) n.list.items };
 
-    ghost invariant = { λ n. IsDistinct bytes_eq (map (λ v. v.items) n.set.keys) };
+    ghost invariant = { λ n. IsDistinct bytes_eq (map (λ v. v.items) n.list.items)
+        × HasPositions n.positions.entries (map (λ v. v.items) n.list.items) };
 }
 
 impl Names {
@@ -32,7 +38,8 @@ impl Names {
     {
         Names {
             alloc,
-            set: IndexSet::new(alloc),
+            list: Vec::new(alloc),
+            positions: BTreeMap::new(alloc),
         }
     }
 
@@ -46,14 +53,14 @@ impl Names {
     pub(crate) fn position(&self, name: &[u8]) -> Option<usize>
         ensures { result ≡ position (bytes_eq name.now) self.now }
     {
-        self.set.get_index_of(name)
+        self.positions.get(name).copied()
     }
 
     pub(crate) fn at(&self, position: usize) -> &[u8]
         requires { position < length self.now }
         ensures { result.now ≡ slice_index_or self.now position [] }
     {
-        self.set.as_slice()[position].as_slice()
+        self.list[position].as_slice()
     }
 
     // Adds a name that is not there, and answers its position.
@@ -63,8 +70,12 @@ impl Names {
         ensures last { IfOk result (λ i. i ≡ length self.old) }
         ensures err { OnErr result (self.new ≡ self.old) }
     {
-        let copy = name.to_vec(self.alloc)?;
-        let (position, _) = self.set.insert_full(copy)?;
+        let own = name.to_vec(self.alloc)?;
+        let key = name.to_vec(self.alloc)?;
+        let position = self.list.len();
+        self.list.reserve(1)?;
+        self.positions.insert(key, position)?;
+        self.list.push_reserved(own);
         Ok(position)
     }
 

@@ -1,6 +1,5 @@
-use Rattle.std.specs.List.{IsDistinct}
+use Rattle.live_range.proofs.Positions.{no_names}
 use Rattle.live_range.proofs.names.Names.new.Goals as goal
 
 pub invariant_of-result : goal.invariant_of-result
-unfolding IsDistinct
-invariant_of-result c = rw c.new.ensures.empty tt
+invariant_of-result c = no_names c.new.result.items c.new-2.result.entries c.new.ensures.items c.new-2.ensures.empty
