@@ -4,8 +4,7 @@ ghost use Rattle.std.specs.Prelude.{◌≡◌};
 
 use dom_model::Chars;
 use std::alloc::AllocError;
-use std::error::Error;
-use std::fmt;
+use thiserror::Error;
 
 /// The override of a command (HTML Editing APIs, "state override" and "value override").
 #[derive(Drop)]
@@ -45,24 +44,15 @@ pub struct Flags {
 }
 
 /// Why an editing call gave up. Only rolling back is left to the caller then.
-#[derive(Clone, Copy, PartialEq, Eq, Debug)]
+#[derive(Clone, Copy, PartialEq, Eq, Debug, Error)]
 pub enum EditFault {
     /// A label that isn't below the cap would have been drawn.
+    #[error("no label is left below the cap")]
     Full = 1,
     /// There is no memory for it.
+    #[error("out of memory")]
     Memory = 2,
 }
-
-impl fmt::Display for EditFault {
-    fn fmt<W: fmt::Write>(&self, f: &mut fmt::Formatter<W>) -> fmt::Result {
-        f.write_str(match self {
-            EditFault::Full => "no label is left below the cap",
-            EditFault::Memory => "out of memory",
-        })
-    }
-}
-
-impl Error for EditFault {}
 
 impl From<AllocError> for EditFault {
     ghost use Rattle.std.specs.Prelude.{◌≡◌};

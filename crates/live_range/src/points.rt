@@ -18,12 +18,11 @@ use crate::pairs::pair_of;
 use crate::places::{MarkPlace, Pair, Places, Point};
 use crate::standing::{Labels, standing_labels};
 use std::alloc::{AllocError, Global};
-use std::error::Error;
-use std::fmt;
 use std::marker::{Brand, Model};
 use std::mem::replace;
 use std::sync::ledger::{Blank, Ledger};
 use step_count::Steps;
+use thiserror::Error;
 
 const NOWHERE: Point = Point {
     label: 0,
@@ -39,24 +38,15 @@ const UNUSED: MarkPlace = MarkPlace {
 };
 
 /// Why a mark was not set.
-#[derive(Clone, Copy, PartialEq, Eq, Debug, Drop)]
+#[derive(Clone, Copy, PartialEq, Eq, Debug, Drop, Error)]
 pub enum MarkFault {
     /// 16 marks of other names are there.
+    #[error("16 marks of other names are there already")]
     TooManyMarks,
     /// Memory ran out.
+    #[error("out of memory")]
     Memory,
 }
-
-impl fmt::Display for MarkFault {
-    fn fmt<W: fmt::Write>(&self, f: &mut fmt::Formatter<W>) -> fmt::Result {
-        f.write_str(match self {
-            MarkFault::TooManyMarks => "16 marks of other names are there already",
-            MarkFault::Memory => "out of memory",
-        })
-    }
-}
-
-impl Error for MarkFault {}
 
 /// The selection, one scratch pair, and at most 16 marks, each a pair of points under a name.
 #[derive(Drop)]

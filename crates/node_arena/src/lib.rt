@@ -32,9 +32,8 @@ pub use elements::{has_name, is_break, is_image};
 pub use nodes::Nodes;
 use slab::Slab;
 use std::alloc::{AllocError, Global};
-use std::error::Error;
-use std::fmt;
 use std::marker::Model;
+use thiserror::Error;
 
 /// Names a node: its slot, and its label, which no other node of the arena has.
 #[derive(Clone, Copy, PartialEq, Eq, Debug)]
@@ -56,24 +55,15 @@ pub enum Kind {
 }
 
 /// Why no node was made.
-#[derive(Clone, Copy, PartialEq, Eq, Debug)]
+#[derive(Clone, Copy, PartialEq, Eq, Debug, Error)]
 pub enum MakeFault {
     /// The next label is the cap.
+    #[error("no label is left below the cap")]
     Full = 1,
     /// There is no memory for it.
+    #[error("out of memory")]
     Memory = 2,
 }
-
-impl fmt::Display for MakeFault {
-    fn fmt<W: fmt::Write>(&self, f: &mut fmt::Formatter<W>) -> fmt::Result {
-        f.write_str(match self {
-            MakeFault::Full => "no label is left below the cap",
-            MakeFault::Memory => "out of memory",
-        })
-    }
-}
-
-impl Error for MakeFault {}
 
 #[derive(Drop)]
 struct Node {
