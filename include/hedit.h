@@ -35,6 +35,8 @@
  * - malloc, realloc and free come from one allocator, and malloc and realloc align a block to
  *   each power of two up to 16 that divides its size.
  * - No call comes from a signal handler, or from the forked child of a process with threads.
+ * - The thread of a call has 128 kB of stack. That was measured to be enough for each command on a
+ *   page of 200 levels; how much a call takes grows with the levels of the document.
  */
 #ifndef HEDIT_H
 #define HEDIT_H

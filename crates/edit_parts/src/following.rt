@@ -1,6 +1,6 @@
 //! How the live points follow an edit, and the document's numbers.
 
-ghost use Rattle.std.specs.Prelude.{◌≡◌, ◌≢◌, ◌+◌, ◌-◌, ◌<◌, ◌≤◌, ◌^◌, ℕ, [], IsNone, IfSome, false, slice_get, take};
+ghost use Rattle.std.specs.Prelude.{◌≡◌, ◌≢◌, ◌+◌, ◌-◌, ◌<◌, ◌≤◌, ◌^◌, ℕ, [], ◌∷◌, IsNone, IfSome, false, slice_get, take};
 ghost use Rattle.std.specs.Option.{option_map_or};
 ghost use Rattle.dom_model.specs.declared.Content.{Content};
 ghost use Rattle.dom_model.specs.Forest.{Forest, is_label, preorder, tree_of};
@@ -35,13 +35,30 @@ pub struct Removal {
     place: Option<Point>,
 }
 
-// The labels in a tree at which a point stands.
+// The label of a node, if a point stands there.
+fn own_label(points: &Points, node: NodeRef) -> ([u32; MOST_POINTS], usize)
+    ensures few { result.1 ≤ 36 }
+    ensures tells { TellsAlike points.now (take result.1 result.0) (node.label ∷ []) }
+{
+    let mut labels = [0; MOST_POINTS];
+    if !stands_at(points, node) {
+        return (labels, 0);
+    }
+    labels[0] = node.label;
+    (labels, 1)
+}
+
+// The labels in a tree at which a point stands. That of a node without children has no other.
 fn labels_within(arena: &Arena, points: &Points, top: NodeRef) -> ([u32; MOST_POINTS], usize)
     requires { Holds arena.now top }
     ensures few { result.1 ≤ 36 }
     ensures tells { TellsAlike points.now (take result.1 result.0)
         (preorder (tree_of arena.now.trees top.label)) }
 {
+    arena.valid();
+    if arena.first_child(top).is_none() {
+        return own_label(points, top);
+    }
     let standing = points.standing();
     let list = standing.as_slice();
     let mut labels = [0; MOST_POINTS];

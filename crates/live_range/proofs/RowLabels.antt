@@ -1,7 +1,7 @@
 -- The labels of the points row by row and pair by pair.
-use Rattle.std.proofs.Common.{◌≡◌, ℕ, suc, zero, ◌+◌, ◌*◌, ◌/◌, ◌<◌, ◌≤◌, Bool, true, false, ◌==◌, ◌||◌, nat_eq, nat_lt, List, [], ◌∷◌, ◌++◌, take, slice_get, Option, Some, None, IfSome, refl, sym, ap, ◌∙◌, arith}
+use Rattle.std.proofs.Common.{◌≡◌, ℕ, suc, zero, ◌+◌, ◌*◌, ◌/◌, ◌<◌, ◌≤◌, Bool, true, false, ◌==◌, ◌||◌, nat_eq, nat_lt, List, [], ◌∷◌, ◌++◌, take, slice_get, Option, Some, None, refl, sym, ap, ◌∙◌, arith}
 use Rattle.std.specs.List.{flat_map}
-use Rattle.std.specs.Option.{is_some, option_map, option_map_or, IfNone}
+use Rattle.std.specs.Option.{option_map}
 use Rattle.std.proofs.lemmas.List.{append-nil, append_assoc}
 use Rattle.std.proofs.lemmas.List.Folds.{list_any-append}
 use Rattle.std.proofs.lemmas.List.Sums.{fold-append}
@@ -11,11 +11,10 @@ use Rattle.live_range.specs.declared.places.Point.{Point}
 use Rattle.live_range.specs.declared.places.Pair.{Pair}
 use Rattle.live_range.specs.declared.places.MarkPlace.{MarkPlace}
 use Rattle.live_range.specs.declared.places.Places.{Places}
-use Rattle.live_range.specs.declared.rows.RowSet.{RowSet}
 use Rattle.live_range.specs.PointsEdit.{has_label}
 use Rattle.live_range.specs.LivePoints.{option_labels, pair_labels}
 use Rattle.live_range.specs.Names.{marks_of, place_labels}
-use Rattle.live_range.specs.Rows.{RowsByNode, pair_at, point_at, side, stands_at, has_row, listed_at, Lists}
+use Rattle.live_range.specs.Rows.{pair_at, point_at, side}
 use Rattle.live_range.proofs.Adjusting.{at_anchor, at_focus}
 use Rattle.live_range.proofs.RowLists.{pair_past}
 
@@ -94,48 +93,27 @@ all_rows p (suc m) h = by (nat_lt m (2 * (p.count + 2))) refl (λ k. all_rows p 
 -- ---- whether a point stands at a label
 
 module _ (p : Places) (l : ℕ) where
-  more : (n : ℕ) → has_label (row_labels p (suc n)) l ≡ (has_label (row_labels p n) l || stands_at p l n)
-  more n = list_any-append (λ x. x == l) (row_labels p n) (labels_at (point_at p n)) ∙ ap (λ b. has_label (row_labels p n) l || b) (one (point_at p n))
-    where
-      one : (o : Option Point) → has_label (labels_at o) l ≡ option_map_or (λ x. x.label == l) o false
-      one None = refl
-      one (Some x) = by (x.label == l)
-        where
-          by : (b : Bool) → (b || false) ≡ b
-          by true = refl
-          by false = refl
+  pub more_pairs : (k : ℕ) → has_label (first_pairs p (suc k)) l ≡ (has_label (first_pairs p k) l || has_label (option_labels (pair_at p k)) l)
+  more_pairs k = list_any-append (λ x. x == l) (first_pairs p k) (option_labels (pair_at p k))
 
-  nowhere : (n : ℕ) → ((r : ℕ) → r < n → stands_at p l r ≡ false) → has_label (row_labels p n) l ≡ false
-  nowhere zero h = refl
-  nowhere (suc n) h = more n ∙ λ i. nowhere n (λ r k. h r (omega (arith, k))) i || h n (omega arith) i
-
-  somewhere : (n r : ℕ) → r < n → stands_at p l r ≡ true → has_label (row_labels p n) l ≡ true
-  somewhere zero r k h = absurd (omega (arith, k))
-  somewhere (suc n) r k h = more n ∙ by (r == n) refl (λ m. somewhere n r m h)
+  somewhere : (n k : ℕ) → k < n → has_label (option_labels (pair_at p k)) l ≡ true → has_label (first_pairs p n) l ≡ true
+  somewhere zero k m h = absurd (omega (arith, m))
+  somewhere (suc n) k m h = more_pairs n ∙ by (k == n) refl (λ less. somewhere n k less h)
     where
+      at : ℕ → Bool
+      at i = has_label (option_labels (pair_at p i)) l
+
       last : (a : Bool) → (a || true) ≡ true
       last true = refl
       last false = refl
 
-      by : (b : Bool) → (r == n) ≡ b → (r < n → has_label (row_labels p n) l ≡ true) → (has_label (row_labels p n) l || stands_at p l n) ≡ true
-      by true e rest = ap (λ m. has_label (row_labels p n) l || stands_at p l m) (sym ((Decides-eqb r n).0 e)) ∙ ap (λ b. has_label (row_labels p n) l || b) h ∙ last (has_label (row_labels p n) l)
-      by false e rest = ap (λ b. b || stands_at p l n) (rest (grind (arith, nat_tests)))
+      by : (b : Bool) → (k == n) ≡ b → (k < n → has_label (first_pairs p n) l ≡ true) → (has_label (first_pairs p n) l || at n) ≡ true
+      by true e rest = ap (λ i. has_label (first_pairs p n) l || at i) (sym ((Decides-eqb k n).0 e)) ∙ ap (λ b. has_label (first_pairs p n) l || b) h ∙ last (has_label (first_pairs p n) l)
+      by false e rest = ap (λ b. b || at n) (rest (grind (arith, nat_tests)))
 
-  module _ (n : RowsByNode) (listed : Lists p n) (few : p.count ≤ 16) where
-    every : has_label (row_labels p 64) l ≡ has_label (place_labels p) l
-    every = ap (λ ls. has_label ls l) (all_rows p 64 (omega (arith, few)))
-
-    none_stands : ((r : ℕ) → listed_at n l r ≡ false) → has_label (place_labels p) l ≡ false
-    none_stands h = sym every ∙ nowhere 64 (λ r k. sym (listed l r k) ∙ h r)
-
-    one_stands : (r : ℕ) → r < 64 → listed_at n l r ≡ true → has_label (place_labels p) l ≡ true
-    one_stands r k h = sym every ∙ somewhere 64 r k (sym (listed l r k) ∙ h)
-
-    -- a set of the rows at the label has a first row exactly if a point stands there
-    pub first_tells : (rows : RowSet) → ((r : ℕ) → has_row rows r ≡ listed_at n l r) → (first : Option ℕ) → IfSome first (λ r. (r < 64) × (has_row rows r ≡ true))
-        → IfNone first ((r : ℕ) → has_row rows r ≡ false) → is_some first ≡ has_label (place_labels p) l
-    first_tells rows at None there none = sym (none_stands (λ r. sym (at r) ∙ none r))
-    first_tells rows at (Some r) there none = sym (one_stands r there.0 (sym (at r) ∙ there.1))
+  -- one of the pairs has a point there
+  pub found_among : (k : ℕ) → k < p.count + 2 → has_label (option_labels (pair_at p k)) l ≡ true → has_label (place_labels p) l ≡ true
+  found_among k m h = ap (λ ls. has_label ls l) (sym (all_pairs p (p.count + 2) refl)) ∙ somewhere (p.count + 2) k m h
 
 -- ---- each label once, pair by pair
 

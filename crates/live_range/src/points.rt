@@ -16,7 +16,7 @@ use crate::names::Names;
 use crate::nodes::Nodes;
 use crate::pairs::pair_of;
 use crate::places::{MarkPlace, Pair, Places, Point};
-use crate::standing::{Labels, standing_labels};
+use crate::standing::{Labels, standing_labels, stands_in};
 use std::alloc::{AllocError, Global};
 use std::marker::{Brand, Model};
 use std::mem::replace;
@@ -252,7 +252,7 @@ impl Points {
     pub fn stands_at(&self, label: u32) -> bool
         ensures { result ≡ has_label (labels_of self.now) label }
     {
-        self.nodes.at(label).first().is_some()
+        stands_in(&self.places, label)
     }
 
     /// The labels of the nodes at which a point stands.

@@ -1,7 +1,8 @@
 //! The labels of the nodes at which a point stands, in the order of the points.
 ghost use Rattle.std.specs.Prelude.{◌≡◌, ◌+◌, ◌<◌, ◌≤◌, [], length, nat_eq};
 ghost use Rattle.indexmap.specs.IndexSet.{insert_all, insert_key};
-ghost use Rattle.live_range.specs.LivePoints.{pair_labels};
+ghost use Rattle.live_range.specs.LivePoints.{option_labels, pair_labels};
+ghost use Rattle.live_range.specs.PointsEdit.{has_label};
 ghost use Rattle.live_range.specs.Names.{place_labels};
 
 use crate::pairs::pair_of;
@@ -80,4 +81,28 @@ pub(crate) fn standing_labels(places: &Places) -> Labels
         }
     }
     labels
+}
+
+// Whether a point of a pair stands at the node of a label.
+fn is_at(pair: Option<Pair>, label: u32) -> bool
+    ensures { result ≡ has_label (option_labels pair) label }
+{
+    match pair {
+        Some(pair) => pair.anchor.label == label || pair.focus.label == label,
+        None => false,
+    }
+}
+
+// Whether a point stands at the node of a label. There are few points, mostly four, so to look at
+// each costs less than to look the label up.
+pub(crate) fn stands_in(places: &Places, label: u32) -> bool
+    requires { places.now.count ≤ 16 }
+    ensures { result ≡ has_label (place_labels places.now) label }
+{
+    for number in 0..places.count + 2 {
+        if is_at(pair_of(places, number), label) {
+            return true;
+        }
+    }
+    false
 }

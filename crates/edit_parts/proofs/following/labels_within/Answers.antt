@@ -1,10 +1,25 @@
-use Rattle.std.proofs.Common.{◌≡◌, ℕ, ◌&&◌, length-set, true, false, get_or, refl, sym, ap, ◌∙◌, arith, take}
+use Rattle.std.proofs.Common.{◌≡◌, ℕ, ◌&&◌, length-set, not, true, false, Option, Some, None, get_or, refl, sym, ap, ◌∙◌, arith, take}
 use Rattle.std.proofs.lemmas.List.{take_all}
+use Rattle.std.specs.Option.{is_some}
 use Rattle.dom_model.specs.Forest.{preorder, tree_of}
+use Rattle.dom_model.proofs.DropTree.{leaf_tree}
 use Rattle.live_range.specs.PointsEdit.{has_label}
+use Rattle.node_arena.specs.declared.NodeRef.{NodeRef}
+use Rattle.node_arena.specs.Held.{label}
 use Rattle.edit_parts.proofs.Standing.{standing-label, label_next, label_noted, label_is, within_label, absent_label, tells_in, tells_out}
 use Rattle.edit_parts.proofs.following.labels_within.Goals as goal
 use Rattle.edit_parts.proofs.following.labels_within.Goals.{in-Some+then-is_within, in-Some+else-is_within, in_default}
+
+pub returns-then-is_none-clause-tells : goal.returns-then-is_none-clause-tells
+returns-then-is_none-clause-tells c = λ l stands.
+    let f = c.args.arena.now.trees in
+    let top = c.args.top.label in
+    let leaf = leaf_tree f top c.valid.ensures.distinct (c.valid.ensures.here c.args.top.slot top c.requires) (sym c.first_child.ensures.is ∙ none_there c.first_child.result (c.is_none.ensures ∙ ap not c.if-is_none.true)) in
+    c.own_label.ensures.tells l stands ∙ ap (λ t. has_label (preorder t) l) (sym leaf.1)
+  where
+    none_there : (o : Option NodeRef) → is_some o ≡ false → label o ≡ None
+    none_there None h = refl
+    none_there (Some r) h = absurd (cc)
 
 pub loop-label-preserved : goal.loop-label-preserved
 loop-label-preserved c =
