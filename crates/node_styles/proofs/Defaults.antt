@@ -13,7 +13,7 @@ use Rattle.css_value.specs.Values.{font_style_of, font_weight_of, font_size_of, 
 use Rattle.style_table.specs.declared.Property.{Property}
 use Rattle.style_table.specs.declared.Property.TheVariants as property
 use Rattle.style_table.specs.DefaultStyles.{DefaultRow, has_name, value_of, is_link, default_of, default_font_weight, font_weight_rows, default_font_style, font_style_rows, default_font_family, font_family_rows, default_font_size, font_size_rows, default_color, default_background_color, background_color_rows, default_text_decoration, text_decoration_rows, default_text_align, text_align_rows}
-use Rattle.node_styles.specs.OwnStyles.{attribute, defaulted, family_of}
+use Rattle.node_styles.specs.OwnStyles.{attribute, defaulted, family_of, valid_decoration}
 use Rattle.node_styles.specs.TableTexts.{pixels_of, lines_of}
 
 module _ {V : Type 0} (read given : List ℕ → Option V) where
@@ -82,6 +82,14 @@ color_default c = alike_content colour_of (always (opaque_colour 0 0 238)) prope
 underlined : text_decoration_of (codes "underline") ≡ lines_of (codes "underline")
 unfolding text_decoration_of words are_lines lines_in has_line
 underlined = refl
+
+pub decoration_text_default : (c : Content) → option_and_then valid_decoration (defaulted c property.TextDecoration) ≡ option_and_then Some (defaulted c property.TextDecoration)
+unfolding default_of default_text_decoration text_decoration_rows valid_decoration text_decoration_of words are_lines lines_in has_line
+decoration_text_default c = alike_content valid_decoration Some property.TextDecoration (λ name h. by_link name (is_link name h)) c
+  where
+    by_link : (name : List ℕ) (v : Bool) → option_and_then valid_decoration (cond v (Some (codes "underline")) (value_of text_decoration_rows name)) ≡ option_and_then Some (cond v (Some (codes "underline")) (value_of text_decoration_rows name))
+    by_link name true = refl
+    by_link name false = alike_value valid_decoration Some text_decoration_rows (refl, (refl, tt)) name
 
 struck : text_decoration_of (codes "line-through") ≡ lines_of (codes "line-through")
 unfolding text_decoration_of words are_lines lines_in has_line

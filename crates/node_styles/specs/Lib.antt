@@ -6,6 +6,7 @@ pub mod Blocks
 pub mod NameClasses
 pub mod Allowed
 pub mod Families
+pub mod WrittenDecorations
 pub mod TableTexts
 pub mod Traits
 pub mod TurnBound

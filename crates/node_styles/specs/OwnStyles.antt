@@ -128,5 +128,13 @@ unfoldable pub own_text_decoration : Content → Option TextDecoration
 own_text_decoration c =
     own text_decoration_of (codes "text-decoration") None property.TextDecoration c
 
+-- a valid value of text-decoration, as it is written
+unfoldable pub valid_decoration : List ℕ → Option (List ℕ)
+valid_decoration text = if is_some (text_decoration_of text) then Some text else None
+
+unfoldable pub own_decoration_text : Content → Option (List ℕ)
+own_decoration_text c =
+    own valid_decoration (codes "text-decoration") None property.TextDecoration c
+
 unfoldable pub own_text_align : Content → Option TextAlign
 own_text_align c = own text_align_of (codes "text-align") (align_hint c) property.TextAlign c

@@ -7,7 +7,7 @@ use Rattle.dom_model.specs.Forest.{Forest, content_of}
 use Rattle.css_value.specs.declared.colours.Colour.{Colour}
 use Rattle.css_value.specs.declared.decoration.TextDecoration.{TextDecoration}
 use Rattle.css_value.specs.Colours.{opaque_colour, transparent, colour_text}
-use Rattle.css_value.specs.TextDecoration.{no_lines, text_decoration_text}
+use Rattle.css_value.specs.TextDecoration.{no_lines}
 use Rattle.css_value.specs.Values.{display_keyword, white_space_keyword, font_style_keyword, text_align_keyword, pixels_text}
 use Rattle.style_table.specs.declared.Property.{Property}
 use Rattle.style_table.specs.declared.Property.TheVariants as property
@@ -20,7 +20,7 @@ use Rattle.css_value.specs.declared.values.FontStyle.TheVariants as font_style_v
 use Rattle.css_value.specs.declared.values.TextAlign.{TextAlign}
 use Rattle.css_value.specs.declared.values.TextAlign.TheVariants as text_align_values
 use Rattle.node_styles.specs.Lineage.{nearest}
-use Rattle.node_styles.specs.OwnStyles.{own_display, own_white_space, own_font_weight, own_font_style, own_font_family, own_font_size, own_color, own_background_color, own_text_decoration, own_text_align}
+use Rattle.node_styles.specs.OwnStyles.{own_display, own_white_space, own_font_weight, own_font_style, own_font_family, own_font_size, own_color, own_background_color, own_text_decoration, own_decoration_text, own_text_align}
 
 -- a property that isn't inherited
 abbrev pub kept : {V : Type 0} → (Content → Option V) → V → Forest Content → ℕ → V
@@ -61,6 +61,10 @@ color f l = inherited own_color (opaque_colour 0 0 0) f l
 unfoldable pub text_align : Forest Content → ℕ → TextAlign
 text_align f l = inherited own_text_align text_align_values.Left f l
 
+-- the value of text-decoration as it is written
+unfoldable pub decoration_text : Forest Content → ℕ → List ℕ
+decoration_text f l = kept own_decoration_text (codes "none") f l
+
 -- the value as a text: a weight as a number, a size as `Npx`, a colour by its components
 unfoldable pub resolved : Forest Content → ℕ → Property → List ℕ
 resolved f l property.Display = display_keyword (display f l)
@@ -71,5 +75,5 @@ resolved f l property.FontFamily = font_family f l
 resolved f l property.FontSize = pixels_text (font_size f l)
 resolved f l property.Color = colour_text (color f l)
 resolved f l property.BackgroundColor = colour_text (background_color f l)
-resolved f l property.TextDecoration = text_decoration_text (text_decoration f l)
+resolved f l property.TextDecoration = decoration_text f l
 resolved f l property.TextAlign = text_align_keyword (text_align f l)

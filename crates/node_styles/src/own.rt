@@ -7,6 +7,7 @@ ghost use Rattle.css_value.specs.Colours.{colour_of};
 ghost use Rattle.css_value.specs.TextDecoration.{text_decoration_of};
 ghost use Rattle.style_table.specs.declared.Property.TheVariants as property;
 ghost use Rattle.node_styles.specs.Families.{family_text};
+ghost use Rattle.node_styles.specs.WrittenDecorations.{decoration_text};
 ghost use Rattle.node_styles.specs.OwnStyles as own;
 ghost use Rattle.node_styles.specs.TableTexts as table;
 ghost use Rattle.node_styles.specs.Traits as traits;
@@ -262,6 +263,40 @@ pub fn own_text_decoration(content: &Content) -> Option<TextDecoration>
     declared(content, b"text-decoration")
         .and_then(|text| read_text_decoration(text))
         .or_else(|| lines_named(defaulted(content, Property::TextDecoration)?))
+}
+
+// The text of a `text-decoration` that an element gives itself.
+pub(crate) enum DecorationText<'a> {
+    Written(&'a [char]),
+    Named(&'static str),
+}
+
+// The valid value that the style declares.
+#[tactic(auto, unfolding(crate::specs::OwnStyles::declared, crate::specs::OwnStyles::valid_decoration))]
+fn written_decoration(content: &Content) -> Option<&[char]>
+    ensures { option_copied result ≡ option_and_then own.valid_decoration
+        (own.declared content.now (codes "text-decoration")) }
+{
+    let text = declared(content, b"text-decoration")?;
+    if read_text_decoration(text).is_some() {
+        Some(text)
+    } else {
+        None
+    }
+}
+
+// The `text-decoration` that an element gives itself, as it is written.
+#[tactic(auto, using(crate::proofs::Defaults::decoration_text_default), unfolding(crate::specs::OwnStyles::own_decoration_text))]
+pub(crate) fn own_decoration_text(content: &Content) -> Option<DecorationText<'_>>
+    ensures { option_map decoration_text result ≡ own.own_decoration_text content.now }
+{
+    match written_decoration(content) {
+        Some(text) => Some(DecorationText::Written(text)),
+        None => {
+            let word = defaulted(content, Property::TextDecoration)?;
+            Some(DecorationText::Named(word))
+        }
+    }
 }
 
 #[tactic(auto, using(crate::proofs::Defaults::align_default), unfolding(crate::specs::OwnStyles::own_text_align))]

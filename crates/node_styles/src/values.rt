@@ -10,8 +10,9 @@ ghost use Rattle.node_styles.specs.Traits.{has_own};
 
 use crate::lineage::{Trait, nearest};
 use crate::own::{
-    Family, own_background_color, own_color, own_display, own_font_family, own_font_size,
-    own_font_style, own_font_weight, own_text_align, own_text_decoration, own_white_space,
+    DecorationText, Family, own_background_color, own_color, own_decoration_text, own_display,
+    own_font_family, own_font_size, own_font_style, own_font_weight, own_text_align,
+    own_text_decoration, own_white_space,
 };
 use css_value::{
     Colour, Display, FontStyle, TextAlign, TextDecoration, WhiteSpace, print_font_size,
@@ -165,8 +166,26 @@ fn print_font_family(alloc: Global, family: Family) -> Result<Vec<char>, AllocEr
     }
 }
 
+#[tactic(auto, unfolding(crate::specs::Resolved::decoration_text))]
+fn print_text_decoration<N: Nodes>(
+    alloc: Global,
+    nodes: &N,
+    node: NodeRef,
+) -> Result<Vec<char>, AllocError>
+    requires node_held { N.holds nodes.now node }
+    ensures { IfOk result (λ text. text.items
+        ≡ resolved.decoration_text (N.trees nodes.now) node.label) }
+{
+    match own_decoration_text(nodes.content(node)) {
+        Some(DecorationText::Written(text)) => text.to_vec(alloc),
+        Some(DecorationText::Named(word)) => chars_of(alloc, word.as_bytes()),
+        None => chars_of(alloc, b"none"),
+    }
+}
+
 /// The resolved value of a property as a text: a weight as a number, a size as `Npx`, a colour as
-/// `rgb(r, g, b)` or, for `transparent`, as `rgba(0, 0, 0, 0)`.
+/// `rgb(r, g, b)` or, for `transparent`, as `rgba(0, 0, 0, 0)`, a valid `text-decoration` as it is
+/// written.
 #[tactic(auto, unfolding(crate::specs::Resolved::resolved))]
 pub fn resolved<N: Nodes>(
     alloc: Global,
@@ -187,7 +206,7 @@ pub fn resolved<N: Nodes>(
         Property::FontSize => print_font_size(alloc, font_size(nodes, node)),
         Property::Color => color(nodes, node).print(alloc),
         Property::BackgroundColor => background_color(nodes, node).print(alloc),
-        Property::TextDecoration => text_decoration(nodes, node).print(alloc),
+        Property::TextDecoration => print_text_decoration(alloc, nodes, node),
         Property::TextAlign => text_align(nodes, node).print(alloc),
     };
     Ok(Chars::from_vec(text?))

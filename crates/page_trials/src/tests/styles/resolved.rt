@@ -19,7 +19,7 @@ impl Look for Resolved {
     }
 }
 
-static STYLES: [Page<Resolved>; 50] = [
+static STYLES: [Page<Resolved>; 51] = [
     Page("<p>a</p>", Resolved(Property::Display, 1, "block")),
     Page("<p>a</p>", Resolved(Property::Display, 2, "inline")),
     Page("<li>a</li>", Resolved(Property::Display, 1, "list-item")),
@@ -148,6 +148,10 @@ static STYLES: [Page<Resolved>; 50] = [
     Page(
         "<s style=\"text-decoration: overline\">a</s>",
         Resolved(Property::TextDecoration, 1, "overline"),
+    ),
+    Page(
+        "<p style=\"text-decoration: line-through  underline underline\">a</p>",
+        Resolved(Property::TextDecoration, 1, "line-through  underline underline"),
     ),
     Page(
         "<s style=\"text-decoration: blink\">a</s>",
