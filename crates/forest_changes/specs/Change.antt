@@ -1,6 +1,6 @@
 -- Changes of a labelled nested list that an undo log keeps: each is taken back by the change that
 -- it turns into.
-use Rattle.std.specs.Prelude.{◌≡◌, ◌^◌, ℕ, ◌<◌, List, length, true, Option, None, Some, IsSome, unwrap_or}
+use Rattle.std.specs.Prelude.{◌≡◌, ◌^◌, ℕ, ◌<◌, length, true, None, Some, IsSome, unwrap_or}
 use Rattle.dom_model.specs.declared.Content.{Content}
 use Rattle.dom_model.specs.Contents.{IsNode, has_chars_at, is_element_at, chars_of, attributes_of, with_chars, with_attributes}
 use Rattle.dom_model.specs.Forest.{Forest, Seen, seek, count_of, IsDistinct, RisesFrom, parent_of, next_of, link, unlink}

@@ -1,5 +1,5 @@
 -- Which nodes an arena holds.
-use Rattle.std.specs.Prelude.{◌≡◌, ◌≢◌, ℕ, ◌+◌, ◌<◌, ◌↔◌, nat_le, Option, Some, None, IfSome}
+use Rattle.std.specs.Prelude.{◌≡◌, ◌≢◌, ℕ, ◌+◌, ◌<◌, ◌↔◌, nat_le, Option, Some, None}
 use Rattle.dom_model.specs.ArenaState.{ArenaState, HoldsAt}
 use Rattle.dom_model.specs.declared.Content.{Content}
 use Rattle.dom_model.specs.Forest.{without, tree_of, with_leaf, parent_of, first_of, last_of, prev_of, next_of, content_of, count_of}

@@ -9,7 +9,7 @@ use Rattle.std.proofs.lemmas.Bool.Decides.{nat_tests}
 use Rattle.page_grammar.specs.Chars.{is_space, lower, is_attribute_name_char, is_quote, entities, is_referable, digit_of, value_from}
 use Rattle.page_grammar.specs.Names.{is_void, is_refused}
 use Rattle.page_grammar.specs.Page as page
-use Rattle.page_grammar.specs.Page.{Attribute, Siblings, Nil, TextNode, CommentNode, ElementNode, size, NotText, IsNil, Spaces, IsEntity, DecimalDigits, HexadecimalDigits, IsBody, OneChar, Text, NameChars, AttributeNameChars, has_attribute, Attributes, TagEnd, StartTag, NameAgain, EndTag, starts_close, CommentText, Content, Page}
+use Rattle.page_grammar.specs.Page.{Attribute, Siblings, Nil, TextNode, CommentNode, ElementNode, size, NotText, IsNil, Spaces, IsEntity, DecimalDigits, HexadecimalDigits, IsBody, Text, NameChars, AttributeNameChars, has_attribute, Attributes, TagEnd, StartTag, NameAgain, EndTag, CommentText, Content, Page}
 use Rattle.page_grammar.specs.Machine.{Event, TextEvent, CommentEvent, OpenEvent, CloseEvent, events, Reference, Amp, Hash, Dec, HexMark, Hex, Turn, Stop, More, Done, ref_step, Lexical, Data, InText, TextReference, TagOpen, InComment, TagName, BeforeAttributeName, AttributeName, AfterAttributeName, BeforeAttributeValue, InAttributeValue, ValueReference, AfterAttributeValue, SelfClosing, EndTagName, AfterEndTagName, Machine, start, at, has_room, less, after_leaf, after_start, entered, after_void, started, after_end, with_attribute, tag_end, ref_turn, Dashes, NoDash, OneDash, TwoDashes, is_two, dash, dashes, step_at, then_run, run, is_none_open, IsReady, IsEnd, flushed_at, flushed, emitted}
 use Rattle.page_grammar.proofs.Facts.{app_nil, same_char, and_parts, suc_pred, head_eq, tail_eq, not_same, digit_59, hex_59, digit_120, name_62, name_47, space_62, space_47, space_61, key_62, key_47, key_61, quote_not_amp, quote_not_space, referable_bound, le_test, letter_not_slash, letter_not_bang, key_not_space, key_not_equals, space_not_key, space_not_name}
 

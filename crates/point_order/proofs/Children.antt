@@ -1,10 +1,10 @@
 -- How many children a node has, by steps from the first child.
-use Rattle.std.proofs.Common.{◌≡◌, ℕ, ◌+◌, ◌-◌, ◌<◌, ◌≤◌, List, [], ◌∷◌, ◌++◌, length, true, false, Option, Some, None, refl, sym, ap, ◌∙◌, nat_le, arith}
+use Rattle.std.proofs.Common.{◌≡◌, ℕ, ◌+◌, ◌-◌, ◌<◌, List, [], ◌∷◌, ◌++◌, length, true, false, Option, Some, None, refl, sym, ap, ◌∙◌, nat_le, arith}
 use Rattle.std.proofs.lemmas.Bool.{le-leb, lt-leb}
 use Rattle.std.proofs.lemmas.List.{append_assoc, length-append}
 use Rattle.std.specs.Option.{option_and_then}
 use Rattle.dom_model.specs.declared.Content.{Content}
-use Rattle.dom_model.specs.Forest.{Forest, IsDistinct, children_of, first_of, next_of, parent_of, first_in, after_in, times}
+use Rattle.dom_model.specs.Forest.{Forest, IsDistinct, children_of, first_of, next_of, first_in, after_in, times}
 use Rattle.dom_model.proofs.Lists.{times-append, after_in-middle}
 use Rattle.dom_model.proofs.Links.{times-children_of, eqb_refl_true}
 use Rattle.point_order.proofs.Toward.{parent_among}
