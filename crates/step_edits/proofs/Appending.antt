@@ -1,14 +1,14 @@
 -- The nodes of trees, appended to a list node by node.
-use Rattle.std.proofs.Common.{◌≡◌, ℕ, ◌+◌, ◌<◌, ◌≤◌, ◌^◌, ◌⊎◌, List, [], ◌∷◌, ◌++◌, Option, Some, None, refl, sym, ap, ◌∙◌, inl, inr, arith, append_assoc}
+use Rattle.std.proofs.Common.{◌≡◌, ℕ, ◌+◌, ◌<◌, ◌^◌, ◌⊎◌, List, [], ◌∷◌, ◌++◌, Option, Some, refl, sym, ap, ◌∙◌, inl, inr, arith, append_assoc}
 use Rattle.std.proofs.lemmas.Bool.Decides.{eqb_tells}
 use Rattle.std.proofs.lemmas.List.{append-nil}
 use Rattle.dom_model.specs.declared.Content.{Content}
-use Rattle.dom_model.specs.Forest.{Forest, join, total, count_of, content_of, IsDistinct, tree_of, first_of, next_of}
+use Rattle.dom_model.specs.Forest.{Forest, total, count_of, content_of, IsDistinct, tree_of, first_of, next_of}
 use Rattle.dom_model.specs.Forest.Forest.{Nil, Tree}
 use Rattle.dom_model.specs.ArenaState.{ArenaState, IsValid}
 use Rattle.dom_model.specs.Places.{onward, or_else}
 use Rattle.dom_model.proofs.Links.{tree_of_absent, join-Nil}
-use Rattle.dom_model.proofs.Parts.{At, at_label, onward_absent}
+use Rattle.dom_model.proofs.Parts.{at_label, onward_absent}
 use Rattle.dom_model.proofs.Totals.{total-without}
 use Rattle.node_arena.specs.declared.NodeRef.{NodeRef}
 use Rattle.node_arena.specs.Held.{Holds, NamesHeld, label}

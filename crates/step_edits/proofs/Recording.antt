@@ -1,5 +1,5 @@
 -- What a recorder has kept after many steps.
-use Rattle.std.proofs.Common.{◌≡◌, true, List, [], ◌∷◌, ◌++◌, refl, sym, ap, ◌∙◌, append_assoc}
+use Rattle.std.proofs.Common.{◌≡◌, true, List, [], ◌∷◌, ◌++◌, sym, ap, ◌∙◌, append_assoc}
 use Rattle.std.proofs.lemmas.List.{append-nil}
 use Rattle.dom_model.specs.ArenaState.{ArenaState}
 use Rattle.undo_log.specs.Watching.{Seen}

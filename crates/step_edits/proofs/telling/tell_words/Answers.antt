@@ -1,4 +1,4 @@
-use Rattle.std.proofs.Common.{◌≡◌, ◌<◌, ◌^◌, Some, length, subst, sym, ◌∙◌, arith}
+use Rattle.std.proofs.Common.{◌≡◌, ◌<◌, ◌^◌, Some, length, subst, sym, ◌∙◌}
 use Rattle.forest_changes.proofs.Contents.{chars_there}
 use Rattle.step_edits.proofs.telling.tell_words.Goals as goal
 
