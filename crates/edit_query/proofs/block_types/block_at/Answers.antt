@@ -1,7 +1,7 @@
 use Rattle.std.proofs.Common.{sym, ◌∙◌, arith}
 use Rattle.dom_model.proofs.Within.{depth_of-parent}
 use Rattle.edit_query.proofs.Climbing.{stays, goes_on, parent_editable, ends_on_top}
-use Rattle.edit_query.proofs.Inside.{parent_inside}
+use Rattle.edit_query.proofs.Hosting.{parent_inside}
 use Rattle.edit_query.proofs.block_types.block_at.Goals as goal
 
 pub loop-parent-smaller : goal.loop-parent-smaller

@@ -1,6 +1,6 @@
 use Rattle.std.proofs.Common.{sym, ap, ◌∙◌}
 use Rattle.edit_model.specs.Gives.{label_of}
-use Rattle.edit_query.proofs.Inside.{editable_with, editable_without, inside_with}
+use Rattle.edit_query.proofs.Hosting.{editable_with, editable_without, inside_with}
 use Rattle.edit_query.proofs.inside.is_editable_inside.Goals as goal
 
 pub is_editable_within-requires-clause-known : goal.is_editable_within-requires-clause-known

@@ -1,4 +1,4 @@
-use Rattle.edit_query.proofs.Inside.{within}
+use Rattle.edit_query.proofs.Hosting.{within}
 use Rattle.edit_query.proofs.inside.is_editable_within.Goals as goal
 
 pub returns-then-inside : goal.returns-then-inside
