@@ -2,12 +2,14 @@
 //! come to be. The steps are those of docs/ALGORITHMS.md.
 
 ghost use Rattle.std.specs.Prelude.{◌≡◌};
+ghost use Rattle.edit_model.specs.Confined.{is_editable_for};
 ghost use Rattle.edit_doc.specs.Held.{Holds};
 ghost use Rattle.block_commands.specs.FormatBlock as format;
 
 use block_extend::{Choice, Link, is_above_prohibited, is_next};
 use dom_model::Name;
 use edit_doc::{Doc, NodeRef};
+use edit_query::is_editable_inside;
 use node_tests::{
     allowed_in_name, has_name, is_break, is_formattable_block, is_non_list_single_line,
     is_single_line,
@@ -41,13 +43,14 @@ impl Choice<Doc> for Formatted {
     }
 }
 
-// Step 3: an editable block with no other block in it.
+// Step 3: a block with no other block in it, if it is editable.
 #[tactic(auto, unfolding(crate::specs::FormatBlock::is_outer_block))]
-fn is_outer_block(doc: &Doc, node: NodeRef) -> bool
-    requires { Holds doc.now node }
+fn is_outer_block(doc: &Doc, editable: bool, node: NodeRef) -> bool
+    requires held { Holds doc.now node }
+    requires told { editable ≡ is_editable_for doc.now.state node.label }
     ensures { result ≡ format.is_outer_block doc.now.state node.label }
 {
-    doc.is_editable_for(node) && is_formattable_block(doc, node) && !is_above_prohibited(doc, node)
+    editable && is_formattable_block(doc, node) && !is_above_prohibited(doc, node)
 }
 
 /// Whether an ancestor of a node is such a block.
@@ -57,11 +60,14 @@ pub(crate) fn has_outer_block(doc: &Doc, node: NodeRef) -> bool
 {
     doc.valid();
     let mut at = doc.parent(node);
+    let mut inside = false;
     while let Some(above) = at {
-        if is_outer_block(doc, above) {
+        let editable = is_editable_inside(doc, inside, above);
+        if is_outer_block(doc, editable, above) {
             return true;
         }
         at = doc.parent(above);
+        inside = editable;
     }
     false
 }

@@ -1,8 +1,10 @@
 -- Going up from a node for the block of its type.
 use Rattle.std.proofs.Common.{◌≡◌, ℕ, ◌<◌, Bool, true, false, not, ◌&&◌, List, Option, Some, None, refl, ap, ◌∙◌}
+use Rattle.std.proofs.lemmas.Bool.{and_parts}
 use Rattle.std.specs.List.{find}
 use Rattle.std.specs.Option.{option_map}
 use Rattle.dom_model.specs.declared.Content.{Content}
+use Rattle.dom_model.specs.Editing.{is_editable}
 use Rattle.dom_model.specs.Forest.{Forest, count_of, parent_of, IsDistinct}
 use Rattle.dom_model.proofs.Parts.{at_label}
 use Rattle.node_styles.specs.Lineage.{Ancestor}
@@ -27,6 +29,11 @@ module _ (f : Forest Content) (host : ℕ) (once : IsDistinct f) (l : ℕ) (here
   pub goes_on : (p : ℕ) → parent_of f l ≡ Some p → goes_up f host l ≡ true → block_at f host l ≡ block_at f host p
   unfolding block_at
   goes_on p up on = let at = at_label f once l here in ap ends_in (lineage-child f once l p at.content up at.content_is) ∙ rw on refl
+
+  -- where it goes on, the parent is editable
+  pub parent_editable : (p : ℕ) → parent_of f l ≡ Some p → goes_up f host l ≡ true → is_editable f host p ≡ true
+  unfolding goes_up
+  parent_editable p up on = (and_parts (not (is_formattable_block f l)) (is_editable f host p) (rw up at on)).1
 
   off_top : parent_of f l ≡ None → goes_up f host l ≡ false
   unfolding goes_up

@@ -1,5 +1,6 @@
 pub mod Lists
 pub mod Scripts
 pub mod Throughout
+pub mod Hosting
 pub mod Climbing
 pub mod Typing

@@ -4,6 +4,7 @@ pub mod Leaves
 pub mod Sought
 pub mod Listed
 pub mod Features
+pub mod Inside
 pub mod BlockTypes
 pub mod ListStates
 pub mod Gathered

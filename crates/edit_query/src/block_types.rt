@@ -1,12 +1,14 @@
 //! The types of nodes: the names of the blocks that they stand in.
 
-ghost use Rattle.std.specs.Prelude.{◌≡◌, not, Some, bytes_eq};
+ghost use Rattle.std.specs.Prelude.{◌≡◌, true, not, Some, bytes_eq};
 ghost use Rattle.dom_model.specs.Forest.{parent_of};
 ghost use Rattle.edit_model.specs.Compositions.{tag_of};
 ghost use Rattle.edit_model.specs.Gives.{labels_of};
 ghost use Rattle.edit_doc.specs.Held.{Holds, EachHeld};
+ghost use Rattle.edit_query.specs.Inside.{is_in_host};
 ghost use Rattle.edit_query.specs.BlockTypes.{goes_up, block_at, is_typed, type_in, type_of, has_other_type, have_other_types};
 
+use crate::inside::is_editable_within;
 use block_extend::is_above_prohibited;
 use dom_model::Content;
 use edit_doc::{Doc, NodeRef};
@@ -15,14 +17,15 @@ use node_tests::{is_editable, is_formattable_block};
 // Whether the parent of a node is editable, and the node is no element with a formattable block
 // name.
 #[tactic(auto, unfolding(crate::specs::BlockTypes::goes_up))]
-fn goes_up(doc: &Doc, host: NodeRef, node: NodeRef, parent: NodeRef) -> bool
+fn goes_up(doc: &Doc, host: NodeRef, node: NodeRef, inside: bool, parent: NodeRef) -> bool
     requires host_held { Holds doc.now host }
     requires node_held { Holds doc.now node }
     requires parent_held { Holds doc.now parent }
     requires above { parent_of doc.now.state.trees node.label ≡ Some parent.label }
+    requires known { inside ≡ true → is_in_host doc.now.state.trees host.label parent.label ≡ true }
     ensures { result ≡ goes_up doc.now.state.trees host.label node.label }
 {
-    !is_formattable_block(doc, node) && is_editable(doc, host, parent)
+    !is_formattable_block(doc, node) && is_editable_within(doc, host, inside, parent)
 }
 
 // Up from a node, for as long as it goes.
@@ -34,11 +37,13 @@ fn block_at(doc: &Doc, host: NodeRef, node: NodeRef) -> NodeRef
 {
     doc.valid();
     let mut at = node;
+    let mut inside = false;
     while let Some(parent) = doc.parent(at) {
-        if !goes_up(doc, host, at, parent) {
+        if !goes_up(doc, host, at, inside, parent) {
             return at;
         }
         at = parent;
+        inside = true;
     }
     at
 }

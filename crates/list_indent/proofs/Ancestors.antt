@@ -1,16 +1,21 @@
 -- A node's ancestors, from the nearest on.
-use Rattle.std.proofs.Common.{◌≡◌, ℕ, ◌<◌, Bool, true, false, ◌||◌, List, [], ◌∷◌, ◌++◌, Option, Some, None, refl, sym, ap, ◌∙◌}
+use Rattle.std.proofs.Common.{◌≡◌, ℕ, ◌<◌, Bool, true, false, ◌||◌, ◌&&◌, not, List, [], ◌∷◌, ◌++◌, Option, Some, None, refl, sym, ap, ◌∙◌}
+use Rattle.std.proofs.lemmas.Bool.{and_parts}
 use Rattle.std.specs.List.{list_any}
 use Rattle.dom_model.specs.declared.Content.{Content}
+use Rattle.dom_model.specs.Contents.{is_element_at}
 use Rattle.dom_model.specs.Forest.{Forest, IsDistinct, count_of, parent_of}
 use Rattle.node_arena.specs.declared.NodeRef.{NodeRef}
+use Rattle.edit_model.specs.State.{State}
+use Rattle.edit_model.specs.Confined.{is_editable_for}
 use Rattle.edit_model.specs.Gives.{label_of, labels_of}
 use Rattle.edit_model.proofs.Steps.{labels_of_push}
 use Rattle.edit_doc.specs.Whole.{Whole, IsDoc}
 use Rattle.edit_doc.specs.Held.{Holds, IfHeld, Finds}
 use Rattle.std.proofs.lemmas.List.{append-nil}
 use Rattle.inline_value.proofs.Above.{from, from_here, height, height_parent}
-use Rattle.list_indent.specs.Outdenting.{climb}
+use Rattle.list_indent.specs.Outdenting.{indents, is_passed, climb}
+use Rattle.list_indent.specs.Sublists.{is_list}
 
 module _ (f : Forest Content) (once : IsDistinct f) (l : ℕ) (here : 0 < count_of f l) (test : ℕ → Bool) where
   -- one that is passed
@@ -30,6 +35,11 @@ pub listed_on : (xs new : List NodeRef) (x : NodeRef) (rest whole : List ℕ) �
 listed_on xs new x rest whole before more = rw more (labels_of_push xs x rest ∙ before)
 
 -- ---- a way up, one turn
+
+-- a node that is passed is editable
+pub passed_editable : (simple : Bool) (s : State) (l : ℕ) → is_passed simple s l ≡ true → is_editable_for s l ≡ true
+unfolding is_passed
+passed_editable simple s l so = (and_parts (is_editable_for s l) (is_element_at s.trees l && (not (indents simple s l) && not (is_list s l))) so).0
 
 module _ (d : Whole) (test : ℕ → Bool) (xs : List NodeRef) (whole : List ℕ × Option ℕ) where
   abbrev at_passed : Option NodeRef → List NodeRef → Type 0

@@ -1,7 +1,8 @@
 //! Outdenting a node. The steps are those of docs/ALGORITHMS.md.
 
-ghost use Rattle.std.specs.Prelude.{◌≡◌, ◌++◌, ◌∷◌, [], IfOk};
+ghost use Rattle.std.specs.Prelude.{◌≡◌, true, ◌++◌, ◌∷◌, [], IfOk};
 ghost use Rattle.html_names.specs.BoxNames.{box_names};
+ghost use Rattle.edit_model.specs.Confined.{is_inside};
 ghost use Rattle.edit_model.specs.Gives.{Gives, label_of, labels_of};
 ghost use Rattle.edit_model.specs.Run.{for_each, unset_attribute};
 ghost use Rattle.edit_doc.specs.Whole.{IsOpen};
@@ -14,6 +15,7 @@ ghost use Rattle.list_indent.specs.Outdenting.{to_div, unindented, indents, is_p
 use crate::levels::part_levels;
 use crate::lists::{is_in_list, is_list};
 use edit_doc::{Doc, EditFault, Name, NodeRef};
+use edit_query::is_editable_inside;
 use html_names::box_names;
 use inline_value::{fix_ancestors, record_values, restore_values, unset_style};
 use node_tests::{is_element, is_indentation, is_simple_indentation};
@@ -99,11 +101,12 @@ fn indents(doc: &Doc, simple: bool, node: NodeRef) -> bool
 
 // Whether an ancestor is passed on the way up.
 #[tactic(auto, unfolding(crate::specs::Outdenting::is_passed))]
-fn is_passed(doc: &Doc, simple: bool, node: NodeRef) -> bool
-    requires { Holds doc.now node }
+fn is_passed(doc: &Doc, simple: bool, inside: bool, node: NodeRef) -> bool
+    requires held { Holds doc.now node }
+    requires known { inside ≡ true → is_inside doc.now.state node.label ≡ true }
     ensures { result ≡ is_passed simple doc.now.state node.label }
 {
-    doc.is_editable_for(node)
+    is_editable_inside(doc, inside, node)
         && is_element(doc, node)
         && !indents(doc, simple, node)
         && !is_list(doc, node)
@@ -128,12 +131,14 @@ fn way_by(alloc: Global, doc: &Doc, simple: bool, node: NodeRef) -> Result<Way, 
     doc.valid();
     let mut passed = Vec::new(alloc);
     let mut at = doc.parent(node);
+    let mut inside = false;
     while let Some(ancestor) = at {
-        if !is_passed(doc, simple, ancestor) {
+        if !is_passed(doc, simple, inside, ancestor) {
             return Ok(Way { passed, next: at });
         }
         passed.push(ancestor)?;
         at = doc.parent(ancestor);
+        inside = true;
     }
     Ok(Way { passed, next: None })
 }

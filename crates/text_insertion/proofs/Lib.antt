@@ -1,2 +1,3 @@
 pub mod Rows
+mod Upward
 pub mod Chars

@@ -1,4 +1,5 @@
-use Rattle.std.proofs.Common.{◌≡◌}
+use Rattle.std.proofs.Common.{◌≡◌, true, IfSome}
+use Rattle.edit_model.specs.Confined.{is_inside}
 use Rattle.edit_model.specs.Gives.{label_of}
 use Rattle.edit_doc.specs.Held.{IfHeld}
 use Rattle.block_commands.specs.FormatBlock.{is_outer_block, has_outer_block}
@@ -9,6 +10,7 @@ use Rattle.block_commands.proofs.lines.has_outer_block.Given as goal
 abbrev pub invariant-loop-at : goal.invariant-loop-at
 invariant-loop-at l = record {
   held : IfHeld l.doc l.at;
+  inside : l.inside ≡ true → IfSome l.at (λ r. is_inside l.doc.state r.label ≡ true);
   same : any_from (is_outer_block l.doc.state) l.doc.state.trees (label_of l.at) ≡ has_outer_block l.doc.state l.fn.node.label;
 }
 

@@ -1,12 +1,18 @@
 use Rattle.std.proofs.Common.{sym, ◌∙◌, arith}
 use Rattle.dom_model.proofs.Within.{depth_of-parent}
-use Rattle.edit_query.proofs.Climbing.{stays, goes_on, ends_on_top}
+use Rattle.edit_query.proofs.Climbing.{stays, goes_on, parent_editable, ends_on_top}
+use Rattle.edit_query.proofs.Hosting.{parent_inside}
 use Rattle.edit_query.proofs.block_types.block_at.Goals as goal
 
 pub loop-parent-smaller : goal.loop-parent-smaller
 loop-parent-smaller c =
     let found = c.in-Some.ensures in
     omega (arith, depth_of-parent c.args.doc.now.state.trees c.loop-parent.at.label c.in-Some.parent.label c.valid.ensures.valid.forest.distinct (sym found.is))
+
+pub goes_up-requires-clause-known : goal.goes_up-requires-clause-known
+goes_up-requires-clause-known c = λ on.
+    let found = c.in-Some.ensures in
+    parent_inside c.args.doc.now.state.trees c.valid.ensures.valid.forest.distinct c.args.host.label c.loop-parent.at.label c.in-Some.parent.label (sym found.is) (c.loop-parent.invariant.editable on)
 
 pub returns-then-not-goes_up-clause-block : goal.returns-then-not-goes_up-clause-block
 returns-then-not-goes_up-clause-block c =
@@ -18,6 +24,7 @@ loop-parent-preserved c =
     let found = c.in-Some.ensures in
     record {
       held = found.held;
+      editable = λ _. parent_editable c.args.doc.now.state.trees c.args.host.label c.valid.ensures.valid.forest.distinct c.loop-parent.at.label c.loop-parent.invariant.held.here c.in-Some.parent.label (sym found.is) (sym c.goes_up.ensures ∙ c.if-not-goes_up.false);
       same =
           sym (goes_on c.args.doc.now.state.trees c.args.host.label c.valid.ensures.valid.forest.distinct c.loop-parent.at.label c.loop-parent.invariant.held.here c.in-Some.parent.label (sym found.is) (sym c.goes_up.ensures ∙ c.if-not-goes_up.false))
           ∙ c.loop-parent.invariant.same;

@@ -1,4 +1,5 @@
-use Rattle.std.proofs.Common.{◌≡◌}
+use Rattle.std.proofs.Common.{◌≡◌, true}
+use Rattle.dom_model.specs.Editing.{is_editable}
 use Rattle.dom_model.specs.Forest.{depth_of}
 use Rattle.edit_doc.specs.Held.{Holds}
 use Rattle.edit_query.specs.BlockTypes.{block_at}
@@ -7,6 +8,7 @@ use Rattle.edit_query.proofs.block_types.block_at.Given as goal
 abbrev pub invariant-loop-parent : goal.invariant-loop-parent
 invariant-loop-parent l = record {
   held : Holds l.doc l.at;
+  editable : l.inside ≡ true → is_editable l.doc.state.trees l.host.label l.at.label ≡ true;
   same : block_at l.doc.state.trees l.host.label l.at.label ≡ block_at l.doc.state.trees l.host.label l.fn.node.label;
 }
 

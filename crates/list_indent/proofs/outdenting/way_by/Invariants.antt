@@ -1,4 +1,5 @@
-use Rattle.std.proofs.Common.{◌≡◌, ◌++◌}
+use Rattle.std.proofs.Common.{◌≡◌, true, ◌++◌, IfSome}
+use Rattle.edit_model.specs.Confined.{is_inside}
 use Rattle.edit_model.specs.Gives.{label_of, labels_of}
 use Rattle.edit_doc.specs.Held.{IfHeld, EachHeld}
 use Rattle.inline_value.specs.Forcing.{ancestors}
@@ -10,6 +11,7 @@ use Rattle.list_indent.proofs.outdenting.way_by.Given as goal
 abbrev pub invariant-loop-at : goal.invariant-loop-at
 invariant-loop-at l = record {
   held : IfHeld l.doc l.at;
+  inside : l.inside ≡ true → IfSome l.at (λ r. is_inside l.doc.state r.label ≡ true);
   each : EachHeld l.doc l.passed.items;
   made : labels_of l.passed.items ++ (climb (is_passed l.fn.simple l.doc.state) (from l.doc.state.trees (label_of l.at))).0 ≡ (climb (is_passed l.fn.simple l.doc.state) (ancestors l.doc.state.trees l.fn.node.label)).0;
   next : (climb (is_passed l.fn.simple l.doc.state) (from l.doc.state.trees (label_of l.at))).1 ≡ (climb (is_passed l.fn.simple l.doc.state) (ancestors l.doc.state.trees l.fn.node.label)).1;
