@@ -1,4 +1,5 @@
 pub mod Turns
+pub mod InLine
 pub mod Absent
 pub mod Counted
 pub mod Rows

@@ -1,5 +1,6 @@
 pub mod Spaces
 pub mod Places
+pub mod InLine
 pub mod Equivalent
 pub mod Whitespace
 pub mod Ends

@@ -1,16 +1,17 @@
 //! Canonicalize whitespace, steps 3 and 4: the blanks from where they begin. The steps are those of
 //! docs/ALGORITHMS.md.
 
-ghost use Rattle.std.specs.Prelude.{◌≡◌, ◌<◌, IfOk};
+ghost use Rattle.std.specs.Prelude.{◌≡◌, ◌<◌, IfOk, true};
 ghost use Rattle.dom_model.specs.Forest.{count_of};
 ghost use Rattle.edit_model.specs.Gives.{Gives};
 ghost use Rattle.edit_doc.specs.Whole.{IsOpen};
 ghost use Rattle.edit_doc.specs.Held.{Keeps};
+ghost use Rattle.delete_core.specs.InLine.{PrecedesNone};
 ghost use Rattle.delete_core.specs.Whitespace.{first_scan, passed, scan_blank, scan_char, scan_turn, scan_blanks};
 
 use crate::blanks::{blank_at, starts_line};
 use crate::spaces::SOFT;
-use crate::stepping::on_step;
+use crate::stepping::{Stand, on_step};
 use edit_doc::{Doc, EditFault, Point};
 use point_order::node_of;
 use std::alloc::AllocError;
@@ -93,14 +94,30 @@ fn scan_char(doc: &mut Doc, fix: bool, scan: Scan) -> Result<Scan, EditFault>
 
 // Step 4: one turn.
 #[tactic(auto, using(edit_model::proofs::Steps::steps, edit_model::proofs::Steps::exits), unfolding(crate::specs::Whitespace::scan_turn))]
-fn scan_turn(doc: &mut Doc, fix: bool, scan: Scan) -> Result<Scan, EditFault>
+fn scan_turn(doc: &mut Doc, fix: bool, scan: Scan, in_line: &mut bool) -> Result<Scan, EditFault>
     requires open { IsOpen doc.old }
+    requires knows { in_line.old ≡ true → PrecedesNone doc.old.state.trees scan.end }
     ensures gives { Gives result doc.old.state doc.new.state (scan_turn fix scan) }
+    ensures knows { IfOk result
+        (λ next. in_line.new ≡ true → PrecedesNone doc.new.state.trees next.end) }
     ensures keeps { Keeps doc.old doc.new }
 {
-    match on_step(doc, scan.end) {
-        Some(end) => Ok(Scan { end, ..scan }),
-        None => scan_char(doc, fix, scan),
+    let stand = Stand {
+        at: scan.end,
+        in_line: *in_line,
+    };
+    match on_step(doc, stand) {
+        Some(next) => {
+            *in_line = next.in_line;
+            Ok(Scan {
+                end: next.at,
+                ..scan
+            })
+        }
+        None => {
+            *in_line = false;
+            scan_char(doc, fix, scan)
+        }
     }
 }
 
@@ -114,11 +131,12 @@ pub(crate) fn scan_blanks(doc: &mut Doc, fix: bool, start: Point) -> Result<Scan
 {
     let mut turns = turn_bound(doc);
     let mut scan = first_scan(doc, start);
+    let mut in_line = false;
     while turns > 0 {
         if !scan.going {
             return Ok(scan);
         }
-        scan = scan_turn(doc, fix, scan)?;
+        scan = scan_turn(doc, fix, scan, &mut in_line)?;
         turns -= 1;
     }
     Ok(scan)
