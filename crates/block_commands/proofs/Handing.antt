@@ -1,5 +1,5 @@
 -- A child that gives itself no alignment has that of its parent.
-use Rattle.std.proofs.Common.{◌≡◌, ℕ, Bool, true, false, cond, ◌||◌, List, [], ◌∷◌, codes, bytes_eq, Option, Some, None, IfSome, refl, sym, ap, subst, ◌∙◌, inl, inr}
+use Rattle.std.proofs.Common.{◌≡◌, ℕ, Bool, true, false, cond, ◌||◌, List, [], ◌∷◌, codes, bytes_eq, Option, Some, None, IfSome, refl, sym, ap, subst, ◌∙◌}
 use Rattle.std.proofs.lemmas.Slice.Eq.{bytes_eq-Decides}
 use Rattle.std.specs.Option.{option_map_or, option_and_then, unwrap_or, is_some}
 use Rattle.dom_model.specs.declared.Content.{Content}
@@ -25,11 +25,11 @@ use Rattle.block_commands.specs.Handed.{AlignsBelow, TakesKnown}
 -- ---- a content that gives itself none
 
 turned : (xs ys : List ℕ) → bytes_eq xs ys ≡ false → bytes_eq ys xs ≡ false
-turned xs ys off =
-    elim (bytes_eq-Decides ys xs) [
-      | inl (_, same) ↦ elim (bytes_eq-Decides xs ys) [ inl (on, _) ↦ absurd (let u : true ≡ false = sym on ∙ off in cc) | inr (_, other) ↦ absurd (other (sym same)) ]
-      | inr (t, _) ↦ t
-    ]
+turned xs ys off = by_value (bytes_eq ys xs) refl
+  where
+    by_value : (v : Bool) → bytes_eq ys xs ≡ v → v ≡ false
+    by_value true is = absurd (let u : true ≡ false = sym ((bytes_eq-Decides xs ys).1 (sym ((bytes_eq-Decides ys xs).0 is))) ∙ off in cc)
+    by_value false is = refl
 
 module _ (c : Content) where
   by_cond : (v : Bool) → cond {A = Option TextAlign} v None None ≡ None
@@ -45,11 +45,10 @@ module _ (c : Content) where
   declared_none style = rw style refl
 
   default_none : is_named (codes "center") c ≡ false → is_named (codes "caption") c ≡ false → is_named (codes "th") c ≡ false → defaulted c property.TextAlign ≡ None
-  unfolding defaulted is_named
+  unfolding defaulted is_named default_of default_text_align text_align_rows value_of
   default_none center caption th = by_name (name_in c) center caption th
     where
       by_name : (o : Option (List ℕ)) → option_map_or (λ own. bytes_eq own (codes "center")) o false ≡ false → option_map_or (λ own. bytes_eq own (codes "caption")) o false ≡ false → option_map_or (λ own. bytes_eq own (codes "th")) o false ≡ false → option_and_then (λ name. default_of name (is_some (attribute c (codes "href"))) property.TextAlign) o ≡ None
-      unfolding default_of default_text_align text_align_rows value_of
       by_name None center caption th = refl
       by_name (Some name) center caption th = rw (turned name (codes "center") center, turned name (codes "caption") caption, turned name (codes "th") th) refl
 
@@ -66,6 +65,10 @@ module _ (f : Forest Content) (once : IsDistinct f) (l p : ℕ) (c : Content) (c
       ap (λ (o : Option Ancestor). unwrap_or (option_and_then (λ k. own_text_align k.content) o) text_align_values.Left)
       (nearest-parent (λ k. is_some (own_text_align k)) f once l c (parent_count f l p once child).0 content p child (ap is_some none))
 
+  by_style : inherited_in own_text_align text_align_values.Left (lineage f l) ≡ text_align f l
+  unfolding text_align nearest
+  by_style = refl
+
   same_own : (v : Bool) → has_own_box c ≡ v → alignment f l ≡ cond v (text_align f p) (alignment f p)
   unfolding alignment
   same_own true own =
@@ -74,10 +77,6 @@ module _ (f : Forest Content) (once : IsDistinct f) (l p : ℕ) (c : Content) (c
       ∙ ap (inherited_in own_text_align text_align_values.Left) (sym (lineage-child f once l p c child content))
       ∙ by_style
       ∙ same_below
-    where
-      by_style : inherited_in own_text_align text_align_values.Left (lineage f l) ≡ text_align f l
-      unfolding text_align nearest
-      by_style = refl
   same_own false own =
       ap (λ ks. inherited_in own_text_align text_align_values.Left (from_nearest has_own_box ks)) (lineage-child f once l p c child content)
       ∙ ap (λ v. inherited_in own_text_align text_align_values.Left (cond v (ancestor l c ∷ lineage f p) (from_nearest has_own_box (lineage f p)))) own

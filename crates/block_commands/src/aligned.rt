@@ -165,6 +165,7 @@ impl Choice<Doc> for Aligning {
 }
 
 // Whether a node gives itself no alignment. Others may give themselves none either.
+#[tactic(auto, using(crate::proofs::Handing::none_given))]
 fn takes_alignment(content: &Content) -> bool
     ensures { result ≡ true → own_text_align content.now ≡ None }
 {
@@ -220,6 +221,7 @@ impl Choice<Doc> for Misaligned {
 
 impl Misaligned {
     // Whether a node is aligned so. Where it takes the alignment of the known one, it is.
+    #[tactic(auto, using(crate::proofs::Handing::handed_on), unfolding(command_value::specs::Alignment::alignment_value))]
     fn is_aligned(&self, doc: &Doc, node: NodeRef, known: &mut Option<NodeRef>) -> bool
         requires node_held { Holds doc.now node }
         requires known { IfSome known.old
@@ -228,13 +230,17 @@ impl Misaligned {
         ensures known { IfSome known.new
             (λ r. AlignsBelow self.now.alignment doc.now.state.trees r.label) }
     {
-        let follows = takes_known(doc, *known, node);
-        if !follows && alignment(doc, node).keyword() != self.alignment.keyword() {
+        doc.valid();
+        if takes_known(doc, *known, node) {
+            if doc.first_child(node).is_some() {
+                *known = Some(node);
+            }
+            return true;
+        }
+        if alignment(doc, node).keyword() != self.alignment.keyword() {
             return false;
         }
-        if doc.first_child(node).is_some()
-            && (follows || text_align(doc, node).keyword() == self.alignment.keyword())
-        {
+        if text_align(doc, node).keyword() == self.alignment.keyword() {
             *known = Some(node);
         }
         true

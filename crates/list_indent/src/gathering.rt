@@ -126,6 +126,7 @@ fn takes_host(content: &Content) -> bool
 }
 
 // Whether a node is the one that is known to be editable, or a child that takes its host.
+#[tactic(auto, using(crate::proofs::Taking::taken_here))]
 fn is_known(doc: &Doc, known: Option<NodeRef>, node: NodeRef) -> bool
     requires node_held { Holds doc.now node }
     requires known { IfSome known (λ r. is_editable_for doc.now.state r.label ≡ true) }
