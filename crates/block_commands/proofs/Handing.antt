@@ -1,5 +1,5 @@
 -- A child that gives itself no alignment has that of its parent.
-use Rattle.std.proofs.Common.{◌≡◌, ℕ, Bool, true, false, cond, ◌||◌, List, [], ◌∷◌, codes, bytes_eq, Option, Some, None, IfSome, refl, sym, ap, subst, ◌∙◌}
+use Rattle.std.proofs.Common.{◌≡◌, ℕ, Bool, true, false, cond, List, ◌∷◌, codes, bytes_eq, Option, Some, None, IfSome, refl, sym, ap, subst, ◌∙◌}
 use Rattle.std.proofs.lemmas.Slice.Eq.{bytes_eq-Decides}
 use Rattle.std.specs.Option.{option_map_or, option_and_then, unwrap_or, is_some}
 use Rattle.dom_model.specs.declared.Content.{Content}
@@ -8,18 +8,17 @@ use Rattle.dom_model.specs.Forest.{Forest, IsDistinct, parent_of, content_of}
 use Rattle.dom_model.proofs.Links.{parent_count}
 use Rattle.css_value.specs.declared.values.TextAlign.{TextAlign}
 use Rattle.css_value.specs.declared.values.TextAlign.TheVariants as text_align_values
-use Rattle.css_value.specs.Values.{text_align_keyword, text_align_of}
+use Rattle.css_value.specs.Values.{text_align_keyword}
 use Rattle.style_table.specs.declared.Property.TheVariants as property
 use Rattle.style_table.specs.DefaultStyles.{default_of, default_text_align, text_align_rows, value_of}
 use Rattle.node_arena.specs.declared.NodeRef.{NodeRef}
 use Rattle.node_styles.specs.Lineage.{Ancestor, lineage, nearest}
-use Rattle.node_styles.specs.OwnStyles.{attribute, is_named, declared, defaulted, align_hint, hinted_alignment, aligned_names, own_text_align}
+use Rattle.node_styles.specs.OwnStyles.{attribute, is_named, declared, defaulted, align_hint, own_text_align}
 use Rattle.node_styles.specs.Resolved.{text_align}
 use Rattle.node_styles.proofs.Lineages.{ancestor, lineage-child, nearest-parent}
 use Rattle.command_value.specs.Alignment.{has_own_box, from_nearest, alignment, alignment_value}
 use Rattle.command_value.specs.EffectiveValues.{inherited_in}
 use Rattle.edit_model.specs.Gives.{label_of}
-use Rattle.edit_query.specs.Listed.{is_aligned}
 use Rattle.block_commands.specs.Handed.{AlignsBelow, TakesKnown}
 
 -- ---- a content that gives itself none

@@ -213,9 +213,7 @@ impl Choice<Doc> for Misaligned {
 
     #[tactic(auto, unfolding(crate::specs::Justify::is_misaligned))]
     fn chooses_next(&self, doc: &Doc, node: NodeRef, known: &mut Option<NodeRef>) -> bool {
-        !self.is_aligned(doc, node, known)
-            && allowed_in_div(doc, node)
-            && doc.is_editable_for(node)
+        !self.is_aligned(doc, node, known) && allowed_in_div(doc, node) && doc.is_editable_for(node)
     }
 }
 
