@@ -3,3 +3,4 @@ pub mod Counting
 mod Looping
 mod ValueNames
 mod Matching
+mod Handing

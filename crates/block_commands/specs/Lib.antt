@@ -2,3 +2,4 @@ pub mod Gathered
 pub mod Series
 pub mod FormatBlock
 pub mod Justify
+pub mod Handed

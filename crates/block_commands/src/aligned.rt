@@ -1,15 +1,19 @@
 //! What aligns, and the div that a list is aligned in.
 
-ghost use Rattle.std.specs.Prelude.{◌≡◌, ◌&&◌, ◌++◌, IfOk, true, false, not, bytes_eq, codes, map, slice_get};
+ghost use Rattle.std.specs.Prelude.{◌≡◌, ◌&&◌, ◌++◌, IfOk, IfSome, None, true, false, not, bytes_eq, codes, map, slice_get};
 ghost use Rattle.std.specs.Char.{to_ascii_lowercase};
 ghost use Rattle.std.specs.List.{list_all};
 ghost use Rattle.std.specs.Option.{option_map_or};
 ghost use Rattle.dom_model.specs.Contents as contents;
 ghost use Rattle.css_value.specs.DeclarationList.{declarations_in};
 ghost use Rattle.css_value.specs.Values.{text_align_keyword};
+ghost use Rattle.node_styles.specs.OwnStyles.{own_text_align};
+ghost use Rattle.edit_model.specs.Gives.{label_of};
 ghost use Rattle.edit_doc.specs.Held.{Holds};
+ghost use Rattle.edit_query.specs.Listed.{is_aligned};
 ghost use Rattle.wrap_split.specs.Target as target;
 ghost use Rattle.wrap_split.specs.declared.rule.Criterion.TheVariants.{Aligned};
+ghost use Rattle.block_commands.specs.Handed.{AlignsBelow, TakesKnown};
 ghost use Rattle.block_commands.specs.Justify as justify;
 
 use block_extend::{Choice, allowed_in_div};
@@ -17,6 +21,7 @@ use command_value::alignment;
 use css_value::{Only, TextAlign, find, sets_only};
 use dom_model::{Attributes, Chars, Content, Name};
 use edit_doc::{Doc, NodeRef};
+use node_styles::{attribute, is_element_named, text_align};
 use node_tests::has_name;
 use std::alloc::{AllocError, Global};
 use wrap_split::{Blank, Meets};
@@ -159,6 +164,32 @@ impl Choice<Doc> for Aligning {
     }
 }
 
+// Whether a node gives itself no alignment. Others may give themselves none either.
+#[tactic(auto, using(crate::proofs::Handing::none_given))]
+fn takes_alignment(content: &Content) -> bool
+    ensures { result ≡ true → own_text_align content.now ≡ None }
+{
+    attribute(content, b"style").is_none()
+        && attribute(content, b"align").is_none()
+        && !is_element_named(content, b"center")
+        && !is_element_named(content, b"caption")
+        && !is_element_named(content, b"th")
+}
+
+// Whether a node is a child of the known one, and takes its alignment.
+fn takes_known(doc: &Doc, known: Option<NodeRef>, node: NodeRef) -> bool
+    requires { Holds doc.now node }
+    ensures { result ≡ true → TakesKnown doc.now.state.trees (label_of known) node.label }
+{
+    doc.valid();
+    match (known, doc.parent(node)) {
+        (Some(known), Some(parent)) => {
+            parent.label == known.label && takes_alignment(doc.content(node))
+        }
+        _ => false,
+    }
+}
+
 /// Justify, step 2: the nodes that are aligned otherwise.
 #[derive(Clone, Copy)]
 pub(crate) struct Misaligned {
@@ -167,15 +198,50 @@ pub(crate) struct Misaligned {
 
 impl Choice<Doc> for Misaligned {
     ghost use Rattle.css_value.specs.Values.{text_align_keyword};
+    ghost use Rattle.block_commands.specs.Handed.{AlignsBelow};
     ghost use Rattle.block_commands.specs.Justify.{is_misaligned};
 
     ghost chosen = { λ s d l. is_misaligned (text_align_keyword s.alignment) d.state l };
 
-    #[tactic(auto, unfolding(crate::specs::Justify::is_misaligned, command_value::specs::Alignment::alignment_value))]
+    // that it is aligned so, and what takes its alignment
+    ghost knows = { λ s d r. AlignsBelow s.alignment d.state.trees r.label };
+
     fn chooses(&self, doc: &Doc, node: NodeRef) -> bool {
-        alignment(doc, node).keyword() != self.alignment.keyword()
-            && allowed_in_div(doc, node)
-            && doc.is_editable_for(node)
+        let mut known = None;
+        self.chooses_next(doc, node, &mut known)
+    }
+
+    #[tactic(auto, unfolding(crate::specs::Justify::is_misaligned))]
+    fn chooses_next(&self, doc: &Doc, node: NodeRef, known: &mut Option<NodeRef>) -> bool {
+        !self.is_aligned(doc, node, known) && allowed_in_div(doc, node) && doc.is_editable_for(node)
+    }
+}
+
+impl Misaligned {
+    // Whether a node is aligned so. Where it takes the alignment of the known one, it is.
+    #[tactic(auto, using(crate::proofs::Handing::handed_on), unfolding(command_value::specs::Alignment::alignment_value))]
+    fn is_aligned(&self, doc: &Doc, node: NodeRef, known: &mut Option<NodeRef>) -> bool
+        requires node_held { Holds doc.now node }
+        requires known { IfSome known.old
+            (λ r. AlignsBelow self.now.alignment doc.now.state.trees r.label) }
+        ensures aligned { result ≡ is_aligned doc.now.state.trees self.now.alignment node.label }
+        ensures known { IfSome known.new
+            (λ r. AlignsBelow self.now.alignment doc.now.state.trees r.label) }
+    {
+        doc.valid();
+        if takes_known(doc, *known, node) {
+            if doc.first_child(node).is_some() {
+                *known = Some(node);
+            }
+            return true;
+        }
+        if alignment(doc, node).keyword() != self.alignment.keyword() {
+            return false;
+        }
+        if text_align(doc, node).keyword() == self.alignment.keyword() {
+            *known = Some(node);
+        }
+        true
     }
 }
 

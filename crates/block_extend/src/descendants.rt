@@ -41,16 +41,24 @@ pub fn has_descendant<N: Nodes, C: Choice<N>>(nodes: &N, node: NodeRef, choice: 
     has_onward(nodes, nodes.first_child(node), choice)
 }
 
-/// Whether the first child of a node passes a test, so that a descendant passes.
+/// Whether the first child of a node passes a test, so that a descendant passes. `known` is that of
+/// [`Choice::chooses_next`].
 #[tactic(auto, unfolding(crate::specs::Descendants::has_descendant))]
-pub fn begins_with<N: Nodes, C: Choice<N>>(nodes: &N, node: NodeRef, choice: &C) -> bool
-    requires { N.holds nodes.now node }
-    ensures { result ≡ true
+pub fn begins_with<N: Nodes, C: Choice<N>>(
+    nodes: &N,
+    node: NodeRef,
+    choice: &C,
+    known: &mut Option<NodeRef>,
+) -> bool
+    requires held { N.holds nodes.now node }
+    requires known { IfSome known.old (C.knows choice.now nodes.now) }
+    ensures below { result ≡ true
         → has_descendant (C.chosen choice.now nodes.now) (N.trees nodes.now) node.label ≡ true }
+    ensures known { IfSome known.new (C.knows choice.now nodes.now) }
 {
     nodes.valid();
     match nodes.first_child(node) {
-        Some(child) => choice.chooses(nodes, child),
+        Some(child) => choice.chooses_next(nodes, child, known),
         None => false,
     }
 }

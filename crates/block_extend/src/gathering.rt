@@ -1,6 +1,6 @@
 //! The outermost nodes of a list.
 
-ghost use Rattle.std.specs.Prelude.{◌≡◌, ◌<◌, IfOk, filter, map};
+ghost use Rattle.std.specs.Prelude.{◌≡◌, ◌<◌, IfOk, IfSome, filter, map};
 ghost use Rattle.std.specs.List.{All};
 ghost use Rattle.std.specs.Option.{option_map};
 ghost use Rattle.dom_model.specs.Forest.{count_of, is_label, IsWithin};
@@ -19,14 +19,29 @@ use std::alloc::{AllocError, Global};
 /// A test of the nodes that are to be gathered.
 pub trait Choice<N: Nodes> {
     ghost use Rattle.std.specs.Prelude.{ℕ, Bool};
+    ghost use Rattle.node_arena.specs.declared.NodeRef.{NodeRef};
 
     // which nodes pass, by their labels
     ghost chosen: { Self → N → ℕ → Bool };
+
+    // what is known of the node that is kept from one test to the next
+    ghost knows: { Self → N → NodeRef → Type 0 } = { λ _ _ _. Unit {0} };
 
     /// Whether a node passes.
     fn chooses(&self, nodes: &N, node: NodeRef) -> bool
         requires { N.holds nodes.now node }
         ensures { result ≡ chosen self.now nodes.now node.label };
+
+    /// Whether a node passes, where nodes are tested in tree order. What was found of the node in
+    /// `known` may spare a walk, and another node may be put there.
+    fn chooses_next(&self, nodes: &N, node: NodeRef, known: &mut Option<NodeRef>) -> bool
+        requires held { N.holds nodes.now node }
+        requires known { IfSome known.old (knows self.now nodes.now) }
+        ensures chosen { result ≡ chosen self.now nodes.now node.label }
+        ensures known { IfSome known.new (knows self.now nodes.now) }
+    {
+        self.chooses(nodes, node)
+    }
 }
 
 // Whether a node is the one that may be there.
@@ -111,10 +126,11 @@ fn gather<N: Nodes, C: Choice<N>>(
     nodes.valid();
     let mut kept = Vec::new(alloc);
     let mut last = None;
+    let mut known = None;
     for node in list {
         if is_below(nodes, last, *node) {
             last = with_inside(last, *node);
-        } else if choice.chooses(nodes, *node) {
+        } else if choice.chooses_next(nodes, *node, &mut known) {
             kept.push(*node)?;
             last = Some(Taken {
                 top: *node,

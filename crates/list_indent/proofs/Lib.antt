@@ -5,3 +5,4 @@ pub mod Keeping
 pub mod Series
 pub mod Items
 pub mod Names
+pub mod Taking

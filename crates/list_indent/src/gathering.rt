@@ -1,15 +1,18 @@
 //! The items around the active range, and the nodes of the block-extended range that indent and
 //! outdent go over.
 
-ghost use Rattle.std.specs.Prelude.{◌≡◌, ◌++◌, ◌∷◌, [], OnOk, IfOk, not, codes, filter};
+ghost use Rattle.std.specs.Prelude.{◌≡◌, ◌++◌, ◌∷◌, [], OnOk, IfOk, IfSome, true, not, codes, filter};
 ghost use Rattle.dom_model.specs.Contents.{has_name};
 ghost use Rattle.point_order.specs.PointOrder.{is_within};
+ghost use Rattle.edit_model.specs.Confined.{is_editable_for};
 ghost use Rattle.edit_model.specs.Gives.{labels_of};
 ghost use Rattle.edit_doc.specs.Held.{Holds, EachHeld};
+ghost use Rattle.list_indent.specs.Gaps.{TakesHost};
 ghost use Rattle.list_indent.specs.Commands.{items_over, range_items, has_editable_below};
 
 use crate::lists::{is_in_list, is_item, is_list};
 use block_extend::{Choice, allowed_in_div, begins_with, has_descendant};
+use dom_model::Content;
 use edit_actions::ends_of;
 use edit_doc::{Doc, NodeRef};
 use node_tests::{allowed_in_name, is_within};
@@ -109,17 +112,62 @@ impl Choice<Doc> for Indentable {
     }
 }
 
+// Whether an element takes its host from its parent, whatever that is.
+fn takes_host(content: &Content) -> bool
+    ensures { result ≡ true → TakesHost content.now }
+{
+    match content {
+        Content::Element {
+            name: _,
+            attributes,
+        } => attributes.get(b"contenteditable").is_none(),
+        _ => false,
+    }
+}
+
+// Whether a node is the one that is known to be editable, or a child that takes its host.
+#[tactic(auto, using(crate::proofs::Taking::taken_here))]
+fn is_known(doc: &Doc, known: Option<NodeRef>, node: NodeRef) -> bool
+    requires node_held { Holds doc.now node }
+    requires known { IfSome known (λ r. is_editable_for doc.now.state r.label ≡ true) }
+    ensures { result ≡ true → is_editable_for doc.now.state node.label ≡ true }
+{
+    doc.valid();
+    let Some(known) = known else {
+        return false;
+    };
+    if known.label == node.label {
+        return true;
+    }
+    match doc.parent(node) {
+        Some(parent) => parent.label == known.label && takes_host(doc.content(node)),
+        None => false,
+    }
+}
+
 // The editable nodes.
 #[derive(Clone, Copy)]
 struct Editable;
 
 impl Choice<Doc> for Editable {
+    ghost use Rattle.std.specs.Prelude.{◌≡◌, true};
     ghost use Rattle.edit_model.specs.Confined.{is_editable_for};
 
     ghost chosen = { λ s d l. is_editable_for d.state l };
 
+    // that it is editable
+    ghost knows = { λ s d r. is_editable_for d.state r.label ≡ true };
+
     fn chooses(&self, doc: &Doc, node: NodeRef) -> bool {
         doc.is_editable_for(node)
+    }
+
+    fn chooses_next(&self, doc: &Doc, node: NodeRef, known: &mut Option<NodeRef>) -> bool {
+        if !is_known(doc, *known, node) && !doc.is_editable_for(node) {
+            return false;
+        }
+        *known = Some(node);
+        true
     }
 }
 
@@ -137,17 +185,27 @@ pub fn has_editable_below(doc: &Doc, node: NodeRef) -> bool
 pub(crate) struct Outdentable;
 
 impl Choice<Doc> for Outdentable {
+    ghost use Rattle.std.specs.Prelude.{◌≡◌, true};
+    ghost use Rattle.edit_model.specs.Confined.{is_editable_for};
     ghost use Rattle.list_indent.specs.Commands.{is_outdentable};
 
     ghost chosen = { λ s d l. is_outdentable d.state l };
 
-    #[tactic(auto, unfolding(crate::specs::Commands::has_editable_below, crate::specs::Commands::is_outdentable))]
+    // that it is editable
+    ghost knows = { λ s d r. is_editable_for d.state r.label ≡ true };
+
     fn chooses(&self, doc: &Doc, node: NodeRef) -> bool {
+        let mut known = None;
+        self.chooses_next(doc, node, &mut known)
+    }
+
+    #[tactic(auto, unfolding(crate::specs::Commands::has_editable_below, crate::specs::Commands::is_outdentable))]
+    fn chooses_next(&self, doc: &Doc, node: NodeRef, known: &mut Option<NodeRef>) -> bool {
         if is_list(doc, node) || (is_item(doc, node) && is_in_list(doc, node)) {
-            return doc.is_editable_for(node);
+            return Editable.chooses_next(doc, node, known);
         }
-        !begins_with(doc, node, &Editable)
-            && doc.is_editable_for(node)
+        !begins_with(doc, node, &Editable, known)
+            && Editable.chooses_next(doc, node, known)
             && !has_editable_below(doc, node)
     }
 }

@@ -1,0 +1,99 @@
+-- A child that gives itself no alignment has that of its parent.
+use Rattle.std.proofs.Common.{◌≡◌, ℕ, Bool, true, false, cond, List, ◌∷◌, codes, bytes_eq, Option, Some, None, IfSome, refl, sym, ap, subst, ◌∙◌}
+use Rattle.std.proofs.lemmas.Slice.Eq.{bytes_eq-Decides}
+use Rattle.std.specs.Option.{option_map_or, option_and_then, unwrap_or, is_some}
+use Rattle.dom_model.specs.declared.Content.{Content}
+use Rattle.dom_model.specs.Contents.{name_in}
+use Rattle.dom_model.specs.Forest.{Forest, IsDistinct, parent_of, content_of}
+use Rattle.dom_model.proofs.Links.{parent_count}
+use Rattle.css_value.specs.declared.values.TextAlign.{TextAlign}
+use Rattle.css_value.specs.declared.values.TextAlign.TheVariants as text_align_values
+use Rattle.css_value.specs.Values.{text_align_keyword}
+use Rattle.style_table.specs.declared.Property.TheVariants as property
+use Rattle.style_table.specs.DefaultStyles.{default_of, default_text_align, text_align_rows, value_of}
+use Rattle.node_arena.specs.declared.NodeRef.{NodeRef}
+use Rattle.node_styles.specs.Lineage.{Ancestor, lineage, nearest}
+use Rattle.node_styles.specs.OwnStyles.{attribute, is_named, declared, defaulted, align_hint, own_text_align}
+use Rattle.node_styles.specs.Resolved.{text_align}
+use Rattle.node_styles.proofs.Lineages.{ancestor, lineage-child, nearest-parent}
+use Rattle.command_value.specs.Alignment.{has_own_box, from_nearest, alignment, alignment_value}
+use Rattle.command_value.specs.EffectiveValues.{inherited_in}
+use Rattle.edit_model.specs.Gives.{label_of}
+use Rattle.block_commands.specs.Handed.{AlignsBelow, TakesKnown}
+
+-- ---- a content that gives itself none
+
+turned : (xs ys : List ℕ) → bytes_eq xs ys ≡ false → bytes_eq ys xs ≡ false
+turned xs ys off = by_value (bytes_eq ys xs) refl
+  where
+    by_value : (v : Bool) → bytes_eq ys xs ≡ v → v ≡ false
+    by_value true is = absurd (let u : true ≡ false = sym ((bytes_eq-Decides xs ys).1 (sym ((bytes_eq-Decides ys xs).0 is))) ∙ off in cc)
+    by_value false is = refl
+
+module _ (c : Content) where
+  by_cond : (v : Bool) → cond {A = Option TextAlign} v None None ≡ None
+  by_cond true = refl
+  by_cond false = refl
+
+  hint_none : attribute c (codes "align") ≡ None → align_hint c ≡ None
+  unfolding align_hint
+  hint_none align = rw align (by_cond _)
+
+  declared_none : attribute c (codes "style") ≡ None → declared c (codes "text-align") ≡ None
+  unfolding declared
+  declared_none style = rw style refl
+
+  default_none : is_named (codes "center") c ≡ false → is_named (codes "caption") c ≡ false → is_named (codes "th") c ≡ false → defaulted c property.TextAlign ≡ None
+  unfolding defaulted is_named default_of default_text_align text_align_rows value_of
+  default_none center caption th = by_name (name_in c) center caption th
+    where
+      by_name : (o : Option (List ℕ)) → option_map_or (λ own. bytes_eq own (codes "center")) o false ≡ false → option_map_or (λ own. bytes_eq own (codes "caption")) o false ≡ false → option_map_or (λ own. bytes_eq own (codes "th")) o false ≡ false → option_and_then (λ name. default_of name (is_some (attribute c (codes "href"))) property.TextAlign) o ≡ None
+      by_name None center caption th = refl
+      by_name (Some name) center caption th = rw (turned name (codes "center") center, turned name (codes "caption") caption, turned name (codes "th") th) refl
+
+  pub none_given : attribute c (codes "style") ≡ None → attribute c (codes "align") ≡ None → is_named (codes "center") c ≡ false → is_named (codes "caption") c ≡ false → is_named (codes "th") c ≡ false → own_text_align c ≡ None
+  unfolding own_text_align
+  none_given style align center caption th = rw (declared_none style, hint_none align, default_none center caption th) refl
+
+-- ---- a child of a known node
+
+module _ (f : Forest Content) (once : IsDistinct f) (l p : ℕ) (c : Content) (child : parent_of f l ≡ Some p) (content : content_of f l ≡ Some c) (none : own_text_align c ≡ None) where
+  same_below : text_align f l ≡ text_align f p
+  unfolding text_align
+  same_below =
+      ap (λ (o : Option Ancestor). unwrap_or (option_and_then (λ k. own_text_align k.content) o) text_align_values.Left)
+      (nearest-parent (λ k. is_some (own_text_align k)) f once l c (parent_count f l p once child).0 content p child (ap is_some none))
+
+  by_style : inherited_in own_text_align text_align_values.Left (lineage f l) ≡ text_align f l
+  unfolding text_align nearest
+  by_style = refl
+
+  same_own : (v : Bool) → has_own_box c ≡ v → alignment f l ≡ cond v (text_align f p) (alignment f p)
+  unfolding alignment
+  same_own true own =
+      ap (λ ks. inherited_in own_text_align text_align_values.Left (from_nearest has_own_box ks)) (lineage-child f once l p c child content)
+      ∙ ap (λ v. inherited_in own_text_align text_align_values.Left (cond v (ancestor l c ∷ lineage f p) (from_nearest has_own_box (lineage f p)))) own
+      ∙ ap (inherited_in own_text_align text_align_values.Left) (sym (lineage-child f once l p c child content))
+      ∙ by_style
+      ∙ same_below
+  same_own false own =
+      ap (λ ks. inherited_in own_text_align text_align_values.Left (from_nearest has_own_box ks)) (lineage-child f once l p c child content)
+      ∙ ap (λ v. inherited_in own_text_align text_align_values.Left (cond v (ancestor l c ∷ lineage f p) (from_nearest has_own_box (lineage f p)))) own
+
+  handed : (a : TextAlign) → AlignsBelow a f p → AlignsBelow a f l
+  unfolding alignment_value
+  handed a h = record {
+    own = by_box (has_own_box c) refl;
+    below = ap (λ t. bytes_eq (text_align_keyword t) (text_align_keyword a)) same_below ∙ h.below;
+  }
+    where
+      by_box : (v : Bool) → has_own_box c ≡ v → bytes_eq (text_align_keyword (alignment f l)) (text_align_keyword a) ≡ true
+      by_box true own = ap (λ t. bytes_eq (text_align_keyword t) (text_align_keyword a)) (same_own true own) ∙ h.below
+      by_box false own = ap (λ t. bytes_eq (text_align_keyword t) (text_align_keyword a)) (same_own false own) ∙ h.own
+
+-- so does a child that takes the alignment of the known node
+pub handed_on : (f : Forest Content) → IsDistinct f → (l : ℕ) (a : TextAlign) (known : Option NodeRef) → IfSome known (λ r. AlignsBelow a f r.label) → TakesKnown f (label_of known) l → AlignsBelow a f l
+handed_on f once l a None below takes = absurd (let u : None ≡ Some takes.parent = takes.same in cc)
+handed_on f once l a (Some r) below takes =
+    let same : r.label ≡ takes.parent = (let u : Some r.label ≡ Some takes.parent = takes.same in cc) in
+    handed f once l takes.parent takes.content takes.child takes.is takes.none a (subst (AlignsBelow a f) same below)
