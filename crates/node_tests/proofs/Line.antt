@@ -12,7 +12,7 @@ use Rattle.dom_model.proofs.Within.{within_self}
 use Rattle.live_range.specs.declared.places.Point.{Point}
 use Rattle.node_arena.specs.declared.NodeRef.{NodeRef}
 use Rattle.node_arena.specs.Held.{label}
-use Rattle.node_arena.specs.Reads.{IsValid, Names}
+use Rattle.node_arena.specs.Reads.{Names}
 use Rattle.point_order.specs.PointOrder.{child_toward, is_within}
 use Rattle.node_tests.specs.declared.listing.Lines.{Lines}
 use Rattle.node_tests.specs.declared.listing.Reach.{Reach}

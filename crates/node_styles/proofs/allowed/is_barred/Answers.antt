@@ -1,4 +1,4 @@
-use Rattle.std.proofs.Common.{◌≡◌, Bool, false, ◌||◌, ◌&&◌, sym, ap, ◌∙◌, codes}
+use Rattle.std.proofs.Common.{◌≡◌, Bool, false, ◌||◌, ◌&&◌, sym, ap, ◌∙◌}
 use Rattle.std.specs.Str.{bytes_eq}
 use Rattle.node_styles.specs.Allowed.{is_barred}
 use Rattle.node_styles.specs.Lineage.{has_in_lineage}

@@ -1,4 +1,4 @@
-use Rattle.std.proofs.Common.{◌≡◌, ℕ, true, Option, Some, None, refl, sym, ap, ◌∙◌, arith, is_none}
+use Rattle.std.proofs.Common.{◌≡◌, ℕ, true, Some, refl, sym, ap, ◌∙◌, arith, is_none}
 use Rattle.dom_model.specs.Forest.{first_of, last_of, tree_of}
 use Rattle.dom_model.proofs.Neighbours.{parent_of-first}
 use Rattle.node_arena.specs.Held.{label}
