@@ -1,6 +1,6 @@
 -- What a walk over whitespace knows where it stands: a node there is known to follow no line break,
 -- or to precede none (HTML Editing APIs, "follows a line break", "precedes a line break").
-use Rattle.std.specs.Prelude.{◌≡◌, ◌⊎◌, ℕ, false, Option, Some}
+use Rattle.std.specs.Prelude.{◌≡◌, ◌⊎◌, ℕ, false, Some}
 use Rattle.dom_model.specs.declared.Content.{Content}
 use Rattle.dom_model.specs.Forest.{Forest}
 use Rattle.live_range.specs.declared.places.Point.{Point}
