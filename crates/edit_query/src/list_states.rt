@@ -13,6 +13,7 @@ ghost use Rattle.edit_query.specs.ListStates as lists;
 use block_extend::{Choice, allowed_in_item, block_extend, gather_in, has_descendant};
 use edit_actions::ends_of;
 use edit_doc::{Doc, NodeList, NodeRef, Pair, Point};
+use node_arena::Nodes;
 use node_tests::{editing_host, has_name, is_indentation};
 use std::alloc::{AllocError, Global};
 
@@ -93,11 +94,17 @@ fn is_in_any_list(doc: &Doc, node: NodeRef) -> bool
     }
 }
 
-// Whether a node is editable with this host.
+// Whether a node is editable with this host. Mostly that is its parent, and needn't be looked for.
 fn is_editable_with(doc: &Doc, host: NodeRef, node: NodeRef) -> bool
     requires { Holds doc.now node }
     ensures { result ≡ is_editable doc.now.state.trees host.label node.label }
 {
+    doc.valid();
+    if let Some(parent) = doc.parent(node) {
+        if parent.label == host.label {
+            return doc.is_editable(parent, node);
+        }
+    }
     match editing_host(doc, node) {
         Some(own) => own.label == host.label,
         None => false,
