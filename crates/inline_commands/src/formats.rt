@@ -112,7 +112,7 @@ pub fn remove_format(alloc: Global, doc: &mut Doc) -> Result<bool, EditFault>
 {
     let candidates = candidates_in_range(alloc, doc)?; // step 1
     unwrap_each(doc, &candidates)?;
-    split_ends(alloc, doc)?; // step 2
+    split_ends(doc)?; // step 2
     let nodes = editable_in_range(alloc, doc)?; // step 3
     part_each(alloc, doc, &nodes)?;
     clear_each(alloc, doc, &CLEARED)?; // step 4
