@@ -11,8 +11,6 @@ use Rattle.node_styles.specs.Lineage.{nearest_label}
 use Rattle.node_styles.specs.OwnStyles.{is_named}
 use Rattle.node_tests.specs.BlockPoints.{is_block_start, is_block_end, is_block_boundary}
 use Rattle.node_styles.specs.TurnBound.{turn_bound}
-use Rattle.block_extend.specs.declared.places.Way.{Way}
-use Rattle.block_extend.specs.declared.places.Way.TheVariants.{Back, OutBefore, Forth, OutAfter}
 
 -- ---- steps from place to place
 
@@ -42,18 +40,13 @@ out_before f at = if at.offset == 0 then out_of f at.label 0 else None
 unfoldable pub out_after : Forest Content → Point → Option Point
 out_after f at = if nat_lt at.offset (length_of f at.label) then None else out_of f at.label 1
 
-abbrev pub step : Way → Forest Content → Point → Option Point
-step Back f at = back f at
-step OutBefore f at = out_before f at
-step Forth f at = forth f at
-step OutAfter f at = out_after f at
+-- where steps back and forth stop: at a block boundary point
+abbrev pub is_boundary : Forest Content → Point → Bool
+is_boundary f at = is_block_boundary f at.label at.offset
 
--- steps back and forth stop where they come to a block boundary point
-abbrev pub stops : Way → Forest Content → Point → Bool
-stops Back f at = is_block_boundary f at.label at.offset
-stops OutBefore f at = false
-stops Forth f at = is_block_boundary f at.label at.offset
-stops OutAfter f at = false
+-- steps out of nodes stop nowhere
+abbrev pub nowhere : Forest Content → Point → Bool
+nowhere f at = false
 
 abbrev pub led : Option Point → Point → (Point → Point) → Point
 led None at on = at
@@ -61,10 +54,10 @@ led (Some next) at on = on next
 
 -- from a place on, as long as a step leads on, until it comes to a place where steps stop; at most
 -- so many turns
-unfoldable pub walk : Way → Forest Content → ℕ → Point → Point
-walk way f zero at = at
-walk way f (suc n) at =
-    led (step way f at) at λ next. if stops way f next then next else walk way f n next
+unfoldable pub walk : (Point → Option Point) → (Point → Bool) → ℕ → Point → Point
+walk step stops zero at = at
+walk step stops (suc n) at =
+    led (step at) at λ next. if stops next then next else walk step stops n next
 
 -- ---- the two ends
 
@@ -76,19 +69,22 @@ out_of_item f places at = unwrap_or (option_and_then (λ l. out_of f l places)
 -- block-extend, step 2: back to a block boundary point, but from a block start point
 unfoldable pub to_block_start : Forest Content → Point → Point
 to_block_start f at =
-    if is_block_start f at.label at.offset then at else walk Back f (turn_bound f) at
+    if is_block_start f at.label at.offset then at
+    else walk (back f) (is_boundary f) (turn_bound f) at
 
 -- block-extend, step 3: out of each node whose start it is
 unfoldable pub to_outer_start : Forest Content → Point → Point
-to_outer_start f at = walk OutBefore f (turn_bound f) at
+to_outer_start f at = walk (out_before f) (nowhere f) (turn_bound f) at
 
 -- block-extend, step 5: on to a block boundary point, but from a block end point
 unfoldable pub to_block_end : Forest Content → Point → Point
-to_block_end f at = if is_block_end f at.label at.offset then at else walk Forth f (turn_bound f) at
+to_block_end f at =
+    if is_block_end f at.label at.offset then at
+    else walk (forth f) (is_boundary f) (turn_bound f) at
 
 -- block-extend, step 6: out of each node whose end it is
 unfoldable pub to_outer_end : Forest Content → Point → Point
-to_outer_end f at = walk OutAfter f (turn_bound f) at
+to_outer_end f at = walk (out_after f) (nowhere f) (turn_bound f) at
 
 -- block-extend, steps 1 to 3
 unfoldable pub extended_start : Forest Content → Point → Point

@@ -9,7 +9,10 @@ use Rattle.node_arena.specs.declared.NodeRef.{NodeRef}
 use Rattle.node_arena.specs.Reads.{Names}
 use Rattle.point_order.specs.PointOrder.{is_ancestor}
 use Rattle.node_tests.specs.BlockPoints.{child_before, child_at}
+use Rattle.block_extend.specs.BlockExtend.{back, forth, out_before, out_after, is_boundary, nowhere}
 use Rattle.block_extend.specs.declared.places.Place.{Place}
+use Rattle.block_extend.specs.declared.places.Way.{Way}
+use Rattle.block_extend.specs.declared.places.Way.TheVariants.{Back, OutBefore, Forth, OutAfter}
 use Rattle.block_extend.specs.declared.gathering.Taken.{Taken}
 
 abbrev pub point_of : Place → Point
@@ -38,3 +41,16 @@ top_of last = option_map (λ t. t.top.label) last
 -- a node that was taken, and one of its tree
 abbrev pub IsTaken : (NodeRef → Type 0) → Forest Content → Option Taken → Type 0
 IsTaken holds f last = IfSome last (λ t. holds t.top × IsWithin f t.top.label t.inside.label)
+
+-- the step of a walk by its way, and where it stops
+abbrev pub step : Way → Forest Content → Point → Option Point
+step Back = back
+step OutBefore = out_before
+step Forth = forth
+step OutAfter = out_after
+
+abbrev pub stops : Way → Forest Content → Point → Bool
+stops Back = is_boundary
+stops OutBefore = nowhere
+stops Forth = is_boundary
+stops OutAfter = nowhere

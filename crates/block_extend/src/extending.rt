@@ -40,8 +40,8 @@ fn walk<N: Nodes>(nodes: &N, way: Way, start: Place, known: Option<Place>) -> Pl
     requires known { IfSome known (Stands (N.holds nodes.now) (N.trees nodes.now)) }
     ensures stands { Stands (N.holds nodes.now) (N.trees nodes.now) result }
     ensures place { gaps.point_of result
-        ≡ extend.walk way (N.trees nodes.now) (turn_bound (N.trees nodes.now))
-        (gaps.point_of start) }
+        ≡ extend.walk (gaps.step way (N.trees nodes.now)) (gaps.stops way (N.trees nodes.now))
+        (turn_bound (N.trees nodes.now)) (gaps.point_of start) }
 {
     let mut left = turn_bound(nodes);
     let mut at = start;

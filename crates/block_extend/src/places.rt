@@ -243,7 +243,7 @@ pub(crate) fn step<N: Nodes>(nodes: &N, way: Way, at: Place, known: Option<Place
     requires stands { Stands (N.holds nodes.now) (N.trees nodes.now) at }
     requires known { IfSome known (Stands (N.holds nodes.now) (N.trees nodes.now)) }
     ensures { Leads (N.holds nodes.now) (N.trees nodes.now) result
-        (extend.step way (N.trees nodes.now) (gaps.point_of at)) }
+        (gaps.step way (N.trees nodes.now) (gaps.point_of at)) }
 {
     match way {
         Way::Back => back(nodes, at),
@@ -283,7 +283,7 @@ fn is_boundary<N: Nodes>(nodes: &N, at: Place) -> bool
 /// Whether a walk stops where it comes to a place.
 pub(crate) fn stops<N: Nodes>(nodes: &N, way: Way, at: Place) -> bool
     requires { Stands (N.holds nodes.now) (N.trees nodes.now) at }
-    ensures { result ≡ extend.stops way (N.trees nodes.now) (gaps.point_of at) }
+    ensures { result ≡ gaps.stops way (N.trees nodes.now) (gaps.point_of at) }
 {
     match way {
         Way::Back | Way::Forth => is_boundary(nodes, at),

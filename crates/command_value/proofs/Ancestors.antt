@@ -1,23 +1,18 @@
--- The lineage of a node, step by step: its element, and its length.
-use Rattle.std.proofs.Common.{◌≡◌, ℕ, suc, ◌+◌, ◌<◌, ◌≤◌, Bool, true, false, cond, List, [], ◌∷◌, length, Option, Some, None, refl, sym, ap, subst, ◌∙◌, inl, inr, arith, eqb}
+-- The lineage of a node, step by step: its length.
+use Rattle.std.proofs.Common.{◌≡◌, ℕ, suc, ◌+◌, ◌<◌, ◌≤◌, cond, List, [], ◌∷◌, length, Option, Some, None, sym, ap, subst, ◌∙◌, refl, inl, inr, arith, eqb}
 use Rattle.std.proofs.lemmas.Bool.Decides.{eqb_tells}
-use Rattle.std.specs.Option.{option_map, option_map_or, option_or, unwrap_or}
+use Rattle.std.specs.Option.{option_map, option_or, unwrap_or}
 use Rattle.dom_model.specs.declared.Content.{Content}
-use Rattle.dom_model.specs.Contents.{is_element, is_element_at}
 use Rattle.dom_model.specs.Document.{node_count}
 use Rattle.dom_model.specs.Forest.{Forest, Seen, total, count_of, IsDistinct, IsWithin, parent_of, content_of}
 use Rattle.dom_model.specs.Forest.Forest.{Nil, Tree}
-use Rattle.dom_model.proofs.Links.{seen, parent_count}
+use Rattle.dom_model.proofs.Links.{seen}
 use Rattle.dom_model.proofs.Walks.{document_first}
 use Rattle.node_arena.specs.declared.NodeRef.{NodeRef}
-use Rattle.node_arena.specs.Reads.{IsValid, Names, label}
+use Rattle.node_arena.specs.Reads.{IsValid}
 use Rattle.node_styles.specs.Lineage.{Ancestor, lineage_from, lineage}
 use Rattle.node_styles.proofs.Lineages.{ancestor, lineage-root, lineage-child}
-use Rattle.node_styles.specs.TurnBound.{turn_bound}
-use Rattle.html_names.specs.declared.commands.Command.{Command}
-use Rattle.command_value.specs.Subjects.{subject}
-use Rattle.command_value.specs.EffectiveValues.{element_line, from_element, if_any, value_in, effective}
-use Rattle.command_value.specs.Lines.{lineage_of, if_element, element_above}
+use Rattle.command_value.specs.Lines.{lineage_of}
 
 -- ---- its length
 
@@ -81,59 +76,3 @@ module _ {holds : NodeRef → Type 0} {f : Forest Content} {upper : ℕ} (law : 
   lineage_within l within =
       let first = document_first f law.distinct law.rising law.document law.root in
       subst (λ g. IsDistinct g → IsWithin g 0 l → length (lineage g l) ≤ node_count g) (sym first.3) (in_tree first.0 first.1 first.2 l) law.distinct within
-
-  -- ---- its steps
-
-  pub step : (r : NodeRef) → holds r → (c : Content) × (content_of f r.label ≡ Some c) × (lineage f r.label ≡ ancestor r.label c ∷ lineage_of f (parent_of f r.label))
-  step r held = step_at f law.distinct r.label (law.here r held)
-
-  element_content : (r : NodeRef) (c : Content) (b : Bool) → content_of f r.label ≡ Some c → is_element_at f r.label ≡ b → is_element c ≡ b
-  element_content r c b content is = sym (ap (λ (o : Option Content). option_map_or is_element o false) content) ∙ is
-
-  -- an element's own lineage begins with an element
-  pub at_element : (r : NodeRef) → holds r → is_element_at f r.label ≡ true → lineage f r.label ≡ element_line (lineage f r.label)
-  unfolding element_line
-  at_element r held is =
-      let s = step r held in
-      sym (ap element_line s.2 ∙ ap (λ b. cond b (ancestor r.label s.0 ∷ lineage_of f (parent_of f r.label)) (from_element (lineage_of f (parent_of f r.label)))) (element_content r s.0 true s.1 is) ∙ sym s.2)
-
-  -- that of another node by its parent's
-  pub at_other : (r : NodeRef) → holds r → is_element_at f r.label ≡ false → element_line (lineage f r.label) ≡ from_element (lineage_of f (parent_of f r.label))
-  unfolding element_line
-  at_other r held is =
-      let s = step r held in
-      ap element_line s.2 ∙ ap (λ b. cond b (ancestor r.label s.0 ∷ lineage_of f (parent_of f r.label)) (from_element (lineage_of f (parent_of f r.label)))) (element_content r s.0 false s.1 is)
-
-  from_it : (p : ℕ) → 0 < count_of f p → is_element_at f p ≡ true → from_element (lineage f p) ≡ lineage f p
-  from_it p here is =
-      let s = step_at f law.distinct p here in
-      ap from_element s.2 ∙ ap (λ b. cond b (ancestor p s.0 ∷ lineage_of f (parent_of f p)) []) (sym (ap (λ (o : Option Content). option_map_or is_element o false) s.1) ∙ is) ∙ sym s.2
-
-  from_none : (p : ℕ) → 0 < count_of f p → is_element_at f p ≡ false → from_element (lineage f p) ≡ []
-  from_none p here is =
-      let s = step_at f law.distinct p here in
-      ap from_element s.2 ∙ ap (λ b. cond b (ancestor p s.0 ∷ lineage_of f (parent_of f p)) []) (sym (ap (λ (o : Option Content). option_map_or is_element o false) s.1) ∙ is)
-
-  -- ---- of a node that is no element: from the parent on, where that is one
-  pub at_above : (r : NodeRef) (o : Option NodeRef) → holds r → is_element_at f r.label ≡ false → Names holds o (element_above f r.label) → lineage_of f (label o) ≡ element_line (lineage f r.label)
-  at_above r o held is named =
-      ap (lineage_of f) named.is ∙ by_parent (parent_of f r.label) refl ∙ sym (at_other r held is)
-    where
-      by_parent : (q : Option ℕ) → parent_of f r.label ≡ q → lineage_of f (if_element f q) ≡ from_element (lineage_of f q)
-      by_parent None e = refl
-      by_parent (Some p) e = by_element (is_element_at f p) refl
-        where
-          by_element : (b : Bool) → is_element_at f p ≡ b → lineage_of f (cond b (Some p) None) ≡ from_element (lineage f p)
-          by_element true t = sym (from_it p (parent_count f r.label p law.distinct e).1 t)
-          by_element false t = sym (from_none p (parent_count f r.label p law.distinct e).1 t)
-
-  -- ---- the value by it
-  pub value_some : (l : ℕ) (k : Command) (e : NodeRef) → holds e → lineage f e.label ≡ element_line (lineage f l) → effective f l k ≡ value_in (turn_bound f) (subject k) (lineage f e.label)
-  unfolding effective
-  value_some l k e held is =
-      let s = step e held in
-      ap (if_any (value_in (turn_bound f) (subject k))) (sym is ∙ s.2) ∙ ap (value_in (turn_bound f) (subject k)) (sym s.2)
-
-  pub value_none : (l : ℕ) (k : Command) → [] ≡ element_line (lineage f l) → effective f l k ≡ None
-  unfolding effective
-  value_none l k is = ap (if_any (value_in (turn_bound f) (subject k))) (sym is)

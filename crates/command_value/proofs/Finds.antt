@@ -10,18 +10,18 @@ use Rattle.node_styles.specs.Blocks.{is_block_content}
 use Rattle.node_styles.specs.Lineage.{Ancestor, lineage, nearest}
 use Rattle.node_styles.specs.OwnStyles.{attribute, is_named}
 use Rattle.node_styles.specs.Traits.{IsNearest}
-use Rattle.command_value.specs.EffectiveValues.{is_link, link_in, inline_part}
+use Rattle.command_value.specs.EffectiveValues.{is_link, link_at, inline_part}
 use Rattle.command_value.specs.Lines.{is_inline_end}
 
 module _ (holds : NodeRef → Type 0) (f : Forest Content) (l : ℕ) where
-  pub link_found : (r : NodeRef) (c : Content) → IsNearest is_link holds f l r → content_of f r.label ≡ Some c → attribute c (codes "href") ≡ link_in (lineage f l)
-  unfolding nearest link_in
+  pub link_found : (r : NodeRef) (c : Content) → IsNearest is_link holds f l r → content_of f r.label ≡ Some c → attribute c (codes "href") ≡ link_at f l
+  unfolding link_at
   link_found r c found at =
       let same : found.content ≡ c = (let t : Some found.content ≡ Some c = sym found.at ∙ at in cc) in
       sym (ap (λ (o : Option Ancestor). option_and_then (λ k. attribute k.content (codes "href")) o) found.is ∙ ap (λ d. attribute d (codes "href")) same)
 
-  pub link_none : nearest is_link f l ≡ None → None ≡ link_in (lineage f l)
-  unfolding nearest link_in
+  pub link_none : nearest is_link f l ≡ None → None ≡ link_at f l
+  unfolding link_at
   link_none none = sym (ap (λ (o : Option Ancestor). option_and_then (λ k. attribute k.content (codes "href")) o) none)
 
 -- the first that ends the inline part is of the name exactly where it is no block

@@ -1,5 +1,4 @@
 mod Ancestors
 mod Finds
 mod Grounds
-mod Boxes
 mod Shown

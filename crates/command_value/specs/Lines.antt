@@ -1,9 +1,8 @@
 -- What the code of command values has between: the lineage of a node that may not be there, where
 -- its inline part ends, and the names of weights. No public clause cites this module.
-use Rattle.std.specs.Prelude.{ℕ, ◌==◌, Bool, ◌&&◌, ◌||◌, bytes_eq, codes, if◌then◌else◌, List, [], Option, Some, None}
+use Rattle.std.specs.Prelude.{ℕ, ◌==◌, Bool, ◌&&◌, ◌||◌, bytes_eq, codes, List, [], Option, Some, None}
 use Rattle.dom_model.specs.declared.Content.{Content}
-use Rattle.dom_model.specs.Contents.{is_element_at}
-use Rattle.dom_model.specs.Forest.{Forest, parent_of}
+use Rattle.dom_model.specs.Forest.{Forest}
 use Rattle.node_styles.specs.Blocks.{is_block_content}
 use Rattle.node_styles.specs.Lineage.{Ancestor, lineage}
 use Rattle.node_styles.specs.OwnStyles.{is_named}
@@ -11,13 +10,6 @@ use Rattle.node_styles.specs.OwnStyles.{is_named}
 abbrev pub lineage_of : Forest Content → Option ℕ → List Ancestor
 lineage_of f None = []
 lineage_of f (Some l) = lineage f l
-
-abbrev pub if_element : Forest Content → Option ℕ → Option ℕ
-if_element f None = None
-if_element f (Some l) = if is_element_at f l then Some l else None
-
-abbrev pub element_above : Forest Content → ℕ → Option ℕ
-element_above f l = if_element f (parent_of f l)
 
 abbrev pub is_inline_end : List ℕ → Content → Bool
 is_inline_end name c = is_named name c || is_block_content c

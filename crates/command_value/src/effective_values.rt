@@ -1,16 +1,15 @@
 //! Effective command values.
 
-ghost use Rattle.std.specs.Prelude.{◌≡◌, IfOk, IfSome};
+ghost use Rattle.std.specs.Prelude.{◌≡◌, IfOk};
 ghost use Rattle.std.specs.List.{list_any};
 ghost use Rattle.std.specs.Option.{option_copied};
-ghost use Rattle.dom_model.specs.Contents.{is_element_at};
-ghost use Rattle.node_arena.specs.Reads.{Names, label};
-ghost use Rattle.node_styles.specs.Lineage.{lineage};
+ghost use Rattle.node_arena.specs.Reads.{Names};
+ghost use Rattle.node_styles.specs.Lineage.{lineage, has_in_lineage};
 ghost use Rattle.node_styles.specs.OwnStyles.{is_named};
 ghost use Rattle.node_styles.specs.Resolved.{font_family};
 ghost use Rattle.node_styles.specs.TurnBound.{turn_bound};
 ghost use Rattle.command_value.specs.EffectiveValues as effective;
-ghost use Rattle.command_value.specs.Lines.{lineage_of, element_above, is_inline_end};
+ghost use Rattle.command_value.specs.Lines.{is_inline_end};
 ghost use Rattle.command_value.specs.ValueTexts.{value_text};
 
 use crate::specified_values::line_chars;
@@ -82,11 +81,11 @@ impl Test for LineTest {
 }
 
 // The node where it is an element, else its parent where that is one.
+#[tactic(auto, unfolding(crate::specs::EffectiveValues::element_of))]
 pub(crate) fn element_of<N: Nodes>(nodes: &N, node: NodeRef) -> Option<NodeRef>
     requires { N.holds nodes.now node }
-    ensures held { IfSome result (λ element. N.holds nodes.now element) }
-    ensures line { lineage_of (N.trees nodes.now) (label result)
-        ≡ effective.element_line (lineage (N.trees nodes.now) node.label) }
+    ensures { Names (N.holds nodes.now) result
+        (effective.element_of (N.trees nodes.now) node.label) }
 {
     nodes.valid();
     if is_element(nodes, node) {
@@ -99,7 +98,7 @@ pub(crate) fn element_of<N: Nodes>(nodes: &N, node: NodeRef) -> Option<NodeRef>
 // The href of the nearest a that has one.
 pub(crate) fn link_value<N: Nodes>(nodes: &N, element: NodeRef) -> Option<&[char]>
     requires { N.holds nodes.now element }
-    ensures { option_copied result ≡ effective.link_in (lineage (N.trees nodes.now) element.label) }
+    ensures { option_copied result ≡ effective.link_at (N.trees nodes.now) element.label }
 {
     match nearest(nodes, element, &LinkTest) {
         Some(link) => attribute(nodes.content(link), b"href"),
@@ -111,9 +110,8 @@ pub(crate) fn link_value<N: Nodes>(nodes: &N, element: NodeRef) -> Option<&[char
 // that many, so only outside it do the nodes and characters of the document have to be counted.
 fn turns<N: Nodes>(nodes: &N, node: NodeRef) -> u128
     requires { N.holds nodes.now node }
-    ensures { effective.background_in result (lineage (N.trees nodes.now) node.label)
-        ≡ effective.background_in (turn_bound (N.trees nodes.now))
-        (lineage (N.trees nodes.now) node.label) }
+    ensures { effective.background_at result (N.trees nodes.now) node.label
+        ≡ effective.background_at (turn_bound (N.trees nodes.now)) (N.trees nodes.now) node.label }
 {
     nodes.valid();
     if nodes.is_within(nodes.document(), node) {
@@ -126,7 +124,7 @@ fn turns<N: Nodes>(nodes: &N, node: NodeRef) -> u128
 // The parent, where it is an element.
 fn parent_element<N: Nodes>(nodes: &N, node: NodeRef) -> Option<NodeRef>
     requires { N.holds nodes.now node }
-    ensures { Names (N.holds nodes.now) result (element_above (N.trees nodes.now) node.label) }
+    ensures { Names (N.holds nodes.now) result (effective.element_above (N.trees nodes.now) node.label) }
 {
     let parent = nodes.parent(node)?;
     if is_element(nodes, parent) {
@@ -139,8 +137,8 @@ fn parent_element<N: Nodes>(nodes: &N, node: NodeRef) -> Option<NodeRef>
 // The background that shows behind an element, as far as its ancestors are elements.
 pub(crate) fn background_value<N: Nodes>(nodes: &N, element: NodeRef) -> Colour
     requires { N.holds nodes.now element }
-    ensures { result ≡ effective.background_in (turn_bound (N.trees nodes.now))
-        (lineage (N.trees nodes.now) element.label) }
+    ensures { result ≡ effective.background_at (turn_bound (N.trees nodes.now))
+        (N.trees nodes.now) element.label }
 {
     nodes.valid();
     let mut left = turns(nodes, element);
@@ -172,11 +170,10 @@ pub(crate) fn is_among_inline<N: Nodes>(nodes: &N, element: NodeRef, name: &'sta
     }
 }
 
-#[tactic(auto, unfolding(crate::specs::EffectiveValues::script_in))]
+#[tactic(auto, unfolding(crate::specs::EffectiveValues::script_at))]
 pub(crate) fn script_value<N: Nodes>(nodes: &N, element: NodeRef) -> Option<&[char]>
     requires { N.holds nodes.now element }
-    ensures { option_copied result
-        ≡ effective.script_in (lineage (N.trees nodes.now) element.label) }
+    ensures { option_copied result ≡ effective.script_at (N.trees nodes.now) element.label }
 {
     let is_sub = is_among_inline(nodes, element, b"sub");
     let is_sup = is_among_inline(nodes, element, b"sup");
@@ -189,25 +186,22 @@ pub(crate) fn script_value<N: Nodes>(nodes: &N, element: NodeRef) -> Option<&[ch
 }
 
 // Whether an element or an ancestor of it draws a line.
-#[tactic(auto, unfolding(node_styles::specs::Lineage::has_in_lineage))]
 pub(crate) fn draws_line<N: Nodes>(nodes: &N, element: NodeRef, line: DecorationLine) -> bool
     requires { N.holds nodes.now element }
     ensures { result
-        ≡ list_any (λ k.
-        effective.draws line k.content) (lineage (N.trees nodes.now) element.label) }
+        ≡ has_in_lineage (effective.draws line) (N.trees nodes.now) element.label }
 {
     has_in_lineage(nodes, element, &LineTest { line })
 }
 
-#[tactic(auto, unfolding(crate::specs::EffectiveValues::line_in))]
+#[tactic(auto, unfolding(crate::specs::EffectiveValues::line_at))]
 pub(crate) fn line_value<N: Nodes>(
     nodes: &N,
     element: NodeRef,
     line: DecorationLine,
 ) -> Option<&[char]>
     requires { N.holds nodes.now element }
-    ensures { option_copied result
-        ≡ effective.line_in line (lineage (N.trees nodes.now) element.label) }
+    ensures { option_copied result ≡ effective.line_at line (N.trees nodes.now) element.label }
 {
     if draws_line(nodes, element, line) {
         Some(line_chars(line))
@@ -237,11 +231,9 @@ pub(crate) fn value_if(text: Option<&[char]>) -> Value<'_>
 }
 
 // The value of a subject at an element.
-#[tactic(auto, unfolding(node_styles::specs::Resolved::font_weight, node_styles::specs::Resolved::font_style, node_styles::specs::Resolved::font_size, node_styles::specs::Resolved::font_family, node_styles::specs::Resolved::color, node_styles::specs::Lineage::nearest))]
 pub(crate) fn element_value<N: Nodes>(nodes: &N, element: NodeRef, subject: Subject) -> Value<'_>
     requires { N.holds nodes.now element }
-    ensures { value_text result ≡ effective.value_in (turn_bound (N.trees nodes.now)) subject
-        (lineage (N.trees nodes.now) element.label) }
+    ensures { value_text result ≡ effective.value_at (N.trees nodes.now) element.label subject }
 {
     match subject {
         Subject::Link => value_if(link_value(nodes, element)),

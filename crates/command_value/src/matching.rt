@@ -7,8 +7,6 @@ ghost use Rattle.css_value.specs.Values.{font_style_keyword, pixels_text};
 ghost use Rattle.html_names.specs.ActivatedValues.{activated_values};
 ghost use Rattle.html_names.specs.ElementNames.{is_one_of};
 ghost use Rattle.html_names.specs.declared.commands.Command.TheVariants as command;
-ghost use Rattle.node_styles.specs.Lineage.{lineage};
-ghost use Rattle.node_styles.specs.TurnBound.{turn_bound};
 ghost use Rattle.command_value.specs.EffectiveValues as effective;
 ghost use Rattle.command_value.specs.Equivalence as equivalence;
 ghost use Rattle.command_value.specs.Lines.{is_heavy, is_named_weight};
@@ -50,12 +48,11 @@ fn is_slanted(slant: FontStyle) -> bool
 }
 
 // Whether a command counts as on at an element.
-#[tactic(auto, using(crate::proofs::Shown::under_on, crate::proofs::Shown::through_on, crate::proofs::Shown::sub_on, crate::proofs::Shown::sup_on), unfolding(crate::specs::EffectiveValues::script_in, node_styles::specs::Resolved::font_weight, node_styles::specs::Resolved::font_style, node_styles::specs::Resolved::font_size, node_styles::specs::Resolved::font_family, node_styles::specs::Resolved::color, node_styles::specs::Lineage::nearest))]
+#[tactic(auto, using(crate::proofs::Shown::under_on, crate::proofs::Shown::through_on, crate::proofs::Shown::sub_on, crate::proofs::Shown::sup_on), unfolding(crate::specs::EffectiveValues::script_at))]
 fn is_on<N: Nodes>(nodes: &N, element: NodeRef, command: Command) -> bool
     requires { N.holds nodes.now element }
     ensures { result ≡ option_map_or (is_one_of (activated_values command))
-        (effective.value_in (turn_bound (N.trees nodes.now)) (subject command)
-        (lineage (N.trees nodes.now) element.label)) Bool.false }
+        (effective.value_at (N.trees nodes.now) element.label (subject command)) Bool.false }
 {
     match command {
         Command::Bold => is_bold_weight(font_weight(nodes, element)),
@@ -158,12 +155,11 @@ fn is_alike_text(command: Command, value: Option<&[char]>, text: &[char]) -> boo
 }
 
 // Whether the effective value of an element is alike to a text.
-#[tactic(auto, using(crate::proofs::Shown::under_on, crate::proofs::Shown::through_on, crate::proofs::Shown::sub_on, crate::proofs::Shown::sup_on), unfolding(crate::specs::EffectiveValues::script_in, node_styles::specs::Resolved::font_weight, node_styles::specs::Resolved::font_style, node_styles::specs::Resolved::font_size, node_styles::specs::Resolved::font_family, node_styles::specs::Resolved::color, node_styles::specs::Lineage::nearest))]
+#[tactic(auto, using(crate::proofs::Shown::under_on, crate::proofs::Shown::through_on, crate::proofs::Shown::sub_on, crate::proofs::Shown::sup_on), unfolding(crate::specs::EffectiveValues::script_at))]
 fn is_alike<N: Nodes>(nodes: &N, element: NodeRef, command: Command, text: &[char]) -> bool
     requires { N.holds nodes.now element }
     ensures { result ≡ option_map_or (λ own. equivalence.are_alike command own text.now)
-        (effective.value_in (turn_bound (N.trees nodes.now)) (subject command)
-        (lineage (N.trees nodes.now) element.label)) Bool.false }
+        (effective.value_at (N.trees nodes.now) element.label (subject command)) Bool.false }
 {
     match command {
         Command::Bold => is_alike_weight(font_weight(nodes, element), text),

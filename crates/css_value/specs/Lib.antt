@@ -2,8 +2,8 @@ pub mod StyleText
 pub mod DeclarationList
 pub mod DeclarationMap
 pub mod OnlyGroup
+pub mod SizeKeywords
 pub mod Numbers
 pub mod Colours
 pub mod Values
 pub mod TextDecoration
-pub mod SizeKeywords

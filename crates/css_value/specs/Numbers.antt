@@ -1,7 +1,8 @@
 -- Decimal numbers without leading zeros, and sizes of fonts.
-use Rattle.std.specs.Prelude.{ℕ, ◌+◌, ◌-◌, ◌*◌, ◌==◌, nat_lt, nat_le, Bool, true, false, not, ◌&&◌, if◌then◌else◌, List, [], ◌∷◌, Option, Some, None, fold}
+use Rattle.std.specs.Prelude.{ℕ, ◌+◌, ◌-◌, ◌*◌, ◌==◌, nat_le, Bool, true, false, not, ◌&&◌, if◌then◌else◌, List, [], ◌∷◌, Option, Some, None, fold}
 use Rattle.std.specs.Char.{is_ascii_digit}
 use Rattle.std.specs.List.{list_all}
+use Rattle.css_value.specs.SizeKeywords.{smallest, larger, of_pixels}
 
 -- the number with one digit more
 abbrev pub with_digit : ℕ → ℕ → ℕ
@@ -23,14 +24,6 @@ number_up_to most text =
     if is_trim text && list_all is_ascii_digit text && nat_le (decimal text) most then
     Some (decimal text) else None
 
--- the legacy sizes 1 to 7 stand for these pixels; a size belongs to the first that it is nearer to
--- than to the next, and to the next at the middle
+-- the one of the sizes 1 to 7 that pixels are nearest to
 unfoldable pub legacy_size : ℕ → ℕ
-legacy_size px =
-    if nat_lt (2 * px) (10 + 13) then 1
-    else (if nat_lt (2 * px) (13 + 16) then 2
-    else (if nat_lt (2 * px) (16 + 18) then 3
-    else (if nat_lt (2 * px) (18 + 24) then 4
-    else (if nat_lt (2 * px) (24 + 32) then 5
-    else (if nat_lt (2 * px) (32 + 48) then 6
-    else 7)))))
+legacy_size px = of_pixels smallest larger px

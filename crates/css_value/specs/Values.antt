@@ -3,6 +3,7 @@
 use Rattle.std.specs.Prelude.{ℕ, ◌-◌, ◌==◌, Bool, ◌||◌, if◌then◌else◌, List, [], ◌∷◌, ◌++◌, Option, Some, None, bytes_eq, codes, decimal, length, take, drop}
 use Rattle.std.specs.List.{list_any}
 use Rattle.css_value.specs.Numbers.{number_up_to}
+use Rattle.css_value.specs.SizeKeywords.{smallest, larger, of_keyword}
 use Rattle.css_value.specs.declared.values.Display.{Display}
 use Rattle.css_value.specs.declared.values.Display.TheVariants as display
 use Rattle.css_value.specs.declared.values.WhiteSpace.{WhiteSpace}
@@ -95,16 +96,9 @@ font_weight_of text =
     else (if bytes_eq (codes "900") text then Some 900
     else None))))))))
 
+-- the pixels of a keyword
 abbrev pub keyword_size : List ℕ → Option ℕ
-keyword_size text =
-    if bytes_eq (codes "x-small") text then Some 10
-    else (if bytes_eq (codes "small") text then Some 13
-    else (if bytes_eq (codes "medium") text then Some 16
-    else (if bytes_eq (codes "large") text then Some 18
-    else (if bytes_eq (codes "x-large") text then Some 24
-    else (if bytes_eq (codes "xx-large") text then Some 32
-    else (if bytes_eq (codes "xxx-large") text then Some 48
-    else None))))))
+keyword_size text = of_keyword (λ r. r.pixels) (smallest ∷ larger) text
 
 -- a size in pixels as `Npx`
 unfoldable pub pixels_text : ℕ → List ℕ

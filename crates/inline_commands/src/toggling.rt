@@ -6,7 +6,7 @@ ghost use Rattle.std.specs.Option.{option_copied};
 ghost use Rattle.edit_model.specs.Gives.{Gives};
 ghost use Rattle.edit_doc.specs.Held.{Keeps};
 ghost use Rattle.edit_doc.specs.Whole.{IsOpen};
-ghost use Rattle.inline_commands.specs.Toggling.{style_on, style_off, script_on, set_toggled, toggle_style, set_unless, set_script, toggle_script};
+ghost use Rattle.inline_commands.specs.Toggling.{style_on, style_off, script_on, toggle_style, toggle_script};
 
 use edit_doc::{Doc, EditFault};
 use edit_query::query_state;
@@ -39,38 +39,23 @@ fn style_off(command: Command) -> Option<&'static [char]>
     }
 }
 
-// Toggle a style, steps 1 and 2.
-#[tactic(auto, using(edit_model::proofs::Steps::steps, edit_model::proofs::Steps::exits), unfolding(crate::specs::Toggling::set_toggled))]
-fn set_toggled(
-    alloc: Global,
-    doc: &mut Doc,
-    command: Command,
-    on: &[char],
-) -> Result<bool, EditFault>
+/// The commands bold, italic, underline and strikethrough: turned off where the command's state is
+/// true, else turned on. It answers true, and false to any other command.
+#[tactic(auto, using(edit_model::proofs::Steps::steps, edit_model::proofs::Steps::exits), unfolding(crate::specs::Toggling::toggle_style, crate::specs::Toggling::set_toggled))]
+pub fn toggle_style(alloc: Global, doc: &mut Doc, command: Command) -> Result<bool, EditFault>
     requires open { IsOpen doc.old }
-    ensures gives { Gives result doc.old.state doc.new.state (set_toggled command on.now) }
+    ensures gives { Gives result doc.old.state doc.new.state (toggle_style command) }
     ensures keeps { Keeps doc.old doc.new }
 {
+    let Some(on) = style_on(command) else {
+        return Ok(false);
+    };
     if query_state(alloc, doc, doc.host(), command)? {
         set_value(alloc, doc, style_off(command), command)?;
     } else {
         set_value(alloc, doc, Some(on), command)?;
     }
     Ok(true)
-}
-
-/// The commands bold, italic, underline and strikethrough: turned off where the command's state is
-/// true, else turned on. It answers true, and false to any other command.
-#[tactic(auto, using(edit_model::proofs::Steps::steps, edit_model::proofs::Steps::exits), unfolding(crate::specs::Toggling::toggle_style))]
-pub fn toggle_style(alloc: Global, doc: &mut Doc, command: Command) -> Result<bool, EditFault>
-    requires open { IsOpen doc.old }
-    ensures gives { Gives result doc.old.state doc.new.state (toggle_style command) }
-    ensures keeps { Keeps doc.old doc.new }
-{
-    match style_on(command) {
-        Some(on) => set_toggled(alloc, doc, command, on),
-        None => Ok(false),
-    }
 }
 
 // The value that turns the command on: of subscript and superscript.
@@ -84,53 +69,21 @@ fn script_on(command: Command) -> Option<&'static [char]>
     }
 }
 
-// Toggle a script, step 3.
-#[tactic(auto, using(edit_model::proofs::Steps::steps, edit_model::proofs::Steps::exits), unfolding(crate::specs::Toggling::set_unless))]
-fn set_unless(
-    alloc: Global,
-    doc: &mut Doc,
-    state: bool,
-    command: Command,
-    on: &[char],
-) -> Result<(), EditFault>
-    requires open { IsOpen doc.old }
-    ensures gives { Gives result doc.old.state doc.new.state (set_unless state command on.now) }
-    ensures keeps { Keeps doc.old doc.new }
-{
-    if state {
-        return Ok(());
-    }
-    set_value(alloc, doc, Some(on), command)
-}
-
-// Toggle a script, steps 1 to 3.
-#[tactic(auto, using(edit_model::proofs::Steps::steps, edit_model::proofs::Steps::exits), unfolding(crate::specs::Toggling::set_script))]
-fn set_script(
-    alloc: Global,
-    doc: &mut Doc,
-    command: Command,
-    on: &[char],
-) -> Result<bool, EditFault>
-    requires open { IsOpen doc.old }
-    ensures gives { Gives result doc.old.state doc.new.state (set_script command on.now) }
-    ensures keeps { Keeps doc.old doc.new }
-{
-    let state = query_state(alloc, doc, doc.host(), command)?; // step 1
-    set_value(alloc, doc, None, command)?; // step 2
-    set_unless(alloc, doc, state, command, on)?; // step 3
-    Ok(true)
-}
-
 /// The commands subscript and superscript: turned off, and then on where the command's state was
 /// false. It answers true, and false to any other command.
-#[tactic(auto, using(edit_model::proofs::Steps::steps, edit_model::proofs::Steps::exits), unfolding(crate::specs::Toggling::toggle_script))]
+#[tactic(auto, using(edit_model::proofs::Steps::steps, edit_model::proofs::Steps::exits), unfolding(crate::specs::Toggling::toggle_script, crate::specs::Toggling::set_script, crate::specs::Toggling::set_unless))]
 pub fn toggle_script(alloc: Global, doc: &mut Doc, command: Command) -> Result<bool, EditFault>
     requires open { IsOpen doc.old }
     ensures gives { Gives result doc.old.state doc.new.state (toggle_script command) }
     ensures keeps { Keeps doc.old doc.new }
 {
-    match script_on(command) {
-        Some(on) => set_script(alloc, doc, command, on),
-        None => Ok(false),
+    let Some(on) = script_on(command) else {
+        return Ok(false);
+    };
+    let state = query_state(alloc, doc, doc.host(), command)?; // step 1
+    set_value(alloc, doc, None, command)?; // step 2
+    if !state {
+        set_value(alloc, doc, Some(on), command)?; // step 3
     }
+    Ok(true)
 }

@@ -9,3 +9,4 @@ pub mod Records
 pub mod Ancestors
 pub mod Overrides
 pub mod Selections
+pub mod Gaps

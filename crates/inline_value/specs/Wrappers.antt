@@ -3,6 +3,7 @@ use Rattle.std.specs.Prelude.{ℕ, ◌+◌, ◌/◌, ◌%◌, ◌==◌, nat_lt, 
 use Rattle.std.specs.Option.{option_and_then}
 use Rattle.css_value.specs.declared.colours.Colour.{Colour}
 use Rattle.css_value.specs.Colours.{colour_of}
+use Rattle.css_value.specs.SizeKeywords.{smallest, larger, of_keyword}
 use Rattle.html_names.specs.declared.commands.Command.{Command}
 use Rattle.html_names.specs.declared.commands.Command.TheVariants as command
 use Rattle.wrap_split.specs.declared.rule.Blank.{Blank}
@@ -17,15 +18,7 @@ with_attribute name attribute value =
 
 -- which of the sizes 1 to 7 a keyword names
 unfoldable pub size_of_keyword : List ℕ → Option ℕ
-size_of_keyword v =
-    if bytes_eq (codes "x-small") v then Some 1
-    else (if bytes_eq (codes "small") v then Some 2
-    else (if bytes_eq (codes "medium") v then Some 3
-    else (if bytes_eq (codes "large") v then Some 4
-    else (if bytes_eq (codes "x-large") v then Some 5
-    else (if bytes_eq (codes "xx-large") v then Some 6
-    else (if bytes_eq (codes "xxx-large") v then Some 7
-    else None))))))
+size_of_keyword v = of_keyword (λ r. r.number) (smallest ∷ larger) v
 
 -- ---- colours as `#rrggbb`
 

@@ -3,10 +3,10 @@
 ghost use Rattle.std.specs.Prelude.{◌≡◌, IfOk, [], Some};
 ghost use Rattle.std.specs.Option.{option_copied};
 ghost use Rattle.command_value.specs.Subjects.{subject};
-ghost use Rattle.edit_model.specs.Gives.{Gives, GivesNode, label_of, labels_of};
+ghost use Rattle.edit_model.specs.Gives.{Gives, GivesNode, labels_of};
 ghost use Rattle.edit_model.specs.Run.{for_each};
 ghost use Rattle.edit_doc.specs.Whole.{IsOpen};
-ghost use Rattle.edit_doc.specs.Held.{Holds, EachHeld, IfHeld, Keeps};
+ghost use Rattle.edit_doc.specs.Held.{Holds, EachHeld, Keeps};
 ghost use Rattle.inline_value.specs.Forcing as spec;
 
 use crate::clearing::property_name;
@@ -40,67 +40,8 @@ pub(crate) fn has_alike(doc: &Doc, value: Option<&[char]>, node: NodeRef, comman
     has_alike_value(doc, node, command, value)
 }
 
-// Force the value, step 2: reorders what may be there.
-#[tactic(auto, using(edit_model::proofs::Steps::steps, edit_model::proofs::Steps::exits))]
-fn reorder_at(
-    alloc: Global,
-    doc: &mut Doc,
-    value: &[char],
-    at: Option<NodeRef>,
-    command: Command,
-) -> Result<(), EditFault>
-    requires open { IsOpen doc.old }
-    requires at_held { IfHeld doc.old at }
-    ensures gives { Gives result doc.old.state doc.new.state
-        (spec.reorder_at command value.now (label_of at)) }
-    ensures keeps { Keeps doc.old doc.new }
-{
-    match at {
-        Some(node) => reorder(alloc, doc, node, value, command),
-        None => Ok(()),
-    }
-}
-
-// Force the value, step 2: the previous sibling.
-#[tactic(auto, using(edit_model::proofs::Steps::steps, edit_model::proofs::Steps::exits), unfolding(crate::specs::Forcing::reorder_prev))]
-fn reorder_prev(
-    alloc: Global,
-    doc: &mut Doc,
-    value: &[char],
-    node: NodeRef,
-    command: Command,
-) -> Result<(), EditFault>
-    requires open { IsOpen doc.old }
-    requires node_held { Holds doc.old node }
-    ensures gives { Gives result doc.old.state doc.new.state
-        (spec.reorder_prev command value.now node.label) }
-    ensures keeps { Keeps doc.old doc.new }
-{
-    let prev = doc.prev(node);
-    reorder_at(alloc, doc, value, prev, command)
-}
-
-// Force the value, step 2: the next sibling.
-#[tactic(auto, using(edit_model::proofs::Steps::steps, edit_model::proofs::Steps::exits), unfolding(crate::specs::Forcing::reorder_next))]
-fn reorder_next(
-    alloc: Global,
-    doc: &mut Doc,
-    value: &[char],
-    node: NodeRef,
-    command: Command,
-) -> Result<(), EditFault>
-    requires open { IsOpen doc.old }
-    requires node_held { Holds doc.old node }
-    ensures gives { Gives result doc.old.state doc.new.state
-        (spec.reorder_next command value.now node.label) }
-    ensures keeps { Keeps doc.old doc.new }
-{
-    let next = doc.next(node);
-    reorder_at(alloc, doc, value, next, command)
-}
-
 // Force the value, step 2: a sibling that gives the value takes the node in.
-#[tactic(auto, using(edit_model::proofs::Steps::steps, edit_model::proofs::Steps::exits), unfolding(crate::specs::Forcing::joined))]
+#[tactic(auto, using(edit_model::proofs::Steps::steps, edit_model::proofs::Steps::exits), unfolding(crate::specs::Forcing::joined, crate::specs::Forcing::reorder_prev, crate::specs::Forcing::reorder_next))]
 fn join(
     alloc: Global,
     doc: &mut Doc,
@@ -114,8 +55,12 @@ fn join(
         (spec.joined command value.now node.label) }
     ensures keeps { Keeps doc.old doc.new }
 {
-    reorder_prev(alloc, doc, value, node, command)?;
-    reorder_next(alloc, doc, value, node, command)?;
+    if let Some(prev) = doc.prev(node) {
+        reorder(doc, prev, value, command)?;
+    }
+    if let Some(next) = doc.next(node) {
+        reorder(doc, next, value, command)?;
+    }
     let value = Chars::from_slice(alloc, value)?;
     let rule = WrapRule::new(SameValueSibling { command, value }, NothingMade);
     let list = NodeList::from_slice(alloc, &[node])?;
@@ -312,31 +257,8 @@ fn confirm_value(
     }
 }
 
-// Force the value, steps 6 to 9.
-#[tactic(auto, using(edit_model::proofs::Steps::steps, edit_model::proofs::Steps::exits), unfolding(crate::specs::Forcing::put_in))]
-fn put_in(
-    alloc: Global,
-    doc: &mut Doc,
-    value: &[char],
-    node: NodeRef,
-    made: NodeRef,
-    command: Command,
-) -> Result<bool, EditFault>
-    requires open { IsOpen doc.old }
-    requires node_held { Holds doc.old node }
-    requires made_held { Holds doc.old made }
-    ensures gives { Gives result doc.old.state doc.new.state
-        (spec.put_in command value.now node.label made.label) }
-    ensures keeps { Keeps doc.old doc.new }
-{
-    insert_before(doc, node, made)?; // step 6
-    style_wrapper(alloc, doc, value, made, command)?; // step 7
-    doc.move_keeping(node, made, None)?; // step 8
-    confirm_value(doc, value, node, made, command) // step 9
-}
-
 // Force the value, steps 5 to 9.
-#[tactic(auto, using(edit_model::proofs::Steps::steps, edit_model::proofs::Steps::exits), unfolding(crate::specs::Forcing::wrapped))]
+#[tactic(auto, using(edit_model::proofs::Steps::steps, edit_model::proofs::Steps::exits), unfolding(crate::specs::Forcing::wrapped, crate::specs::Forcing::put_in))]
 fn wrap_node(
     alloc: Global,
     doc: &mut Doc,
@@ -350,58 +272,16 @@ fn wrap_node(
         (spec.wrapped command value.now node.label) }
     ensures keeps { Keeps doc.old doc.new }
 {
-    let made = make_wrapper(alloc, doc, value, node, command)?;
-    put_in(alloc, doc, value, node, made, command)
+    let made = make_wrapper(alloc, doc, value, node, command)?; // step 5
+    insert_before(doc, node, made)?; // step 6
+    style_wrapper(alloc, doc, value, made, command)?; // step 7
+    doc.move_keeping(node, made, None)?; // step 8
+    confirm_value(doc, value, node, made, command) // step 9
 }
 
-// Force the value, steps 3 and 4, and then from 5 on.
-#[tactic(auto, using(edit_model::proofs::Steps::steps, edit_model::proofs::Steps::exits), unfolding(crate::specs::Forcing::unless_alike))]
-fn unless_alike(
-    alloc: Global,
-    doc: &mut Doc,
-    value: &[char],
-    node: NodeRef,
-    command: Command,
-) -> Result<bool, EditFault>
-    requires open { IsOpen doc.old }
-    requires node_held { Holds doc.old node }
-    ensures gives { Gives result doc.old.state doc.new.state
-        (spec.unless_alike command value.now node.label) }
-    ensures keeps { Keeps doc.old doc.new }
-{
-    if !is_visible(doc, node) || has_alike(doc, Some(value), node, command) {
-        Ok(false)
-    } else if is_phrase(doc, node) {
-        wrap_node(alloc, doc, value, node, command)
-    } else {
-        Ok(true)
-    }
-}
-
-// Force the value, step 2, and then from 3 on.
-#[tactic(auto, using(edit_model::proofs::Steps::steps, edit_model::proofs::Steps::exits), unfolding(crate::specs::Forcing::force_node))]
-fn force_node(
-    alloc: Global,
-    doc: &mut Doc,
-    value: &[char],
-    node: NodeRef,
-    command: Command,
-) -> Result<bool, EditFault>
-    requires open { IsOpen doc.old }
-    requires node_held { Holds doc.old node }
-    ensures gives { Gives result doc.old.state doc.new.state
-        (spec.force_node command value.now node.label) }
-    ensures keeps { Keeps doc.old doc.new }
-{
-    if is_phrase(doc, node) {
-        join(alloc, doc, value, node, command)?;
-    }
-    unless_alike(alloc, doc, value, node, command)
-}
-
-// Force the value, step 1, and then from 2 on, for the node itself. Answers whether its children
-// are to be given the value.
-#[tactic(auto, using(edit_model::proofs::Steps::steps, edit_model::proofs::Steps::exits), unfolding(crate::specs::Forcing::force_self))]
+// Force the value, steps 1 to 9, for the node itself. Answers whether its children are to be given
+// the value.
+#[tactic(auto, using(edit_model::proofs::Steps::steps, edit_model::proofs::Steps::exits), unfolding(crate::specs::Forcing::force_self, crate::specs::Forcing::force_node, crate::specs::Forcing::unless_alike))]
 fn force_self(
     alloc: Global,
     doc: &mut Doc,
@@ -416,9 +296,18 @@ fn force_self(
     ensures keeps { Keeps doc.old doc.new }
 {
     if doc.parent(node).is_none() {
-        return Ok(false);
+        return Ok(false); // step 1
     }
-    force_node(alloc, doc, value, node, command)
+    if is_phrase(doc, node) {
+        join(alloc, doc, value, node, command)?; // step 2
+    }
+    if !is_visible(doc, node) || has_alike(doc, Some(value), node, command) {
+        return Ok(false); // step 3
+    }
+    if !is_phrase(doc, node) {
+        return Ok(true); // step 4
+    }
+    wrap_node(alloc, doc, value, node, command)
 }
 
 // Force the value, steps 4 and 9: the children of an editable node.
@@ -510,28 +399,9 @@ fn forced(
     force_each(alloc, doc, fuel - 1, value, &children, command)
 }
 
-// Force the value, steps 1 to 9, for a value that isn't null.
-#[tactic(auto, using(edit_model::proofs::Steps::steps, edit_model::proofs::Steps::exits), unfolding(crate::specs::Forcing::force_value))]
-fn force_value(
-    alloc: Global,
-    doc: &mut Doc,
-    value: &[char],
-    node: NodeRef,
-    command: Command,
-) -> Result<(), EditFault>
-    requires open { IsOpen doc.old }
-    requires node_held { Holds doc.old node }
-    ensures gives { Gives result doc.old.state doc.new.state
-        (spec.force_value command value.now node.label) }
-    ensures keeps { Keeps doc.old doc.new }
-{
-    let fuel = doc.counts().nodes;
-    forced(alloc, doc, fuel, value, node, command)
-}
-
 /// Makes a node have a value, by an element around it or around its children (HTML Editing APIs,
 /// "force the value"). A null value, `None`, is forced on no node.
-#[tactic(auto, using(edit_model::proofs::Steps::steps, edit_model::proofs::Steps::exits), unfolding(crate::specs::Forcing::force))]
+#[tactic(auto, using(edit_model::proofs::Steps::steps, edit_model::proofs::Steps::exits), unfolding(crate::specs::Forcing::force, crate::specs::Forcing::force_value))]
 pub fn force(
     alloc: Global,
     doc: &mut Doc,
@@ -546,7 +416,7 @@ pub fn force(
     ensures keeps { Keeps doc.old doc.new }
 {
     match value {
-        Some(value) => force_value(alloc, doc, value, node, command),
+        Some(value) => forced(alloc, doc, doc.counts().nodes, value, node, command),
         None => Ok(()),
     }
 }

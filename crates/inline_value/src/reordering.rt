@@ -103,7 +103,6 @@ fn swap(doc: &mut Doc, node: NodeRef, inner: NodeRef) -> Result<(), EditFault>
 /// value, makes that element the outer one (HTML Editing APIs, "reorder modifiable descendants").
 #[tactic(auto, using(edit_model::proofs::Steps::steps, edit_model::proofs::Steps::exits), unfolding(crate::specs::Reordering::reorder, crate::specs::Reordering::reorder_with))]
 pub fn reorder(
-    _alloc: Global,
     doc: &mut Doc,
     node: NodeRef,
     value: &[char],

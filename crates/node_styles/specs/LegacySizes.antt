@@ -6,6 +6,7 @@ use Rattle.std.specs.List.{list_all}
 use Rattle.std.specs.Option.{option_map}
 use Rattle.css_value.specs.StyleText.{trimmed, is_empty}
 use Rattle.css_value.specs.Numbers.{decimal}
+use Rattle.css_value.specs.SizeKeywords.{smallest, larger, of_number}
 
 -- one or more digits
 abbrev pub number_of : List ℕ → Option ℕ
@@ -30,11 +31,4 @@ legacy_size_of text = signed_size (trimmed text)
 
 -- the pixels of a size
 unfoldable pub pixels_of : ℕ → ℕ
-pixels_of size =
-    if size == 1 then 10
-    else (if size == 2 then 13
-    else (if size == 3 then 16
-    else (if size == 4 then 18
-    else (if size == 5 then 24
-    else (if size == 6 then 32
-    else 48)))))
+pixels_of size = of_number (λ r. r.pixels) smallest larger size

@@ -1,13 +1,13 @@
 use Rattle.std.proofs.Common.{◌≡◌}
 use Rattle.node_styles.specs.TurnBound.{turn_bound}
-use Rattle.block_extend.specs.BlockExtend as extend
-use Rattle.block_extend.specs.Gaps.{Stands, point_of}
+use Rattle.block_extend.specs.BlockExtend.{walk}
+use Rattle.block_extend.specs.Gaps.{Stands, point_of, step, stops}
 use Rattle.block_extend.proofs.extending.walk.Given as goal
 
 abbrev pub invariant-walk : goal.invariant-walk
 invariant-walk g l = record {
   stands : Stands (g.N.Nodes.holds l.nodes) (g.N.Nodes.trees l.nodes) l.at;
-  same : extend.walk l.way (g.N.Nodes.trees l.nodes) l.left (point_of l.at) ≡ extend.walk l.way (g.N.Nodes.trees l.nodes) (turn_bound (g.N.Nodes.trees l.nodes)) (point_of l.fn.start);
+  same : walk (step l.way (g.N.Nodes.trees l.nodes)) (stops l.way (g.N.Nodes.trees l.nodes)) l.left (point_of l.at) ≡ walk (step l.way (g.N.Nodes.trees l.nodes)) (stops l.way (g.N.Nodes.trees l.nodes)) (turn_bound (g.N.Nodes.trees l.nodes)) (point_of l.fn.start);
 }
 
 abbrev pub decreases-walk : goal.decreases-walk

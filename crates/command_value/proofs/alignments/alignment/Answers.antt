@@ -1,11 +1,17 @@
-use Rattle.std.proofs.Common.{◌∙◌}
-use Rattle.command_value.proofs.Boxes.{aligned_found, aligned_none}
+use Rattle.std.proofs.Common.{◌∙◌, sym, ap}
+use Rattle.std.specs.Option.{option_map, option_map_or}
+use Rattle.css_value.specs.declared.values.TextAlign.TheVariants as text_align_values
+use Rattle.node_styles.specs.Resolved.{text_align}
+use Rattle.command_value.specs.Alignment.{alignment}
 use Rattle.command_value.proofs.alignments.alignment.Goals as goal
 
 pub returns-in-Some : goal.returns-in-Some
+unfolding alignment
 returns-in-Some g c =
     c.text_align.ensures
-    ∙ aligned_found c.valid.ensures c.args.node.label c.in-Some.element (c.valid.ensures.here c.args.node c.requires) c.in-Some.ensures.found
+    ∙ sym (ap (λ o. option_map_or (text_align (g.N.Nodes.trees c.args.nodes.now)) (option_map (λ k. k.label) o) text_align_values.Left) c.in-Some.ensures.found.is)
 
 pub returns-in-None : goal.returns-in-None
-returns-in-None g c = aligned_none c.valid.ensures c.args.node.label c.in-None.ensures.none
+unfolding alignment
+returns-in-None g c =
+    sym (ap (λ o. option_map_or (text_align (g.N.Nodes.trees c.args.nodes.now)) (option_map (λ k. k.label) o) text_align_values.Left) c.in-None.ensures.none)

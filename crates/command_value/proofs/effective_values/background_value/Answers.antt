@@ -1,8 +1,7 @@
 use Rattle.std.proofs.Common.{◌≡◌, suc, ◌-◌, ◌∙◌, sym, ap, arith}
 use Rattle.css_value.specs.declared.colours.Colour.{Colour}
-use Rattle.node_styles.specs.Lineage.{lineage}
-use Rattle.command_value.specs.EffectiveValues.{background_in}
-use Rattle.command_value.proofs.Grounds.{opaque, transparent_one, shows_here, last_turn, top_shows, goes_up}
+use Rattle.command_value.specs.EffectiveValues.{background_at}
+use Rattle.command_value.proofs.Grounds.{opaque, transparent_one, shows_here, top_shows, goes_up}
 use Rattle.command_value.proofs.effective_values.background_value.Goals as goal
 
 pub walk-init : goal.walk-init
@@ -12,25 +11,24 @@ pub returns-then-not-colour : goal.returns-then-not-colour
 returns-then-not-colour g c =
     let shown = c.background_color-colour.ensures in
     shown
-    ∙ shows_here c.valid.ensures c.walk.left c.walk.at c.walk.invariant.held (ap (λ (x : Colour). x.clear) (sym shown) ∙ opaque c.background_color-colour.result.clear c.if-not-colour.true)
+    ∙ shows_here (g.N.Nodes.trees c.args.nodes.now) c.walk.left c.walk.at.label (ap (λ (x : Colour). x.clear) (sym shown) ∙ opaque c.background_color-colour.result.clear c.if-not-colour.true)
     ∙ c.walk.invariant.same
 
 pub returns-in-None : goal.returns-in-None
 returns-in-None g c =
     c.background_color-colour.ensures
-    ∙ top_shows c.valid.ensures c.walk.left c.walk.at c.walk.invariant.held (sym c.in-None.ensures.is)
+    ∙ top_shows (g.N.Nodes.trees c.args.nodes.now) c.walk.left c.walk.at.label (sym c.in-None.ensures.is)
     ∙ c.walk.invariant.same
 
 pub walk-preserved : goal.walk-preserved
 walk-preserved g c =
     let f = g.N.Nodes.trees c.args.nodes.now in
-    let p = c.in-Some.parent in
     let more : suc (c.walk.left - 1) ≡ c.walk.left = omega (arith, c.walk-test.true) in
     record {
       held = c.in-Some.ensures.held;
       same =
-          sym (goes_up c.valid.ensures (c.walk.left - 1) c.walk.at p c.walk.invariant.held c.in-Some.ensures.held (ap (λ (x : Colour). x.clear) (sym c.background_color-colour.ensures) ∙ transparent_one c.background_color-colour.result.clear c.if-not-colour.false) (sym c.in-Some.ensures.is))
-          ∙ ap (λ n. background_in n (lineage f c.walk.at.label)) more
+          sym (goes_up f (c.walk.left - 1) c.walk.at.label c.in-Some.parent.label (ap (λ (x : Colour). x.clear) (sym c.background_color-colour.ensures) ∙ transparent_one c.background_color-colour.result.clear c.if-not-colour.false) (sym c.in-Some.ensures.is))
+          ∙ ap (λ n. background_at n f c.walk.at.label) more
           ∙ c.walk.invariant.same;
     }
 
@@ -39,6 +37,5 @@ returns g c =
     let f = g.N.Nodes.trees c.args.nodes.now in
     let none : 0 ≡ c.walk.left = omega (arith, c.walk-test.false) in
     c.background_color.ensures
-    ∙ last_turn c.valid.ensures c.walk.at c.walk.invariant.held
-    ∙ ap (λ n. background_in n (lineage f c.walk.at.label)) none
+    ∙ ap (λ n. background_at n f c.walk.at.label) none
     ∙ c.walk.invariant.same

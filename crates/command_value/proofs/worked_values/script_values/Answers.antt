@@ -4,9 +4,9 @@ use Rattle.style_table.specs.DefaultStyles.{display_rows, value_of, default_disp
 use Rattle.node_styles.specs.Blocks.{own_or_inline, is_block_content}
 use Rattle.node_styles.specs.Lineage.{lineage}
 use Rattle.node_styles.specs.OwnStyles.{attribute, is_named, declared, defaulted, own_display}
-use Rattle.command_value.specs.EffectiveValues.{element_line, script_in, effective}
+use Rattle.command_value.specs.EffectiveValues.{script_at, element_of, effective}
 use Rattle.command_value.proofs.worked_values.script_values.Goals as goal
 
 pub returns : goal.returns
-unfolding display_of display_rows value_of default_display default_of own_or_inline is_block_content lineage attribute is_named declared defaulted own_display element_line script_in effective
+unfolding display_of display_rows value_of default_display default_of own_or_inline is_block_content lineage attribute is_named declared defaulted own_display script_at element_of effective
 returns _ = record { single = refl; mixed = refl }

@@ -409,7 +409,7 @@ fn changes(
         How::Force => force(alloc, doc, value, node, command),
         How::Push => push_down(alloc, doc, value, node, command),
         How::Reorder => match value {
-            Some(text) => reorder(alloc, doc, node, text, command),
+            Some(text) => reorder(doc, node, text, command),
             None => Ok(()),
         },
         How::Restore => restores(alloc, doc, node),
