@@ -1,10 +1,11 @@
 //! The list state of the active range, and the nodes that it is about.
 
-ghost use Rattle.std.specs.Prelude.{◌≡◌, ◌<◌, Bool, Some, IfOk, not};
+ghost use Rattle.std.specs.Prelude.{◌≡◌, ◌<◌, ◌||◌, Bool, Some, IfOk, codes, not, true};
 ghost use Rattle.std.specs.List.{list_all, list_any};
 ghost use Rattle.std.specs.Option.{option_map_or};
 ghost use Rattle.dom_model.specs.Editing.{is_editable};
 ghost use Rattle.dom_model.specs.Forest.{parent_of, count_of};
+ghost use Rattle.node_styles.specs.Allowed.{allowed_in_name};
 ghost use Rattle.edit_model.specs.Gives.{label_of, labels_of};
 ghost use Rattle.edit_model.specs.Valid.{IsPlacedPair};
 ghost use Rattle.edit_doc.specs.Held.{Holds, IfHeld, EachHeld};
@@ -111,6 +112,28 @@ fn is_editable_with(doc: &Doc, host: NodeRef, node: NodeRef) -> bool
     }
 }
 
+// Whether a node is a p, which may stand in an item.
+fn is_paragraph(doc: &Doc, node: NodeRef) -> bool
+    requires { Holds doc.now node }
+    ensures { result ≡ true → allowed_in_name doc.now.state.trees node.label (codes "li") ≡ true }
+{
+    has_name(doc, node, b"p") && allowed_in_item(doc, node)
+}
+
+// Whether a node is a list or a child of one, or may stand in an item. Most are a p.
+fn belongs_in_list(doc: &Doc, node: NodeRef) -> bool
+    requires { Holds doc.now node }
+    ensures { result ≡ (lists.is_any_list doc.now.state.trees node.label
+        || (option_map_or (lists.is_any_list doc.now.state.trees)
+        (parent_of doc.now.state.trees node.label) Bool.false
+        || allowed_in_name doc.now.state.trees node.label (codes "li"))) }
+{
+    if is_paragraph(doc, node) {
+        return true;
+    }
+    is_any_list(doc, node) || is_in_any_list(doc, node) || allowed_in_item(doc, node)
+}
+
 /// The nodes that are gathered as list members.
 #[derive(Clone, Copy)]
 struct Member {
@@ -126,7 +149,7 @@ impl Choice<Doc> for Member {
     fn chooses(&self, doc: &Doc, node: NodeRef) -> bool {
         is_editable_with(doc, self.host, node)
             && !is_indentation(doc, node)
-            && (is_any_list(doc, node) || is_in_any_list(doc, node) || allowed_in_item(doc, node))
+            && belongs_in_list(doc, node)
     }
 }
 
