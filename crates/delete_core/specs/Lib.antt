@@ -8,4 +8,3 @@ pub mod Merging
 pub mod Values
 pub mod Stretches
 pub mod Deletion
-pub mod Gaps
