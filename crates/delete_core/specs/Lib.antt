@@ -9,4 +9,3 @@ pub mod Merging
 pub mod Values
 pub mod Stretches
 pub mod Deletion
-pub mod Gaps

@@ -6,7 +6,7 @@ ghost use Rattle.edit_model.specs.Gives.{Gives, GivesAs, label_of};
 ghost use Rattle.edit_doc.specs.Whole.{IsOpen};
 ghost use Rattle.edit_doc.specs.Held.{Holds, IfHeld, Keeps};
 ghost use Rattle.delete_core.specs.Stretches.{StretchHeld};
-ghost use Rattle.delete_core.specs.Deletion.{erase_across, erase, delete_recorded, delete_range, delete_between, delete_selection};
+ghost use Rattle.delete_core.specs.Deletion.{erase_across, erase, delete_recorded, delete_selected, delete_range, delete_between, delete_selection};
 
 use crate::ends::{
     block_of_end, canonicalize_end, canonicalize_start, collapse_selection, out_of_end,
@@ -119,8 +119,33 @@ fn delete_recorded(
     Ok(states)
 }
 
-// The end of step 1, step 2, and then from 3 on.
-#[tactic(auto, using(edit_model::proofs::Steps::steps, edit_model::proofs::Steps::exits, edit_model::proofs::Steps::actions), unfolding(crate::specs::Deletion::delete_range, crate::specs::Deletion::delete_selected))]
+// The end of step 2, and then from 3 on.
+#[tactic(auto, using(edit_model::proofs::Steps::steps, edit_model::proofs::Steps::exits, edit_model::proofs::Steps::actions), unfolding(crate::specs::Deletion::delete_selected))]
+fn delete_selected(
+    alloc: Global,
+    doc: &mut Doc,
+    manner: Manner,
+    start: Point,
+    end: Point,
+) -> Result<Overrides, EditFault>
+    requires open { IsOpen doc.old }
+    requires start_there { 0 < count_of doc.old.state.trees start.label }
+    requires end_there { 0 < count_of doc.old.state.trees end.label }
+    ensures gives { Gives result doc.old.state doc.new.state (delete_selected manner start end) }
+    ensures keeps { Keeps doc.old doc.new }
+{
+    let stretch = Stretch {
+        start,
+        start_node: node_of(doc, start),
+        end,
+        end_node: node_of(doc, end),
+    };
+    select(doc, start, end);
+    delete_recorded(alloc, doc, manner, stretch)
+}
+
+// The end of step 1, and then from 2 on, which begins with going out of texts.
+#[tactic(auto, using(edit_model::proofs::Steps::steps, edit_model::proofs::Steps::exits), unfolding(crate::specs::Deletion::delete_range))]
 fn delete_range(
     alloc: Global,
     doc: &mut Doc,
@@ -136,16 +161,9 @@ fn delete_range(
         collapse_selection(doc, manner.backward)?;
         return Ok(Overrides::new(alloc));
     }
-    let start = out_of_start(doc, node_of(doc, start), start); // step 2
-    let end = out_of_end(doc, node_of(doc, end), end);
-    let stretch = Stretch {
-        start,
-        start_node: node_of(doc, start),
-        end,
-        end_node: node_of(doc, end),
-    };
-    select(doc, start, end);
-    delete_recorded(alloc, doc, manner, stretch)
+    let first = out_of_start(doc, node_of(doc, start), start);
+    let last = out_of_end(doc, node_of(doc, end), end);
+    delete_selected(alloc, doc, manner, first, last)
 }
 
 // Step 1: the equivalent points of the ends, and then from there on.

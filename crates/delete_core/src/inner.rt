@@ -5,8 +5,7 @@ ghost use Rattle.std.specs.Prelude.{◌≡◌, IfOk, Some, None};
 ghost use Rattle.edit_model.specs.Gives.{Gives, GivesAs, GivesNode, labels_of};
 ghost use Rattle.edit_doc.specs.Whole.{IsOpen};
 ghost use Rattle.edit_doc.specs.Held.{Holds, EachHeld, Keeps};
-ghost use Rattle.delete_core.specs.Gaps.{is_stuck};
-ghost use Rattle.delete_core.specs.Merging.{is_apart, is_sole, drop_sole, parts_lines, part_lines, remove_own, drop_parted, drop_soles, drop_block, split_line, split_out, drop_break_before, merge_content, merge_inner};
+ghost use Rattle.delete_core.specs.Merging.{is_apart, is_sole, drop_sole, parts_lines, part_lines, remove_own, drop_parted, drop_soles, drop_block, split_line, is_stuck, split_out, drop_break_before, take_out_line, take_line, merge_content, merge_inner};
 ghost use Rattle.dom_model.specs.Forest.{first_in};
 ghost use Rattle.delete_core.specs.Values.{ValuesHeld, recorded_in};
 
@@ -148,7 +147,7 @@ fn drop_block(alloc: Global, doc: &mut Doc, outer: NodeRef, node: NodeRef) -> Re
 }
 
 // Whether splitting the parent of a line that begins with a node changes nothing.
-#[tactic(auto, unfolding(crate::specs::Gaps::is_stuck))]
+#[tactic(auto, unfolding(crate::specs::Merging::is_stuck))]
 fn is_stuck(doc: &Doc, node: NodeRef) -> bool
     requires { Holds doc.now node }
     ensures { result ≡ is_stuck doc.now.state node.label }
@@ -212,8 +211,52 @@ fn drop_break_before(doc: &mut Doc, node: NodeRef) -> Result<(), EditFault>
     Ok(())
 }
 
+// Steps 11 d to 11 f.
+#[tactic(auto, using(edit_model::proofs::Steps::steps, edit_model::proofs::Steps::exits, crate::proofs::Recordings::recordings), unfolding(crate::specs::Merging::take_out_line))]
+fn take_out_line(
+    alloc: Global,
+    doc: &mut Doc,
+    outer: NodeRef,
+    first: NodeRef,
+) -> Result<Option<Values>, EditFault>
+    requires open { IsOpen doc.old }
+    requires first_held { Holds doc.old first }
+    ensures gives { GivesAs recorded_in result doc.old.state doc.new.state
+        (take_out_line outer.label first.label) }
+    ensures held { IfOk result (ValuesHeld doc.new) }
+    ensures keeps { Keeps doc.old doc.new }
+{
+    let line = line_from(alloc, doc, first)?;
+    let values = record_values(alloc, doc, &line)?;
+    let list = NodeList::from_vec(line);
+    split_out(alloc, doc, outer, &list, first)?;
+    drop_break_before(doc, first)?;
+    Ok(Some(values))
+}
+
+// Step 11 c, and then from 11 d on.
+#[tactic(auto, using(edit_model::proofs::Steps::steps, edit_model::proofs::Steps::exits, crate::proofs::Recordings::recordings), unfolding(crate::specs::Merging::take_line))]
+fn take_line(
+    alloc: Global,
+    doc: &mut Doc,
+    outer: NodeRef,
+    first: NodeRef,
+) -> Result<Option<Values>, EditFault>
+    requires open { IsOpen doc.old }
+    requires first_held { Holds doc.old first }
+    ensures gives { GivesAs recorded_in result doc.old.state doc.new.state
+        (take_line outer.label first.label) }
+    ensures held { IfOk result (ValuesHeld doc.new) }
+    ensures keeps { Keeps doc.old doc.new }
+{
+    if is_block(doc, first) {
+        return Ok(None);
+    }
+    take_out_line(alloc, doc, outer, first)
+}
+
 // Steps 11 b to 11 f.
-#[tactic(auto, using(edit_model::proofs::Steps::steps, edit_model::proofs::Steps::exits, crate::proofs::Recordings::recordings), unfolding(crate::specs::Merging::merge_content, crate::specs::Merging::take_line, crate::specs::Merging::take_out_line))]
+#[tactic(auto, using(edit_model::proofs::Steps::steps, edit_model::proofs::Steps::exits, crate::proofs::Recordings::recordings), unfolding(crate::specs::Merging::merge_content))]
 fn merge_content(
     alloc: Global,
     doc: &mut Doc,
@@ -229,18 +272,10 @@ fn merge_content(
     ensures keeps { Keeps doc.old doc.new }
 {
     let Some(first) = doc.first_child(inner) else {
-        drop_block(alloc, doc, outer, inner)?; // b
+        drop_block(alloc, doc, outer, inner)?;
         return Ok(None);
     };
-    if is_block(doc, first) {
-        return Ok(None); // c
-    }
-    let line = line_from(alloc, doc, first)?; // d
-    let values = record_values(alloc, doc, &line)?;
-    let list = NodeList::from_vec(line);
-    split_out(alloc, doc, outer, &list, first)?; // e
-    drop_break_before(doc, first)?; // f
-    Ok(Some(values))
+    take_line(alloc, doc, outer, first)
 }
 
 /// Delete the selection, step 11 a, and then from 11 b on: merges a block with one that stands in

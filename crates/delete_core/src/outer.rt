@@ -5,7 +5,7 @@ ghost use Rattle.std.specs.Prelude.{◌≡◌, IfOk};
 ghost use Rattle.edit_model.specs.Gives.{Gives, GivesAs, label_of};
 ghost use Rattle.edit_doc.specs.Whole.{IsOpen};
 ghost use Rattle.edit_doc.specs.Held.{Holds, IfHeld, Keeps};
-ghost use Rattle.delete_core.specs.Merging.{drop_last_break, merge_outer, is_emptied, drop_emptied, merge_beside};
+ghost use Rattle.delete_core.specs.Merging.{drop_last_break, take_following, merge_outer, is_emptied, drop_emptied, take_children, merge_beside};
 ghost use Rattle.delete_core.specs.Values.{ValuesHeld, recorded_in};
 
 use crate::ends::select;
@@ -38,9 +38,31 @@ fn drop_last_break(doc: &mut Doc, block: NodeRef, after: Option<NodeRef>) -> Res
     Ok(())
 }
 
+// Step 12: the line after a node goes to the end of a block.
+#[tactic(auto, using(edit_model::proofs::Steps::steps, edit_model::proofs::Steps::exits, crate::proofs::Recordings::recordings), unfolding(crate::specs::Merging::take_following))]
+fn take_following(
+    alloc: Global,
+    doc: &mut Doc,
+    block: NodeRef,
+    child: NodeRef,
+) -> Result<Option<Values>, EditFault>
+    requires open { IsOpen doc.old }
+    requires block_held { Holds doc.old block }
+    requires child_held { Holds doc.old child }
+    ensures gives { GivesAs recorded_in result doc.old.state doc.new.state
+        (take_following block.label child.label) }
+    ensures held { IfOk result (ValuesHeld doc.new) }
+    ensures keeps { Keeps doc.old doc.new }
+{
+    let line = line_at(alloc, doc, doc.next(child))?;
+    let values = record_values(alloc, doc, &line)?;
+    doc.move_each_last(&line, block)?;
+    Ok(Some(values))
+}
+
 /// Delete the selection, step 12: merges a block with one in which it stands. Answers the values to
 /// restore.
-#[tactic(auto, using(edit_model::proofs::Steps::steps, edit_model::proofs::Steps::exits, edit_model::proofs::Steps::actions, crate::proofs::Recordings::recordings), unfolding(crate::specs::Merging::merge_outer, crate::specs::Merging::take_following))]
+#[tactic(auto, using(edit_model::proofs::Steps::steps, edit_model::proofs::Steps::exits, edit_model::proofs::Steps::actions, crate::proofs::Recordings::recordings), unfolding(crate::specs::Merging::merge_outer))]
 pub(crate) fn merge_outer(
     alloc: Global,
     doc: &mut Doc,
@@ -62,10 +84,7 @@ pub(crate) fn merge_outer(
     let end = end_in(doc, block);
     select(doc, end, end);
     drop_last_break(doc, block, next)?;
-    let line = line_at(alloc, doc, doc.next(child))?;
-    let values = record_values(alloc, doc, &line)?;
-    doc.move_each_last(&line, block)?;
-    Ok(Some(values))
+    take_following(alloc, doc, block, child)
 }
 
 fn is_emptied(doc: &Doc, node: Option<NodeRef>) -> bool
@@ -98,9 +117,32 @@ fn drop_emptied(doc: &mut Doc, node: NodeRef) -> Result<(), EditFault>
     Ok(())
 }
 
+// Step 13: the children of a block go to the end of another one.
+#[tactic(auto, using(edit_model::proofs::Steps::steps, edit_model::proofs::Steps::exits, crate::proofs::Recordings::recordings), unfolding(crate::specs::Merging::take_children))]
+fn take_children(
+    alloc: Global,
+    doc: &mut Doc,
+    block: NodeRef,
+    other: NodeRef,
+) -> Result<Option<Values>, EditFault>
+    requires open { IsOpen doc.old }
+    requires block_held { Holds doc.old block }
+    requires other_held { Holds doc.old other }
+    ensures gives { GivesAs recorded_in result doc.old.state doc.new.state
+        (take_children block.label other.label) }
+    ensures held { IfOk result (ValuesHeld doc.new) }
+    ensures keeps { Keeps doc.old doc.new }
+{
+    let children = doc.children_of(other)?;
+    let values = record_values(alloc, doc, &children)?;
+    doc.move_each_last(&children, block)?;
+    drop_emptied(doc, other)?;
+    Ok(Some(values))
+}
+
 /// Delete the selection, step 13: merges a block with another one, neither of which stands in the
 /// other. Answers the values to restore.
-#[tactic(auto, using(edit_model::proofs::Steps::steps, edit_model::proofs::Steps::exits, edit_model::proofs::Steps::actions, crate::proofs::Recordings::recordings), unfolding(crate::specs::Merging::merge_beside, crate::specs::Merging::take_children))]
+#[tactic(auto, using(edit_model::proofs::Steps::steps, edit_model::proofs::Steps::exits, edit_model::proofs::Steps::actions, crate::proofs::Recordings::recordings), unfolding(crate::specs::Merging::merge_beside))]
 pub(crate) fn merge_beside(
     alloc: Global,
     doc: &mut Doc,
@@ -119,9 +161,5 @@ pub(crate) fn merge_beside(
     let end = end_in(doc, block);
     select(doc, end, end);
     drop_last_break(doc, block, first)?;
-    let children = doc.children_of(other)?;
-    let values = record_values(alloc, doc, &children)?;
-    doc.move_each_last(&children, block)?;
-    drop_emptied(doc, other)?;
-    Ok(Some(values))
+    take_children(alloc, doc, block, other)
 }

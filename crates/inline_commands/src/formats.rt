@@ -32,6 +32,17 @@ fn unwrap_each(doc: &mut Doc, list: &[NodeRef]) -> Result<(), EditFault>
     Ok(())
 }
 
+// Remove the format, step 1.
+#[tactic(auto, using(edit_model::proofs::Steps::steps, edit_model::proofs::Steps::exits), unfolding(crate::specs::RemovingFormat::unwrap_candidates))]
+fn unwrap_candidates(alloc: Global, doc: &mut Doc) -> Result<(), EditFault>
+    requires open { IsOpen doc.old }
+    ensures gives { Gives result doc.old.state doc.new.state unwrap_candidates }
+    ensures keeps { Keeps doc.old doc.new }
+{
+    let list = candidates_in_range(alloc, doc)?;
+    unwrap_each(doc, &list)
+}
+
 // Remove the format, step 3: whether the parent is a candidate.
 #[tactic(auto, unfolding(crate::specs::RemovingFormat::is_formatted))]
 fn is_formatted(doc: &Doc, node: NodeRef) -> bool
@@ -75,15 +86,36 @@ fn part_each(alloc: Global, doc: &mut Doc, list: &[NodeRef]) -> Result<(), EditF
     Ok(())
 }
 
-// Remove the format, step 4: the value of each command of a list goes.
-#[tactic(auto, using(edit_model::proofs::Steps::steps, crate::proofs::Items::commands, edit_model::proofs::Steps::exits), unfolding(crate::specs::RemovingFormat::clear_command))]
+// Remove the format, step 3.
+#[tactic(auto, using(edit_model::proofs::Steps::steps, edit_model::proofs::Steps::exits), unfolding(crate::specs::RemovingFormat::part_nodes))]
+fn part_nodes(alloc: Global, doc: &mut Doc) -> Result<(), EditFault>
+    requires open { IsOpen doc.old }
+    ensures gives { Gives result doc.old.state doc.new.state part_nodes }
+    ensures keeps { Keeps doc.old doc.new }
+{
+    let list = editable_in_range(alloc, doc)?;
+    part_each(alloc, doc, &list)
+}
+
+// Remove the format, step 4: of one command.
+#[tactic(auto, unfolding(crate::specs::RemovingFormat::clear_command))]
+fn clear_command(alloc: Global, doc: &mut Doc, command: Command) -> Result<(), EditFault>
+    requires open { IsOpen doc.old }
+    ensures gives { Gives result doc.old.state doc.new.state (clear_command command) }
+    ensures keeps { Keeps doc.old doc.new }
+{
+    set_value(alloc, doc, None, command)
+}
+
+// Remove the format, step 4: of each command of a list.
+#[tactic(auto, using(edit_model::proofs::Steps::steps, crate::proofs::Items::commands, edit_model::proofs::Steps::exits))]
 fn clear_each(alloc: Global, doc: &mut Doc, list: &[Command]) -> Result<(), EditFault>
     requires open { IsOpen doc.old }
     ensures gives { Gives result doc.old.state doc.new.state (for_each list.now clear_command) }
     ensures keeps { Keeps doc.old doc.new }
 {
     for command in list {
-        set_value(alloc, doc, None, *command)?;
+        clear_command(alloc, doc, *command)?;
     }
     Ok(())
 }
@@ -101,20 +133,28 @@ static CLEARED: [Command; 9] = [
     Command::Underline,
 ];
 
+// Remove the format, step 4.
+#[tactic(auto, unfolding(crate::specs::RemovingFormat::clear_commands, inline_value::specs::Recording::recorded_commands))]
+fn clear_commands(alloc: Global, doc: &mut Doc) -> Result<(), EditFault>
+    requires open { IsOpen doc.old }
+    ensures gives { Gives result doc.old.state doc.new.state clear_commands }
+    ensures keeps { Keeps doc.old doc.new }
+{
+    clear_each(alloc, doc, &CLEARED)
+}
+
 /// The command removeFormat: the elements that stand for a format give way to their children where
 /// the active range effectively contains them, other such elements are split around what it
 /// contains, and the values of the commands on styles go. It answers true.
-#[tactic(auto, using(edit_model::proofs::Steps::steps, edit_model::proofs::Steps::exits), unfolding(crate::specs::RemovingFormat::remove_format, crate::specs::RemovingFormat::unwrap_candidates, crate::specs::RemovingFormat::part_nodes, crate::specs::RemovingFormat::clear_commands, inline_value::specs::Recording::recorded_commands))]
+#[tactic(auto, using(edit_model::proofs::Steps::steps, edit_model::proofs::Steps::exits), unfolding(crate::specs::RemovingFormat::remove_format))]
 pub fn remove_format(alloc: Global, doc: &mut Doc) -> Result<bool, EditFault>
     requires open { IsOpen doc.old }
     ensures gives { Gives result doc.old.state doc.new.state remove_format }
     ensures keeps { Keeps doc.old doc.new }
 {
-    let candidates = candidates_in_range(alloc, doc)?; // step 1
-    unwrap_each(doc, &candidates)?;
-    split_ends(doc)?; // step 2
-    let nodes = editable_in_range(alloc, doc)?; // step 3
-    part_each(alloc, doc, &nodes)?;
-    clear_each(alloc, doc, &CLEARED)?; // step 4
+    unwrap_candidates(alloc, doc)?; // step 1
+    split_ends(alloc, doc)?; // step 2
+    part_nodes(alloc, doc)?; // step 3
+    clear_commands(alloc, doc)?; // step 4
     Ok(true)
 }

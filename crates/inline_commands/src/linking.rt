@@ -5,7 +5,7 @@ ghost use Rattle.edit_model.specs.Gives.{Gives, labels_of};
 ghost use Rattle.edit_model.specs.Run.{for_each};
 ghost use Rattle.edit_doc.specs.Held.{Holds, EachHeld, Keeps};
 ghost use Rattle.edit_doc.specs.Whole.{IsOpen};
-ghost use Rattle.inline_commands.specs.Linking.{relink, relink_above, create_link};
+ghost use Rattle.inline_commands.specs.Linking.{relink, relink_above, relink_range, link_range, create_link};
 
 use crate::links::links_above;
 use crate::ranges::nodes_in_range;
@@ -88,22 +88,40 @@ fn relink_around(
     Ok(())
 }
 
+// CreateLink, step 2.
+#[tactic(auto, using(edit_model::proofs::Steps::steps, edit_model::proofs::Steps::exits), unfolding(crate::specs::Linking::relink_range))]
+fn relink_range(alloc: Global, doc: &mut Doc, value: &[char]) -> Result<(), EditFault>
+    requires open { IsOpen doc.old }
+    ensures gives { Gives result doc.old.state doc.new.state (relink_range value.now) }
+    ensures keeps { Keeps doc.old doc.new }
+{
+    let list = nodes_in_range(alloc, doc)?;
+    relink_around(alloc, doc, value, list.as_slice())
+}
+
+// CreateLink, steps 2 and 3.
+#[tactic(auto, using(edit_model::proofs::Steps::steps, edit_model::proofs::Steps::exits), unfolding(crate::specs::Linking::link_range))]
+fn link_range(alloc: Global, doc: &mut Doc, value: &[char]) -> Result<bool, EditFault>
+    requires open { IsOpen doc.old }
+    ensures gives { Gives result doc.old.state doc.new.state (link_range value.now) }
+    ensures keeps { Keeps doc.old doc.new }
+{
+    relink_range(alloc, doc, value)?;
+    set_value(alloc, doc, Some(value), Command::CreateLink)?;
+    Ok(true)
+}
+
 /// The command createLink: the editable links around what the active range effectively contains get
 /// the value as their href, and the rest of it comes to stand in new links. It answers false,
 /// before it changes anything, to the empty value.
-#[tactic(auto, using(edit_model::proofs::Steps::steps, edit_model::proofs::Steps::exits), unfolding(crate::specs::Linking::create_link, crate::specs::Linking::link_range, crate::specs::Linking::relink_range))]
+#[tactic(auto, using(edit_model::proofs::Steps::steps), unfolding(crate::specs::Linking::create_link))]
 pub fn create_link(alloc: Global, doc: &mut Doc, value: &[char]) -> Result<bool, EditFault>
     requires open { IsOpen doc.old }
     ensures gives { Gives result doc.old.state doc.new.state (create_link value.now) }
     ensures keeps { Keeps doc.old doc.new }
 {
     match value {
-        [] => Ok(false), // step 1
-        _ => {
-            let list = nodes_in_range(alloc, doc)?; // step 2
-            relink_around(alloc, doc, value, list.as_slice())?;
-            set_value(alloc, doc, Some(value), Command::CreateLink)?; // step 3
-            Ok(true)
-        }
+        [] => Ok(false),
+        _ => link_range(alloc, doc, value),
     }
 }

@@ -39,6 +39,24 @@ fn size_value(value: &[char]) -> Option<&'static [char]>
     Some(size_keyword(size))
 }
 
+// Apply a value, steps 2 and 4.
+#[tactic(auto, using(edit_model::proofs::Steps::steps, edit_model::proofs::Steps::exits), unfolding(crate::specs::ValueCommands::take))]
+fn apply_size(
+    alloc: Global,
+    doc: &mut Doc,
+    value: &[char],
+    command: Command,
+) -> Result<bool, EditFault>
+    requires open { IsOpen doc.old }
+    ensures gives { Gives result doc.old.state doc.new.state (take command (size_value value.now)) }
+    ensures keeps { Keeps doc.old doc.new }
+{
+    match size_value(value) {
+        Some(keyword) => set_taken(alloc, doc, keyword, command),
+        None => Ok(false),
+    }
+}
+
 // A value with "#" before it.
 fn marked(alloc: Global, value: &[char]) -> Result<Vec<char>, AllocError>
     ensures { IfOk result (λ text. text.items ≡ 35 ∷ value.now) }
@@ -89,10 +107,7 @@ pub fn apply_value(
 {
     match command {
         Command::FontName => set_taken(alloc, doc, value, command),
-        Command::FontSize => match size_value(value) {
-            Some(keyword) => set_taken(alloc, doc, keyword, command),
-            None => Ok(false),
-        },
+        Command::FontSize => apply_size(alloc, doc, value, command),
         Command::ForeColor | Command::BackColor | Command::HiliteColor => {
             apply_colour(alloc, doc, value, command)
         }

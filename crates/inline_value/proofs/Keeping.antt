@@ -11,8 +11,7 @@ use Rattle.edit_model.specs.Run.{final, done, given, for_each, ◌>>◌}
 use Rattle.edit_model.proofs.Steps.{final-bind, final-look, final-answer}
 use Rattle.inline_value.specs.Clearing.{clear_value}
 use Rattle.inline_value.specs.Forcing.{ancestors, force}
-use Rattle.inline_value.specs.Pushing.{is_other, leading, others_above, needs_none, is_passed, push_to, clear_level, push_level, own_or, is_hopeless, push_levels, push_from, push_listed, push_down}
-use Rattle.inline_value.specs.Gaps.{is_given_above}
+use Rattle.inline_value.specs.Pushing.{is_other, leading, others_above, needs_none, is_passed, push_to, clear_level, push_level, own_or, is_hopeless, push_levels, push_from, push_listed, push_down, is_given_above}
 
 -- ---- the last of the leading members of a list of which none passes
 

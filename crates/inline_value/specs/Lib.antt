@@ -9,4 +9,3 @@ pub mod Records
 pub mod Ancestors
 pub mod Overrides
 pub mod Selections
-pub mod Gaps

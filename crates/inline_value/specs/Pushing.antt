@@ -1,6 +1,7 @@
 -- Pushing values down to the children of an ancestor (HTML Editing APIs, "push down values"). The
 -- steps are those of docs/ALGORITHMS.md.
 use Rattle.std.specs.Prelude.{ℕ, Bool, false, ◌==◌, ◌||◌, ◌&&◌, not, List, [], ◌∷◌, Option, Some, None, is_some, is_none, reverse, if◌then◌else◌}
+use Rattle.std.specs.List.{list_any}
 use Rattle.std.specs.Option.{option_map_or}
 use Rattle.dom_model.specs.Contents.{is_element_at}
 use Rattle.dom_model.specs.Forest.{is_label, parent_of, children_of, first_in, last_in}
@@ -84,6 +85,12 @@ push_from command v n list e = look λ s.
 -- push down, step 2, and then from 3 on
 unfoldable pub push_listed : Command → Option (List ℕ) → ℕ → List ℕ → Run (Unit {0})
 push_listed command v n list = given (last_in list) done λ e. push_from command v n list e
+
+-- an ancestor gives a value. No step asks this, and the code asks it first: where none does, steps
+-- 1 to 5 change nothing, whatever the value
+unfoldable pub is_given_above : State → Command → ℕ → Bool
+is_given_above s command n =
+    list_any (λ e. is_some (specified s.trees e command)) (ancestors s.trees n)
 
 -- push down, step 1, and then from 2 on
 unfoldable pub push_down : Command → Option (List ℕ) → ℕ → Run (Unit {0})

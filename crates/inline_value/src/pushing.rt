@@ -7,7 +7,6 @@ ghost use Rattle.edit_model.specs.Gives.{Gives, label_of, labels_of};
 ghost use Rattle.edit_model.specs.Run.{for_each};
 ghost use Rattle.edit_doc.specs.Whole.{IsOpen};
 ghost use Rattle.edit_doc.specs.Held.{Holds, EachHeld, IfHeld, Keeps};
-ghost use Rattle.inline_value.specs.Gaps.{is_given_above};
 ghost use Rattle.inline_value.specs.Pushing as spec;
 
 use crate::clearing::clear_value;
@@ -296,7 +295,7 @@ fn push_from(
 // first costs the depth, where the steps would go to the siblings of each ancestor.
 fn is_given_above(doc: &Doc, node: NodeRef, command: Command) -> bool
     requires { Holds doc.now node }
-    ensures { result ≡ is_given_above doc.now.state command node.label }
+    ensures { result ≡ spec.is_given_above doc.now.state command node.label }
 {
     doc.valid();
     let mut at = node;

@@ -13,7 +13,7 @@ ghost use Rattle.edit_model.specs.Valid.{IsPlacedPair};
 ghost use Rattle.edit_model.specs.Run.{done, for_each, given, set_setting};
 ghost use Rattle.edit_doc.specs.Whole.{IsOpen};
 ghost use Rattle.edit_doc.specs.Held.{Holds, EachHeld, Keeps};
-ghost use Rattle.inline_value.specs.Selections.{is_amid, at_least, with_start, set_start, start_text, split_at_start, split_at_end, split_start, split_end, split_ends, nodes_by, editable_in_range, elements_in_range, state_setting, value_setting, override_for, unset_rival, set_overrides, clear_one, give_node, give_range, set_value};
+ghost use Rattle.inline_value.specs.Selections.{is_amid, at_least, with_start, set_start, start_text, split_at_start, split_at_end, split_start, split_end, split_ends, nodes_by, editable_in_range, elements_in_range, state_setting, value_setting, override_for, unset_rival, set_overrides, clear_one, clear_elements, force_phrase, give_node, give_nodes, give_range, set_value};
 
 use crate::clearing::clear_value;
 use crate::forcing::force;
@@ -163,7 +163,7 @@ fn split_end(doc: &mut Doc) -> Result<(), EditFault>
 
 /// Splits the editable texts amid which the active range starts or ends.
 #[tactic(auto, using(edit_model::proofs::Steps::steps, edit_model::proofs::Steps::exits), unfolding(crate::specs::Selections::split_ends))]
-pub fn split_ends(doc: &mut Doc) -> Result<(), EditFault>
+pub fn split_ends(_alloc: Global, doc: &mut Doc) -> Result<(), EditFault>
     requires open { IsOpen doc.old }
     ensures gives { Gives result doc.old.state doc.new.state split_ends }
     ensures keeps { Keeps doc.old doc.new }
@@ -396,8 +396,40 @@ fn clear_each(
     Ok(())
 }
 
-// Set the value, step 4: of one node. It is forced to have the value where it may stand in a span.
-#[tactic(auto, using(edit_model::proofs::Steps::steps, edit_model::proofs::Steps::exits), unfolding(crate::specs::Selections::give_node, crate::specs::Selections::force_phrase))]
+// Set the value, step 3.
+#[tactic(auto, using(edit_model::proofs::Steps::steps, edit_model::proofs::Steps::exits), unfolding(crate::specs::Selections::clear_elements))]
+fn clear_elements(alloc: Global, doc: &mut Doc, command: Command) -> Result<(), EditFault>
+    requires open { IsOpen doc.old }
+    ensures gives { Gives result doc.old.state doc.new.state (clear_elements command) }
+    ensures keeps { Keeps doc.old doc.new }
+{
+    let list = elements_in_range(alloc, doc)?;
+    clear_each(alloc, doc, &list, command)
+}
+
+// Set the value, step 4: a node that may stand in a span is forced to have the value.
+#[tactic(auto, using(edit_model::proofs::Steps::steps, edit_model::proofs::Steps::exits), unfolding(crate::specs::Selections::force_phrase))]
+fn force_phrase(
+    alloc: Global,
+    doc: &mut Doc,
+    value: Option<&[char]>,
+    node: NodeRef,
+    command: Command,
+) -> Result<(), EditFault>
+    requires open { IsOpen doc.old }
+    requires node_held { Holds doc.old node }
+    ensures gives { Gives result doc.old.state doc.new.state
+        (force_phrase command (option_copied value.entry) node.label) }
+    ensures keeps { Keeps doc.old doc.new }
+{
+    if allowed_in_span(doc, node) {
+        force(alloc, doc, value, node, command)?;
+    }
+    Ok(())
+}
+
+// Set the value, step 4: one node.
+#[tactic(auto, using(edit_model::proofs::Steps::steps, edit_model::proofs::Steps::exits), unfolding(crate::specs::Selections::give_node))]
 fn give_node(
     alloc: Global,
     doc: &mut Doc,
@@ -412,10 +444,7 @@ fn give_node(
     ensures keeps { Keeps doc.old doc.new }
 {
     push_down(alloc, doc, value, node, command)?;
-    if allowed_in_span(doc, node) {
-        force(alloc, doc, value, node, command)?;
-    }
-    Ok(())
+    force_phrase(alloc, doc, value, node, command)
 }
 
 // Set the value, step 4: each node, in order.
@@ -439,8 +468,25 @@ fn give_each(
     Ok(())
 }
 
+// Set the value, step 4.
+#[tactic(auto, using(edit_model::proofs::Steps::steps, edit_model::proofs::Steps::exits), unfolding(crate::specs::Selections::give_nodes))]
+fn give_nodes(
+    alloc: Global,
+    doc: &mut Doc,
+    value: Option<&[char]>,
+    command: Command,
+) -> Result<(), EditFault>
+    requires open { IsOpen doc.old }
+    ensures gives { Gives result doc.old.state doc.new.state
+        (give_nodes command (option_copied value.entry)) }
+    ensures keeps { Keeps doc.old doc.new }
+{
+    let list = editable_in_range(alloc, doc)?;
+    give_each(alloc, doc, value, &list, command)
+}
+
 // Set the value, steps 2 to 4.
-#[tactic(auto, using(edit_model::proofs::Steps::steps, edit_model::proofs::Steps::exits), unfolding(crate::specs::Selections::give_range, crate::specs::Selections::clear_elements, crate::specs::Selections::give_nodes))]
+#[tactic(auto, using(edit_model::proofs::Steps::steps, edit_model::proofs::Steps::exits), unfolding(crate::specs::Selections::give_range))]
 fn give_range(
     alloc: Global,
     doc: &mut Doc,
@@ -452,11 +498,9 @@ fn give_range(
         (give_range command (option_copied value.entry)) }
     ensures keeps { Keeps doc.old doc.new }
 {
-    split_ends(doc)?; // step 2
-    let elements = elements_in_range(alloc, doc)?; // step 3
-    clear_each(alloc, doc, &elements, command)?;
-    let nodes = editable_in_range(alloc, doc)?; // step 4
-    give_each(alloc, doc, value, &nodes, command)
+    split_ends(alloc, doc)?;
+    clear_elements(alloc, doc, command)?;
+    give_nodes(alloc, doc, value, command)
 }
 
 /// Gives what the active range contains the value (HTML Editing APIs, "set the selection's value");

@@ -3,7 +3,7 @@ use Rattle.std.specs.Prelude.{is_some}
 use Rattle.std.specs.List.{list_any}
 use Rattle.dom_model.proofs.Within.{depth_of-parent}
 use Rattle.command_value.specs.SpecifiedValues.{specified}
-use Rattle.inline_value.specs.Gaps.{is_given_above}
+use Rattle.inline_value.specs.Pushing.{is_given_above}
 use Rattle.inline_value.proofs.Givers.{no_ancestors, ancestors_above}
 use Rattle.inline_value.proofs.Above.{any_found, any_passed}
 use Rattle.inline_value.proofs.pushing.is_given_above.Goals as goal

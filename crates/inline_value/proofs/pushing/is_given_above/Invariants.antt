@@ -5,7 +5,7 @@ use Rattle.dom_model.specs.Forest.{depth_of}
 use Rattle.command_value.specs.SpecifiedValues.{specified}
 use Rattle.edit_doc.specs.Held.{Holds}
 use Rattle.inline_value.specs.Forcing.{ancestors}
-use Rattle.inline_value.specs.Gaps.{is_given_above}
+use Rattle.inline_value.specs.Pushing.{is_given_above}
 use Rattle.inline_value.proofs.pushing.is_given_above.Given as goal
 
 -- the ancestors still to be asked decide

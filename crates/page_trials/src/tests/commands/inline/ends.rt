@@ -11,10 +11,10 @@ use std::test::Fail;
 struct Ends(((u32, u32), (u32, u32)), ((u32, u32), (u32, u32)), u32);
 
 impl Act for Ends {
-    fn act(&self, _alloc: Global, doc: &mut Doc) -> Result<bool, Fail> {
+    fn act(&self, alloc: Global, doc: &mut Doc) -> Result<bool, Fail> {
         let Ends(before, after, next) = self;
         doc.select(point(before.0), point(before.1));
-        split_ends(doc)?;
+        split_ends(alloc, doc)?;
         let wanted = Pair {
             anchor: point(after.0),
             focus: point(after.1),
