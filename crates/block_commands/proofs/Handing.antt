@@ -1,10 +1,10 @@
 -- A child that gives itself no alignment has that of its parent.
-use Rattle.std.proofs.Common.{◌≡◌, ℕ, Bool, true, false, cond, List, ◌∷◌, codes, bytes_eq, Option, Some, None, IfSome, refl, sym, ap, subst, ◌∙◌}
+use Rattle.std.proofs.Common.{◌≡◌, ℕ, ◌<◌, Bool, true, false, cond, List, codes, bytes_eq, Option, Some, None, IfSome, refl, sym, ap, subst, ◌∙◌}
 use Rattle.std.proofs.lemmas.Slice.Eq.{bytes_eq-Decides}
-use Rattle.std.specs.Option.{option_map_or, option_and_then, unwrap_or, is_some}
+use Rattle.std.specs.Option.{option_map, option_map_or, option_and_then, unwrap_or, is_some}
 use Rattle.dom_model.specs.declared.Content.{Content}
 use Rattle.dom_model.specs.Contents.{name_in}
-use Rattle.dom_model.specs.Forest.{Forest, IsDistinct, parent_of, content_of}
+use Rattle.dom_model.specs.Forest.{Forest, IsDistinct, count_of, parent_of, content_of}
 use Rattle.dom_model.proofs.Links.{parent_count}
 use Rattle.css_value.specs.declared.values.TextAlign.{TextAlign}
 use Rattle.css_value.specs.declared.values.TextAlign.TheVariants as text_align_values
@@ -12,12 +12,11 @@ use Rattle.css_value.specs.Values.{text_align_keyword}
 use Rattle.style_table.specs.declared.Property.TheVariants as property
 use Rattle.style_table.specs.DefaultStyles.{default_of, default_text_align, text_align_rows, value_of}
 use Rattle.node_arena.specs.declared.NodeRef.{NodeRef}
-use Rattle.node_styles.specs.Lineage.{Ancestor, lineage, nearest}
+use Rattle.node_styles.specs.Lineage.{Ancestor}
 use Rattle.node_styles.specs.OwnStyles.{attribute, is_named, declared, defaulted, align_hint, own_text_align}
 use Rattle.node_styles.specs.Resolved.{text_align}
-use Rattle.node_styles.proofs.Lineages.{ancestor, lineage-child, nearest-parent}
-use Rattle.command_value.specs.Alignment.{has_own_box, from_nearest, alignment, alignment_value}
-use Rattle.command_value.specs.EffectiveValues.{inherited_in}
+use Rattle.node_styles.proofs.Lineages.{nearest-here, nearest-parent}
+use Rattle.command_value.specs.Alignment.{has_own_box, alignment, alignment_value}
 use Rattle.edit_model.specs.Gives.{label_of}
 use Rattle.block_commands.specs.Handed.{AlignsBelow, TakesKnown}
 
@@ -58,27 +57,25 @@ module _ (c : Content) where
 -- ---- a child of a known node
 
 module _ (f : Forest Content) (once : IsDistinct f) (l p : ℕ) (c : Content) (child : parent_of f l ≡ Some p) (content : content_of f l ≡ Some c) (none : own_text_align c ≡ None) where
+  here : 0 < count_of f l
+  here = (parent_count f l p once child).0
+
   same_below : text_align f l ≡ text_align f p
   unfolding text_align
   same_below =
       ap (λ (o : Option Ancestor). unwrap_or (option_and_then (λ k. own_text_align k.content) o) text_align_values.Left)
-      (nearest-parent (λ k. is_some (own_text_align k)) f once l c (parent_count f l p once child).0 content p child (ap is_some none))
+      (nearest-parent (λ k. is_some (own_text_align k)) f once l c here content p child (ap is_some none))
 
-  by_style : inherited_in own_text_align text_align_values.Left (lineage f l) ≡ text_align f l
-  unfolding text_align nearest
-  by_style = refl
-
+  -- in a box of its own it is the nearest, and else the nearest is the parent's
   same_own : (v : Bool) → has_own_box c ≡ v → alignment f l ≡ cond v (text_align f p) (alignment f p)
   unfolding alignment
   same_own true own =
-      ap (λ ks. inherited_in own_text_align text_align_values.Left (from_nearest has_own_box ks)) (lineage-child f once l p c child content)
-      ∙ ap (λ v. inherited_in own_text_align text_align_values.Left (cond v (ancestor l c ∷ lineage f p) (from_nearest has_own_box (lineage f p)))) own
-      ∙ ap (inherited_in own_text_align text_align_values.Left) (sym (lineage-child f once l p c child content))
-      ∙ by_style
+      ap (λ (o : Option Ancestor). option_map_or (text_align f) (option_map (λ k. k.label) o) text_align_values.Left)
+      (nearest-here has_own_box f once l c here content own)
       ∙ same_below
   same_own false own =
-      ap (λ ks. inherited_in own_text_align text_align_values.Left (from_nearest has_own_box ks)) (lineage-child f once l p c child content)
-      ∙ ap (λ v. inherited_in own_text_align text_align_values.Left (cond v (ancestor l c ∷ lineage f p) (from_nearest has_own_box (lineage f p)))) own
+      ap (λ (o : Option Ancestor). option_map_or (text_align f) (option_map (λ k. k.label) o) text_align_values.Left)
+      (nearest-parent has_own_box f once l c here content p child own)
 
   handed : (a : TextAlign) → AlignsBelow a f p → AlignsBelow a f l
   unfolding alignment_value
