@@ -151,7 +151,11 @@ static STYLES: [Page<Resolved>; 51] = [
     ),
     Page(
         "<p style=\"text-decoration: line-through  underline underline\">a</p>",
-        Resolved(Property::TextDecoration, 1, "line-through  underline underline"),
+        Resolved(
+            Property::TextDecoration,
+            1,
+            "line-through  underline underline",
+        ),
     ),
     Page(
         "<s style=\"text-decoration: blink\">a</s>",
