@@ -38,7 +38,6 @@ use Rattle.edit_laws.proofs.OrderPreserving.{order_preserving_answer, order_pres
 use Rattle.edit_actions.specs.Siblings.{first_parent, members}
 use Rattle.block_extend.specs.Gather.{gather, gather_on, gathered}
 use Rattle.block_extend.specs.Series.{is_next}
-use Rattle.block_commands.specs.Gathered.{contained_in}
 use Rattle.block_commands.specs.Series.{has_members, in_turns}
 use Rattle.wrap_split.specs.declared.rule.Recipe.TheVariants.{Nothing}
 use Rattle.wrap_split.specs.Split.{split_parent, split_members}
@@ -49,9 +48,9 @@ use Rattle.list_indent.specs.Indenting.{fixed}
 use Rattle.list_indent.specs.Outdenting.{outdent_node}
 use Rattle.list_indent.specs.Sublists.{is_list}
 use Rattle.list_toggle.specs.Collecting.{Collected, collect_items}
-use Rattle.list_toggle.specs.Converting.{of_kind, is_beside_fit, move_items, convert_list, convert_lists}
+use Rattle.list_toggle.specs.Converting.{of_kind, is_beside_fit, move_items, convert_list, convert_each, convert_lists}
 use Rattle.edit_query.specs.ListStates.{list_name, is_list_of, is_child_of, is_member, members_in}
-use Rattle.list_toggle.specs.Ranges.{keep_range, free_range, is_other_list, other_lists, ends_in, range_members, is_line, range_lines}
+use Rattle.list_toggle.specs.Ranges.{RangeEnds, extended_range, keep_range, kept_range, is_other_list, other_lists, range_members, is_line, range_lines}
 use Rattle.list_toggle.specs.Toggle.{goes_on_out, release_series, release_all, new_list, place_items, enlist_next, toggle_off, toggle_on, toggle_lists}
 use Rattle.command_laws.proofs.Criteria.{first_part, second_part, named_bare}
 use Rattle.command_laws.proofs.ListWalks.{FitAt, at_once, looking, Consecutive, fit_series}
@@ -81,18 +80,20 @@ list_thing false = refl
 list_of_bare : (ordered : Bool) (s : State) (l : ℕ) → has_name s.trees l (list_name ordered) ≡ true → IsBare s l
 list_of_bare ordered s l h = named_bare s l (list_name ordered) (list_thing ordered) h
 
--- ---- steps 1 and 2
+-- ---- step 3: the range that is kept
 
 fit_scratch : (pair : Pair) → Fit (set_scratch pair)
 fit_scratch pair = fit (order_preserving_perform (Scratch pair) tt) (steady_perform (Scratch pair) tt)
 
-fit_keep_range : Fit keep_range
+fit_keep_range : (range : RangeEnds) → Fit (keep_range range)
 unfolding keep_range
-fit_keep_range = search (fits, fit_scratch)
+fit_keep_range range = search (fits, fit_scratch)
 
-fit_free_range : Fit free_range
-unfolding free_range
-fit_free_range = fit_scratch _
+steady_keep_range : (range : RangeEnds) → Steady (keep_range range)
+steady_keep_range range = (fit_keep_range range).states
+
+fit_kept_range : Fit (look (λ s. answer (kept_range s)))
+fit_kept_range = search fits
 
 -- ---- step 3: the children of a list go into one beside it
 
@@ -137,13 +138,13 @@ unfolding AllLists
 lists_stay ordered m s is [] all = tt
 lists_stay ordered m s is (l ∷ list) all = (name_stays m s is l (list_name ordered) all.0, lists_stay ordered m s is list all.1)
 
-convert_each : (ordered : Bool) (list : List ℕ) (s : State) → IsKeeping s → AllLists (not ordered) s list → KeepsOrder s (final (for_each list (convert_list ordered)) s)
+convert_in_turn : (ordered : Bool) (list : List ℕ) (s : State) → IsKeeping s → AllLists (not ordered) s list → KeepsOrder s (final (for_each list (convert_list ordered)) s)
 unfolding AllLists
-convert_each ordered [] s is all = rw (for_each-nil, final-answer) (keeps_refl _)
-convert_each ordered (l ∷ list) s is all =
+convert_in_turn ordered [] s is all = rw (for_each-nil, final-answer) (keeps_refl _)
+convert_in_turn ordered (l ∷ list) s is all =
     let m = convert_list ordered l in
     rw (for_each-cons, final-bind)
-    (keeps_trans (convert_keeps ordered l s is (list_of_bare (not ordered) s l all.0)) (convert_each ordered list (final m s) (keeping_final m s is) (lists_stay (not ordered) m s is list all.1)))
+    (keeps_trans (convert_keeps ordered l s is (list_of_bare (not ordered) s l all.0)) (convert_in_turn ordered list (final m s) (keeping_final m s is) (lists_stay (not ordered) m s is list all.1)))
 
 filtered_lists : (ordered : Bool) (s : State) (list : List ℕ) → AllLists (not ordered) s (filter (is_other_list ordered s) list)
 unfolding AllLists is_other_list
@@ -155,19 +156,31 @@ filtered_lists ordered s (l ∷ list) = by (is_editable_for s l && is_list_of (n
     by true e more = (second_part (is_editable_for s l) (is_list_of (not ordered) s.trees l) e, more)
     by false e more = more
 
-all_other : (ordered : Bool) (s : State) → AllLists (not ordered) s (other_lists ordered s)
+all_other : (ordered : Bool) (s : State) (range : RangeEnds) → AllLists (not ordered) s (other_lists ordered s range)
 unfolding other_lists AllLists
-all_other ordered s = by s.points.scratch
-  where
-    by : (o : Option Pair) → AllLists (not ordered) s (option_map_or (λ pair. contained_in (is_other_list ordered s) s.trees (ends_in s.trees pair)) o [])
-    by None = tt
-    by (Some pair) = filtered_lists ordered s _
+all_other ordered s None = tt
+all_other ordered s (Some ends) = filtered_lists ordered s _
+
+-- the range is kept before and told after
+convert_each_keeps : (ordered : Bool) (range : RangeEnds) (lists : List ℕ) (s : State) → IsKeeping s → AllLists (not ordered) s lists → KeepsOrder s (final (convert_each ordered range lists) s)
+unfolding convert_each
+convert_each_keeps ordered range [] s is all = rw final-answer (keeps_refl _)
+convert_each_keeps ordered range (l ∷ lists) s is all =
+    let m = keep_range range in
+    let t : State = final m s in
+    let is_t = keeping_final m s is in
+    let each = convert_in_turn ordered (l ∷ lists) t is_t (lists_stay (not ordered) m s is (l ∷ lists) all) in
+    rw (final-bind m _ s) (keeps_trans ((fit_keep_range range).order.keeps s is) (then_order_preserving (for_each (l ∷ lists) (convert_list ordered)) (look (λ u. answer (kept_range u))) t is_t each fit_kept_range.order))
+
+steady_convert_each : (ordered : Bool) (range : RangeEnds) (lists : List ℕ) → Steady (convert_each ordered range lists)
+unfolding convert_each
+steady_convert_each ordered range lists = search (steady_parts, steady_keep_range, steady_convert) depth 8
 
 fit_convert_lists : (ordered : Bool) → Fit (convert_lists ordered)
 unfolding convert_lists
 fit_convert_lists ordered = fit
-    (record { keeps = λ s is. rw final-look (convert_each ordered (other_lists ordered s) s is (all_other ordered s)) })
-    (search (steady_parts, steady_convert))
+    (record { keeps = λ s is. rw final-look (convert_each_keeps ordered (extended_range s) (other_lists ordered s (extended_range s)) s is (all_other ordered s (extended_range s))) })
+    (search (steady_parts, steady_convert_each))
 
 -- ---- step 5
 
@@ -183,16 +196,13 @@ release_series_fits ordered s list is k = by (first_in list)
     by None = at_once done s is (fit_answer tt)
     by (Some x) = looking _ s (by_kind x (is_list_of ordered s.trees x))
 
-steady_free_range : Steady free_range
-steady_free_range = fit_free_range.states
-
 fit_release_all : (ordered : Bool) (list : List ℕ) → Fit (release_all ordered list)
 unfolding release_all goes_on_out
 fit_release_all ordered list = fit_series (goes_on_out ordered) (release_series ordered) (λ s x y h. first_part (is_next s.trees x y) _ h) (λ s l is k. release_series_fits ordered s l is k) list
 
 fit_toggle_off : (ordered : Bool) → Fit (toggle_off ordered)
 unfolding toggle_off
-fit_toggle_off ordered = search (fits, fit_free_range, fit_release_all)
+fit_toggle_off ordered = search (fits, fit_release_all)
 
 -- ---- step 6, b to d
 
@@ -318,10 +328,6 @@ enlist_all_keeps : (ordered : Bool) (s : State) → IsKeeping s → (list : List
 enlist_all_keeps ordered s is list known =
     rw final-look (then_order_preserving (while_at_most (turn_bound s) has_members (enlist_next ordered) list) done s is (enlist_turns ordered (turn_bound s) s is list known).order (order_preserving_answer tt))
 
-known_after : {T : Type 0} (m : Run T) (s : State) (list : List ℕ) → Known s list → Known (final m s) list
-unfolding Known
-known_after m s list known l h = omega (arith, known l h, final_next m s)
-
 filter_few : (test : ℕ → Bool) (xs : List ℕ) (l : ℕ) → times (filter test xs) l ≤ times xs l
 filter_few test [] l = omega arith
 filter_few test (x ∷ xs) l = by (test x) (filter_few test xs l)
@@ -365,43 +371,34 @@ member_known s is l r = by (parent_of s.trees l) refl
         let k : None ≡ Some r.0 = sym (editing_host-root s.trees is.forest.distinct l root) ∙ hosted in
         cc)
 
-abbrev members_by : State → Option Pair → List ℕ
-members_by s o = option_map_or (λ pair. members_in s.trees s.host (ends_in s.trees pair)) o []
-
--- the lines of the range are there
-range_known : (s : State) → IsValid s → Known s (range_lines s)
+-- the lines of a range are there
+range_known : (s : State) → IsValid s → (range : RangeEnds) → Known s (range_lines s range)
 unfolding range_lines range_members Known
-range_known s is l h = member_known s is l (by s.points.scratch (filter_few (is_line s) (range_members s) l) h)
+range_known s is range l h = member_known s is l (by range (filter_few (is_line s) (range_members s range) l) h)
   where
-    by_host : (pair : Pair) (o : Option ℕ) → 0 < times (members_in s.trees o (ends_in s.trees pair)) l → (h : ℕ) × (is_member s.trees h l ≡ true)
-    by_host pair None k = absurd (omega (arith, k))
-    by_host pair (Some h) k = (h, gathered_passes (is_member s.trees h) s.trees _ _ l k)
+    by_host : (ends : Point × Point) (o : Option ℕ) → 0 < times (members_in s.trees o ends) l → (h : ℕ) × (is_member s.trees h l ≡ true)
+    by_host ends None k = absurd (omega (arith, k))
+    by_host ends (Some h) k = (h, gathered_passes (is_member s.trees h) s.trees _ _ l k)
 
-    by : (o : Option Pair) → times (filter (is_line s) (members_by s o)) l ≤ times (members_by s o) l → 0 < times (filter (is_line s) (members_by s o)) l → (h : ℕ) × (is_member s.trees h l ≡ true)
+    by : (o : RangeEnds) → times (filter (is_line s) (range_members s o)) l ≤ times (range_members s o) l → 0 < times (filter (is_line s) (range_members s o)) l → (h : ℕ) × (is_member s.trees h l ≡ true)
     by None few k = absurd (omega (arith, k))
-    by (Some pair) few k = by_host pair s.host (omega (arith, few, k))
+    by (Some ends) few k = by_host ends s.host (omega (arith, few, k))
 
 -- from the lines of the range on
-fit_enlist : (ordered : Bool) → Fit (look (λ s. free_range >> in_turns (enlist_next ordered) (range_lines s)))
-fit_enlist ordered = fit
-    (record { keeps = λ s is. rw final-look (lines_keep ordered s is) })
-    (search (steady_parts, steady_free_range, steady_enlist_next) depth 8)
-  where
-    lines_keep : (ordered : Bool) (s : State) → IsKeeping s → KeepsOrder s (final (free_range >> in_turns (enlist_next ordered) (range_lines s)) s)
-    lines_keep ordered s is =
-        let t : State = final free_range s in
-        let known : Known t (range_lines s) = known_after free_range s (range_lines s) (range_known s is.valid) in
-        rw final-bind (keeps_trans (fit_free_range.order.keeps s is) (enlist_all_keeps ordered t (keeping_final free_range s is) (range_lines s) known))
+fit_enlist : (ordered : Bool) (range : RangeEnds) → Fit (look (λ s. in_turns (enlist_next ordered) (range_lines s range)))
+fit_enlist ordered range = fit
+    (record { keeps = λ s is. rw final-look (enlist_all_keeps ordered s is (range_lines s range) (range_known s is.valid range)) })
+    (search (steady_parts, steady_enlist_next) depth 8)
 
 -- ---- the whole
 
 fit_toggle_on : (ordered : Bool) → Fit (toggle_on ordered)
 unfolding toggle_on
-fit_toggle_on ordered = fit_bind (convert_lists ordered) _ (fit_convert_lists ordered) (λ _. fit_enlist ordered)
+fit_toggle_on ordered = fit_bind (convert_lists ordered) _ (fit_convert_lists ordered) (λ range. fit_enlist ordered range)
 
 fit_toggle : (ordered : Bool) → Fit (toggle_lists ordered)
 unfolding toggle_lists
-fit_toggle ordered = search (fits, fit_range, fit_keep_range, fit_toggle_off, fit_toggle_on) depth 8
+fit_toggle ordered = search (fits, fit_range, fit_toggle_off, fit_toggle_on) depth 8
 
 -- ---- the certificates
 

@@ -18,7 +18,6 @@ use Rattle.block_commands.specs.Justify.{is_misaligned, clear_alignments, align_
 use Rattle.block_commands.specs.Series.{in_turns}
 use Rattle.edit_query.specs.Gathered.{outermost}
 use Rattle.list_indent.specs.Commands.{normalize_range, is_indentable, indent_nodes, indent, is_outdentable, outdent_nodes, outdent}
-use Rattle.list_toggle.specs.Ranges.{keep_range}
 use Rattle.list_toggle.specs.Toggle.{toggle_off, toggle_on, toggle_lists}
 use Rattle.text_insertion.specs.Paragraph.{insert_paragraph_inside, insert_paragraph}
 use Rattle.text_insertion.specs.Start.{erase}
@@ -155,9 +154,7 @@ lists_toggled ordered s = if is_list_state ordered (list_state s s.host) then to
 
 leaves_lists : (ordered : Bool) → LeavesRefused (toggle_lists ordered)
 unfolding toggle_lists
-leaves_lists ordered = leaves_look (λ s. normalize_range >> (keep_range >> (lists_toggled ordered s >> answer true))) λ s.
-    let range = lists_toggled ordered s >> answer true in
-    leaves_taken (normalize_range >> (keep_range >> range)) (true_after normalize_range (keep_range >> range) (true_after keep_range range (true_last (lists_toggled ordered s))))
+leaves_lists ordered = leaves_look (λ s. normalize_range >> (lists_toggled ordered s >> answer true)) (λ s. leaves_two normalize_range (lists_toggled ordered s))
 
 leaves_line_break : LeavesRefused insert_line_break
 leaves_line_break = leaves_taken insert_line_break line_break_answers_true

@@ -2,11 +2,11 @@
 -- them. The steps are those of docs/ALGORITHMS.md.
 use Rattle.std.specs.Prelude.{ℕ, Bool, false, ◌&&◌, ◌||◌, List, Option, Some, None, if◌then◌else◌}
 use Rattle.dom_model.specs.Contents.{is_element_at}
-use Rattle.dom_model.specs.Forest.{prev_of, next_of, children_of}
+use Rattle.dom_model.specs.Forest.{prev_of, next_of, children_of, first_in}
 use Rattle.edit_model.specs.State.{State}
 use Rattle.edit_model.specs.Confined.{is_editable_for}
 use Rattle.edit_model.specs.Compositions.{set_tag_name}
-use Rattle.edit_model.specs.Run.{Run, ◌>>=◌, ◌>>◌, done, look, for_each}
+use Rattle.edit_model.specs.Run.{Run, ◌>>=◌, ◌>>◌, answer, done, look, given, for_each}
 use Rattle.wrap_split.specs.declared.rule.Criterion.{Criterion}
 use Rattle.wrap_split.specs.declared.rule.Criterion.TheVariants.{Named}
 use Rattle.wrap_split.specs.declared.rule.Recipe.{Recipe}
@@ -15,7 +15,7 @@ use Rattle.wrap_split.specs.Split.{split_parent}
 use Rattle.wrap_split.specs.Wrap.{wrap}
 use Rattle.inline_value.specs.Recording.{record_values, restore_values}
 use Rattle.edit_query.specs.ListStates.{list_name, is_list_of}
-use Rattle.list_toggle.specs.Ranges.{other_lists}
+use Rattle.list_toggle.specs.Ranges.{RangeEnds, extended_range, keep_range, kept_range, other_lists}
 
 -- the criterion: an element of the kind
 abbrev pub of_kind : Bool → Criterion
@@ -46,6 +46,15 @@ convert_list ordered l = look λ s.
     then move_items (of_kind ordered) Nothing (children_of s.trees l)
     else (if is_element_at s.trees l then set_tag_name l (list_name ordered) >> done else done)
 
--- step 3
-unfoldable pub convert_lists : Bool → Run (Unit {0})
-convert_lists ordered = look λ s. for_each (other_lists ordered s) (convert_list ordered)
+-- step 3, of all of them; the range is kept as points meanwhile, and its ends are then the answer.
+-- Where there are no such lists, nothing moves them.
+unfoldable pub convert_each : Bool → RangeEnds → List ℕ → Run RangeEnds
+convert_each ordered range lists = given (first_in lists) (answer range) λ l. do
+  keep_range range
+  for_each lists (convert_list ordered)
+  look λ s. answer (kept_range s)
+
+-- steps 2 and 3
+unfoldable pub convert_lists : Bool → Run RangeEnds
+convert_lists ordered = look λ s.
+    let range = extended_range s in convert_each ordered range (other_lists ordered s range)

@@ -20,7 +20,7 @@ use Rattle.list_indent.specs.Series.{for_series}
 use Rattle.list_indent.specs.Sublists.{is_list}
 use Rattle.list_toggle.specs.Collecting.{collect_items}
 use Rattle.list_toggle.specs.Converting.{of_kind, move_items, convert_lists}
-use Rattle.list_toggle.specs.Ranges.{keep_range, free_range, range_members, range_lines}
+use Rattle.list_toggle.specs.Ranges.{extended_range, range_members, range_lines}
 
 -- ---- step 5: the lines leave their lists
 
@@ -63,20 +63,19 @@ enlist_next ordered list = do
 
 -- ---- the whole
 
--- steps 4 and 5
+-- steps 2, 4 and 5
 unfoldable pub toggle_off : Bool → Run (Unit {0})
-toggle_off ordered = look λ s. free_range >> release_all ordered (range_members s)
+toggle_off ordered = look λ s. release_all ordered (range_members s (extended_range s))
 
--- steps 3, 4 and 6
+-- steps 2 to 4 and 6
 unfoldable pub toggle_on : Bool → Run (Unit {0})
 toggle_on ordered = do
-  convert_lists ordered
-  look λ s. free_range >> in_turns (enlist_next ordered) (range_lines s)
+  range ← convert_lists ordered
+  look λ s. in_turns (enlist_next ordered) (range_lines s range)
 
 -- whether the lines stand in lists of the kind is asked before the first step changes something
 unfoldable pub toggle_lists : Bool → Run Bool
 toggle_lists ordered = look λ s. do
   normalize_range
-  keep_range
   if is_list_state ordered (list_state s s.host) then toggle_off ordered else toggle_on ordered
   answer true

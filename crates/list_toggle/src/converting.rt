@@ -1,13 +1,14 @@
 //! Toggle lists, step 3: the lists of the other kind become lists of the kind, or go into one
 //! beside them.
 
-ghost use Rattle.std.specs.Prelude.{◌≡◌};
+ghost use Rattle.std.specs.Prelude.{◌≡◌, IfOk, IfSome};
 ghost use Rattle.edit_model.specs.Gives.{Gives, label_of, labels_of};
 ghost use Rattle.edit_doc.specs.Held.{Holds, IfHeld, EachHeld, Keeps};
 ghost use Rattle.edit_doc.specs.Whole.{IsOpen};
 ghost use Rattle.list_toggle.specs.Converting as convert;
+ghost use Rattle.list_toggle.specs.Ranges.{AreThere};
 
-use crate::ranges::other_lists;
+use crate::ranges::{RangeEnds, extended_range, keep_range, kept_range, other_lists};
 use edit_doc::{Doc, EditFault, Name, NodeList, NodeRef};
 use edit_query::{is_list_of, list_name};
 use inline_value::{record_values, restore_values};
@@ -77,16 +78,47 @@ fn convert_list(alloc: Global, doc: &mut Doc, ordered: bool, node: NodeRef) -> R
     Ok(())
 }
 
-/// Step 3.
-#[tactic(auto, using(edit_model::proofs::Steps::eachs, edit_model::proofs::Steps::exits), unfolding(crate::specs::Converting::convert_lists))]
-pub(crate) fn convert_lists(alloc: Global, doc: &mut Doc, ordered: bool) -> Result<(), EditFault>
+// Step 3, of all of them: the range as it is afterwards. Its ends are kept as points where there is
+// something to do.
+#[tactic(auto, using(edit_model::proofs::Steps::eachs, edit_model::proofs::Steps::exits, edit_model::proofs::Steps::ends), unfolding(crate::specs::Converting::convert_each))]
+fn convert_each(
+    alloc: Global,
+    doc: &mut Doc,
+    ordered: bool,
+    range: RangeEnds,
+    lists: &[NodeRef],
+) -> Result<RangeEnds, EditFault>
     requires open { IsOpen doc.old }
-    ensures gives { Gives result doc.old.state doc.new.state (convert.convert_lists ordered) }
+    requires there { IfSome range (AreThere doc.old.state.trees) }
+    requires lists_held { EachHeld doc.old lists.now }
+    ensures gives { Gives result doc.old.state doc.new.state
+        (convert.convert_each ordered range (labels_of lists.now)) }
+    ensures there { IfOk result (λ ends. IfSome ends (AreThere doc.new.state.trees)) }
     ensures keeps { Keeps doc.old doc.new }
 {
-    let lists = other_lists(alloc, doc, ordered)?;
-    for list in &lists {
+    if lists.len() == 0 {
+        return Ok(range);
+    }
+    keep_range(doc, range);
+    for list in lists {
         convert_list(alloc, doc, ordered, *list)?;
     }
-    Ok(())
+    Ok(kept_range(doc))
+}
+
+/// Steps 2 and 3: the range once it has no lists of the other kind.
+#[tactic(auto, using(edit_model::proofs::Steps::steps, edit_model::proofs::Steps::exits), unfolding(crate::specs::Converting::convert_lists))]
+pub(crate) fn convert_lists(
+    alloc: Global,
+    doc: &mut Doc,
+    ordered: bool,
+) -> Result<RangeEnds, EditFault>
+    requires open { IsOpen doc.old }
+    ensures gives { Gives result doc.old.state doc.new.state (convert.convert_lists ordered) }
+    ensures there { IfOk result (λ ends. IfSome ends (AreThere doc.new.state.trees)) }
+    ensures keeps { Keeps doc.old doc.new }
+{
+    let range = extended_range(doc);
+    let lists = other_lists(alloc, doc, ordered, range)?;
+    convert_each(alloc, doc, ordered, range, &lists)
 }

@@ -10,7 +10,7 @@ ghost use Rattle.list_toggle.specs.Toggle as toggle;
 
 use crate::collecting::collect_items;
 use crate::converting::{convert_lists, move_items};
-use crate::ranges::{free_range, keep_range, range_lines, range_members};
+use crate::ranges::{extended_range, range_lines, range_members};
 use block_commands::{Turn, in_turns};
 use block_extend::{Link, count_series, is_next};
 use edit_doc::{Doc, EditFault, Name, NodeList, NodeRef};
@@ -159,28 +159,27 @@ impl Turn for EnlistTurn {
 
 // ---- the whole
 
-// Steps 4 and 5.
+// Steps 2, 4 and 5.
 #[tactic(auto, using(edit_model::proofs::Steps::steps, edit_model::proofs::Steps::exits), unfolding(crate::specs::Toggle::toggle_off))]
 fn toggle_off(alloc: Global, doc: &mut Doc, ordered: bool) -> Result<(), EditFault>
     requires open { IsOpen doc.old }
     ensures gives { Gives result doc.old.state doc.new.state (toggle.toggle_off ordered) }
     ensures keeps { Keeps doc.old doc.new }
 {
-    let list = range_members(alloc, doc)?; // step 4
-    free_range(doc);
+    let range = extended_range(doc); // step 2
+    let list = range_members(alloc, doc, range)?; // step 4
     release_all(alloc, doc, ordered, list.as_slice())
 }
 
-// Steps 3, 4 and 6.
+// Steps 2 to 4 and 6.
 #[tactic(auto, using(edit_model::proofs::Steps::steps, edit_model::proofs::Steps::exits), unfolding(crate::specs::Toggle::toggle_on))]
 fn toggle_on(alloc: Global, doc: &mut Doc, ordered: bool) -> Result<(), EditFault>
     requires open { IsOpen doc.old }
     ensures gives { Gives result doc.old.state doc.new.state (toggle.toggle_on ordered) }
     ensures keeps { Keeps doc.old doc.new }
 {
-    convert_lists(alloc, doc, ordered)?;
-    let list = range_lines(alloc, doc)?; // step 4
-    free_range(doc);
+    let range = convert_lists(alloc, doc, ordered)?; // steps 2 and 3
+    let list = range_lines(alloc, doc, range)?; // step 4
     in_turns(alloc, doc, &EnlistTurn { ordered }, &list)
 }
 
@@ -196,7 +195,6 @@ pub fn toggle_lists(alloc: Global, doc: &mut Doc, ordered: bool) -> Result<bool,
     // step 1
     let off = list_state(alloc, doc, doc.host())?.is_of(ordered);
     normalize_range(alloc, doc)?;
-    keep_range(doc); // step 2
     if off {
         toggle_off(alloc, doc, ordered)?;
     } else {

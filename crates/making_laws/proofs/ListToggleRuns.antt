@@ -2,9 +2,9 @@
 use Rattle.std.proofs.Common.{◌≡◌, ℕ, Bool, true, false, List}
 use Rattle.wrap_split.specs.declared.rule.Recipe.TheVariants.{Nothing}
 use Rattle.wrap_split.specs.Wrap.{wrap}
-use Rattle.list_toggle.specs.Converting.{of_kind, move_items, convert_list, convert_lists}
+use Rattle.list_toggle.specs.Converting.{of_kind, move_items, convert_list, convert_each, convert_lists}
 use Rattle.edit_query.specs.ListStates.{list_name}
-use Rattle.list_toggle.specs.Ranges.{keep_range, free_range}
+use Rattle.list_toggle.specs.Ranges.{RangeEnds, keep_range}
 use Rattle.list_toggle.specs.Toggle.{goes_on_out, release_series, release_all, new_list, place_items, enlist_next, toggle_off, toggle_on, toggle_lists}
 use Rattle.making_laws.specs.Names.{is_made_name}
 use Rattle.making_laws.specs.Tame.{Tame}
@@ -15,13 +15,9 @@ use Rattle.making_laws.proofs.PushingRuns.{tame_record_values, tame_restore_valu
 use Rattle.making_laws.proofs.Splits.{tame_split}
 use Rattle.making_laws.proofs.Wraps.{tame_wrap, tame_wrap_found}
 
-tame_keep_range : Tame keep_range
+tame_keep_range : (range : RangeEnds) → Tame (keep_range range)
 unfolding keep_range
-tame_keep_range = search tame_parts
-
-tame_free_range : Tame free_range
-unfolding free_range
-tame_free_range = search tame_parts
+tame_keep_range range = search tame_parts
 
 -- ---- names
 
@@ -39,9 +35,13 @@ tame_convert : (ordered : Bool) (l : ℕ) → Tame (convert_list ordered l)
 unfolding convert_list
 tame_convert ordered l = search (tame_parts, made_list, tame_join) depth 8
 
+tame_convert_each : (ordered : Bool) (range : RangeEnds) (lists : List ℕ) → Tame (convert_each ordered range lists)
+unfolding convert_each
+tame_convert_each ordered range lists = search (tame_parts, tame_keep_range, tame_convert) depth 8
+
 tame_convert_lists : (ordered : Bool) → Tame (convert_lists ordered)
 unfolding convert_lists
-tame_convert_lists ordered = search (tame_parts, tame_convert)
+tame_convert_lists ordered = search (tame_parts, tame_convert_each)
 
 -- ---- off
 
@@ -55,7 +55,7 @@ tame_release_all ordered list = tame_series (goes_on_out ordered) (release_serie
 
 tame_toggle_off : (ordered : Bool) → Tame (toggle_off ordered)
 unfolding toggle_off
-tame_toggle_off ordered = search (tame_parts, tame_free_range, tame_release_all)
+tame_toggle_off ordered = search (tame_parts, tame_release_all)
 
 -- ---- on
 
@@ -76,8 +76,8 @@ tame_enlist_next ordered list = search (tame_parts, tame_collect, tame_place_ite
 
 tame_toggle_on : (ordered : Bool) → Tame (toggle_on ordered)
 unfolding toggle_on
-tame_toggle_on ordered = search (tame_parts, tame_convert_lists, tame_free_range, tame_enlist_next) depth 9
+tame_toggle_on ordered = search (tame_parts, tame_convert_lists, tame_enlist_next) depth 9
 
 pub tame_toggle_lists : (ordered : Bool) → Tame (toggle_lists ordered)
 unfolding toggle_lists
-tame_toggle_lists ordered = search (tame_parts, tame_range, tame_keep_range, tame_toggle_off, tame_toggle_on) depth 8
+tame_toggle_lists ordered = search (tame_parts, tame_range, tame_toggle_off, tame_toggle_on) depth 8
