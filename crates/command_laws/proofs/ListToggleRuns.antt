@@ -51,6 +51,7 @@ use Rattle.list_toggle.specs.Collecting.{Collected, collect_items}
 use Rattle.list_toggle.specs.Converting.{of_kind, is_beside_fit, move_items, convert_list, convert_each, convert_lists}
 use Rattle.edit_query.specs.ListStates.{list_name, is_list_of, is_child_of, is_member, members_in}
 use Rattle.list_toggle.specs.Ranges.{RangeEnds, extended_range, keep_range, kept_range, is_other_list, other_lists, range_members, is_line, range_lines}
+use Rattle.list_toggle.specs.declared.toggling.ListKind.{ListKind}
 use Rattle.list_toggle.specs.Toggle.{goes_on_out, release_series, release_all, new_list, place_items, enlist_next, toggle_off, toggle_on, toggle_lists}
 use Rattle.command_laws.proofs.Criteria.{first_part, second_part, named_bare}
 use Rattle.command_laws.proofs.ListWalks.{FitAt, at_once, looking, Consecutive, fit_series}
@@ -396,14 +397,14 @@ fit_toggle_on : (ordered : Bool) → Fit (toggle_on ordered)
 unfolding toggle_on
 fit_toggle_on ordered = fit_bind (convert_lists ordered) _ (fit_convert_lists ordered) (λ range. fit_enlist ordered range)
 
-fit_toggle : (ordered : Bool) → Fit (toggle_lists ordered)
+fit_toggle : (kind : ListKind) → Fit (toggle_lists kind)
 unfolding toggle_lists
-fit_toggle ordered = search (fits, fit_range, fit_toggle_off, fit_toggle_on) depth 8
+fit_toggle kind = search (fits, fit_range, fit_toggle_off, fit_toggle_on) depth 8
 
 -- ---- the certificates
 
-pub order_preserving_toggle_lists : (ordered : Bool) → OrderPreserving (toggle_lists ordered)
-order_preserving_toggle_lists ordered = (fit_toggle ordered).order
+pub order_preserving_toggle_lists : (kind : ListKind) → OrderPreserving (toggle_lists kind)
+order_preserving_toggle_lists kind = (fit_toggle kind).order
 
-pub steady_toggle_lists : (ordered : Bool) → Steady (toggle_lists ordered)
-steady_toggle_lists ordered = (fit_toggle ordered).states
+pub steady_toggle_lists : (kind : ListKind) → Steady (toggle_lists kind)
+steady_toggle_lists kind = (fit_toggle kind).states

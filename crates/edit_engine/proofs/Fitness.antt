@@ -17,6 +17,7 @@ use Rattle.command_laws.proofs.FormatRuns.{order_preserving_remove_format, stead
 use Rattle.command_laws.proofs.IndentRuns.{order_preserving_indent, steady_indent, order_preserving_outdent, steady_outdent}
 use Rattle.command_laws.proofs.LinkingRuns.{order_preserving_create_link, steady_create_link, order_preserving_unlink, steady_unlink}
 use Rattle.command_laws.proofs.ListToggleRuns.{order_preserving_toggle_lists, steady_toggle_lists}
+use Rattle.list_toggle.specs.declared.toggling.ListKind.TheVariants.{Ordered, Unordered}
 use Rattle.command_laws.proofs.ObjectRuns.{steady_insert_line_break, steady_insert_horizontal_rule, steady_insert_image}
 use Rattle.command_laws.proofs.RestoringRuns.{order_preserving_restore_states, steady_restore_states}
 use Rattle.command_laws.proofs.TogglingRuns.{order_preserving_toggle_style, steady_toggle_style, order_preserving_toggle_script, steady_toggle_script, order_preserving_apply_value, steady_apply_value}
@@ -85,8 +86,8 @@ own_fit command.InsertParagraph value = other steady_insert_paragraph
 own_fit command.StyleWithCss value = other (steady_styling (not (is_value value (codes "false"))))
 own_fit command.UseCss value = other (steady_styling (is_value value (codes "false")))
 own_fit command.DefaultParagraphSeparator value = other (steady_separator value)
-own_fit command.InsertOrderedList value = keeper (steady_toggle_lists true) (order_preserving_toggle_lists true)
-own_fit command.InsertUnorderedList value = keeper (steady_toggle_lists false) (order_preserving_toggle_lists false)
+own_fit command.InsertOrderedList value = keeper (steady_toggle_lists Ordered) (order_preserving_toggle_lists Ordered)
+own_fit command.InsertUnorderedList value = keeper (steady_toggle_lists Unordered) (order_preserving_toggle_lists Unordered)
 own_fit command.InsertLineBreak value = other steady_insert_line_break
 own_fit command.InsertHorizontalRule value = other steady_insert_horizontal_rule
 own_fit command.InsertImage value = other (steady_insert_image value)

@@ -18,7 +18,9 @@ use Rattle.block_commands.specs.Justify.{is_misaligned, clear_alignments, align_
 use Rattle.block_commands.specs.Series.{in_turns}
 use Rattle.edit_query.specs.Gathered.{outermost}
 use Rattle.list_indent.specs.Commands.{normalize_range, is_indentable, indent_nodes, indent, is_outdentable, outdent_nodes, outdent}
-use Rattle.list_toggle.specs.Toggle.{toggle_off, toggle_on, toggle_lists}
+use Rattle.list_toggle.specs.Toggle.{is_ordered, toggle_off, toggle_on, toggle_lists}
+use Rattle.list_toggle.specs.declared.toggling.ListKind.{ListKind}
+use Rattle.list_toggle.specs.declared.toggling.ListKind.TheVariants.{Ordered, Unordered}
 use Rattle.text_insertion.specs.Paragraph.{insert_paragraph_inside, insert_paragraph}
 use Rattle.text_insertion.specs.Start.{erase}
 use Rattle.text_insertion.specs.Typing.{insert_chars, insert_text}
@@ -149,12 +151,12 @@ leaves_paragraph : LeavesRefused insert_paragraph
 unfolding insert_paragraph
 leaves_paragraph = leaves_two (erase true true false) insert_paragraph_inside
 
-abbrev lists_toggled : Bool → State → Run (Unit {0})
-lists_toggled ordered s = if is_list_state ordered (list_state s s.host) then toggle_off ordered else toggle_on ordered
+abbrev lists_toggled : ListKind → State → Run (Unit {0})
+lists_toggled kind s = if is_list_state (is_ordered kind) (list_state s s.host) then toggle_off (is_ordered kind) else toggle_on (is_ordered kind)
 
-leaves_lists : (ordered : Bool) → LeavesRefused (toggle_lists ordered)
+leaves_lists : (kind : ListKind) → LeavesRefused (toggle_lists kind)
 unfolding toggle_lists
-leaves_lists ordered = leaves_look (λ s. normalize_range >> (lists_toggled ordered s >> answer true)) (λ s. leaves_two normalize_range (lists_toggled ordered s))
+leaves_lists kind = leaves_look (λ s. normalize_range >> (lists_toggled kind s >> answer true)) (λ s. leaves_two normalize_range (lists_toggled kind s))
 
 leaves_line_break : LeavesRefused insert_line_break
 leaves_line_break = leaves_taken insert_line_break line_break_answers_true
@@ -221,8 +223,8 @@ own_refusals command.UseCss v = leaves_css_styling (is_value v (codes "false"))
 own_refusals command.DefaultParagraphSeparator v = leaves_separator v
 own_refusals command.InsertText v = leaves_text v
 own_refusals command.InsertParagraph v = leaves_paragraph
-own_refusals command.InsertOrderedList v = leaves_lists true
-own_refusals command.InsertUnorderedList v = leaves_lists false
+own_refusals command.InsertOrderedList v = leaves_lists Ordered
+own_refusals command.InsertUnorderedList v = leaves_lists Unordered
 
 pub refusals_leave : RefusalsLeave
 refusals_leave c v = leaves_framed (row_of c).recording (own_action c v) (own_refusals c v)

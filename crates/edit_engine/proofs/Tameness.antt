@@ -19,6 +19,7 @@ use Rattle.making_laws.proofs.FormatRuns.{tame_remove_format}
 use Rattle.making_laws.proofs.IndentRuns.{tame_indent, tame_outdent}
 use Rattle.making_laws.proofs.LinkingRuns.{tame_create_link, tame_unlink}
 use Rattle.making_laws.proofs.ListToggleRuns.{tame_toggle_lists}
+use Rattle.list_toggle.specs.declared.toggling.ListKind.TheVariants.{Ordered, Unordered}
 use Rattle.making_laws.proofs.ObjectRuns.{tame_insert_line_break, tame_insert_horizontal_rule, tame_insert_image}
 use Rattle.making_laws.proofs.RestoringRuns.{tame_restore_states}
 use Rattle.making_laws.proofs.TogglingRuns.{tame_toggle_style, tame_toggle_script, tame_apply_value}
@@ -81,8 +82,8 @@ own_tame s command.InsertParagraph value = from_any _ _ tame_insert_paragraph
 own_tame s command.StyleWithCss value = from_any _ _ (tame_styling (not (is_value value (codes "false"))))
 own_tame s command.UseCss value = from_any _ _ (tame_styling (is_value value (codes "false")))
 own_tame s command.DefaultParagraphSeparator value = from_any _ _ (tame_separator value)
-own_tame s command.InsertOrderedList value = from_any _ _ (tame_toggle_lists true)
-own_tame s command.InsertUnorderedList value = from_any _ _ (tame_toggle_lists false)
+own_tame s command.InsertOrderedList value = from_any _ _ (tame_toggle_lists Ordered)
+own_tame s command.InsertUnorderedList value = from_any _ _ (tame_toggle_lists Unordered)
 own_tame s command.InsertLineBreak value = from_any _ _ tame_insert_line_break
 own_tame s command.InsertHorizontalRule value = from_any _ _ tame_insert_horizontal_rule
 own_tame s command.InsertImage value = from_any _ _ (tame_insert_image value)

@@ -21,6 +21,7 @@ use Rattle.insert_objects.specs.Rule.{insert_horizontal_rule}
 use Rattle.insert_objects.specs.Image.{insert_image}
 use Rattle.list_indent.specs.Commands.{indent, outdent}
 use Rattle.list_toggle.specs.Toggle.{toggle_lists}
+use Rattle.list_toggle.specs.declared.toggling.ListKind.TheVariants.{Ordered, Unordered}
 use Rattle.text_commands.specs.Delete.{delete}
 use Rattle.text_insertion.specs.Paragraph.{insert_paragraph}
 use Rattle.text_insertion.specs.Typing.{insert_text}
@@ -123,8 +124,8 @@ own_action command.InsertParagraph value = insert_paragraph
 own_action command.StyleWithCss value = set_css_styling (not (is_value value (codes "false")))
 own_action command.UseCss value = set_css_styling (is_value value (codes "false"))
 own_action command.DefaultParagraphSeparator value = set_separator value
-own_action command.InsertOrderedList value = toggle_lists true
-own_action command.InsertUnorderedList value = toggle_lists false
+own_action command.InsertOrderedList value = toggle_lists Ordered
+own_action command.InsertUnorderedList value = toggle_lists Unordered
 own_action command.InsertLineBreak value = insert_line_break
 own_action command.InsertHorizontalRule value = insert_horizontal_rule
 own_action command.InsertImage value = insert_image value

@@ -27,7 +27,7 @@ use inline_commands::{
 use inline_value::{Overrides, record_overrides};
 use insert_objects::{insert_horizontal_rule, insert_image, insert_line_break};
 use list_indent::{indent, outdent};
-use list_toggle::toggle_lists;
+use list_toggle::{ListKind, toggle_lists};
 use std::alloc::{AllocError, Global};
 use text_commands::{delete, insert_paragraph, insert_text};
 
@@ -95,8 +95,8 @@ fn act(alloc: Global, doc: &mut Doc, command: Command, value: &[char]) -> Result
         Command::Delete => delete(alloc, doc),
         Command::InsertText => insert_text(alloc, doc, value),
         Command::InsertParagraph => insert_paragraph(alloc, doc),
-        Command::InsertOrderedList => toggle_lists(alloc, doc, true),
-        Command::InsertUnorderedList => toggle_lists(alloc, doc, false),
+        Command::InsertOrderedList => toggle_lists(alloc, doc, ListKind::Ordered),
+        Command::InsertUnorderedList => toggle_lists(alloc, doc, ListKind::Unordered),
         Command::InsertLineBreak => insert_line_break(alloc, doc),
         Command::InsertHorizontalRule => insert_horizontal_rule(alloc, doc),
         Command::InsertImage => insert_image(alloc, doc, value),

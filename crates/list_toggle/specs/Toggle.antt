@@ -1,7 +1,7 @@
 -- Toggling lists (HTML Editing APIs, "toggle lists"): the lines of the active range become items of
--- lists of a kind, or leave them. The steps are those of docs/ALGORITHMS.md. A kind of list is told
--- by whether it is ordered.
-use Rattle.std.specs.Prelude.{ℕ, Bool, true, not, ◌&&◌, ◌||◌, List, if◌then◌else◌}
+-- lists of a kind, or leave them. The steps are those of docs/ALGORITHMS.md. In each step a kind of
+-- list is told by whether it is ordered.
+use Rattle.std.specs.Prelude.{ℕ, Bool, true, false, not, ◌&&◌, ◌||◌, List, if◌then◌else◌}
 use Rattle.std.specs.List.{list_all}
 use Rattle.dom_model.specs.Forest.{first_in}
 use Rattle.block_extend.specs.Series.{is_next}
@@ -21,6 +21,8 @@ use Rattle.list_indent.specs.Sublists.{is_list}
 use Rattle.list_toggle.specs.Collecting.{collect_items}
 use Rattle.list_toggle.specs.Converting.{of_kind, move_items, convert_lists}
 use Rattle.list_toggle.specs.Ranges.{extended_range, range_members, range_lines}
+use Rattle.list_toggle.specs.declared.toggling.ListKind.{ListKind}
+use Rattle.list_toggle.specs.declared.toggling.ListKind.TheVariants.{Ordered, Unordered}
 
 -- ---- step 5: the lines leave their lists
 
@@ -73,9 +75,14 @@ toggle_on ordered = do
   range ← convert_lists ordered
   look λ s. in_turns (enlist_next ordered) (range_lines s range)
 
+abbrev pub is_ordered : ListKind → Bool
+is_ordered Ordered = true
+is_ordered Unordered = false
+
 -- whether the lines stand in lists of the kind is asked before the first step changes something
-unfoldable pub toggle_lists : Bool → Run Bool
-toggle_lists ordered = look λ s. do
+unfoldable pub toggle_lists : ListKind → Run Bool
+toggle_lists kind = look λ s. do
   normalize_range
-  if is_list_state ordered (list_state s s.host) then toggle_off ordered else toggle_on ordered
+  if is_list_state (is_ordered kind) (list_state s s.host)
+    then toggle_off (is_ordered kind) else toggle_on (is_ordered kind)
   answer true

@@ -12,4 +12,4 @@ mod ranges;
 mod toggling;
 
 pub use edit_doc::{Doc, EditFault};
-pub use toggling::toggle_lists;
+pub use toggling::{ListKind, toggle_lists};

@@ -20,6 +20,26 @@ use list_indent::{fix, is_list, normalize_range, outdent_node, split_items};
 use std::alloc::Global;
 use wrap_split::{CopyMade, NamedSibling, WrapRule, wrap};
 
+/// A kind of list.
+#[derive(Clone, Copy)]
+pub enum ListKind {
+    /// An ol.
+    Ordered,
+    /// A ul.
+    Unordered,
+}
+
+impl ListKind {
+    fn is_ordered(self) -> bool
+        ensures { result ≡ toggle.is_ordered self }
+    {
+        match self {
+            ListKind::Ordered => true,
+            ListKind::Unordered => false,
+        }
+    }
+}
+
 // ---- step 5: off
 
 /// Siblings go on, up to a list of the kind.
@@ -187,11 +207,12 @@ fn toggle_on(alloc: Global, doc: &mut Doc, ordered: bool) -> Result<(), EditFaul
 /// range contains become items of lists of the kind, or leave them where all of them stand in such
 /// lists already. It answers true.
 #[tactic(auto, using(edit_model::proofs::Steps::steps, edit_model::proofs::Steps::exits), unfolding(crate::specs::Toggle::toggle_lists))]
-pub fn toggle_lists(alloc: Global, doc: &mut Doc, ordered: bool) -> Result<bool, EditFault>
+pub fn toggle_lists(alloc: Global, doc: &mut Doc, kind: ListKind) -> Result<bool, EditFault>
     requires open { IsOpen doc.old }
-    ensures gives { Gives result doc.old.state doc.new.state (toggle.toggle_lists ordered) }
+    ensures gives { Gives result doc.old.state doc.new.state (toggle.toggle_lists kind) }
     ensures keeps { Keeps doc.old doc.new }
 {
+    let ordered = kind.is_ordered();
     // step 1
     let off = list_state(alloc, doc, doc.host())?.is_of(ordered);
     normalize_range(alloc, doc)?;

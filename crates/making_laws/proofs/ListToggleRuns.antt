@@ -5,6 +5,7 @@ use Rattle.wrap_split.specs.Wrap.{wrap}
 use Rattle.list_toggle.specs.Converting.{of_kind, move_items, convert_list, convert_each, convert_lists}
 use Rattle.edit_query.specs.ListStates.{list_name}
 use Rattle.list_toggle.specs.Ranges.{RangeEnds, keep_range}
+use Rattle.list_toggle.specs.declared.toggling.ListKind.{ListKind}
 use Rattle.list_toggle.specs.Toggle.{goes_on_out, release_series, release_all, new_list, place_items, enlist_next, toggle_off, toggle_on, toggle_lists}
 use Rattle.making_laws.specs.Names.{is_made_name}
 use Rattle.making_laws.specs.Tame.{Tame}
@@ -78,6 +79,6 @@ tame_toggle_on : (ordered : Bool) → Tame (toggle_on ordered)
 unfolding toggle_on
 tame_toggle_on ordered = search (tame_parts, tame_convert_lists, tame_enlist_next) depth 9
 
-pub tame_toggle_lists : (ordered : Bool) → Tame (toggle_lists ordered)
+pub tame_toggle_lists : (kind : ListKind) → Tame (toggle_lists kind)
 unfolding toggle_lists
-tame_toggle_lists ordered = search (tame_parts, tame_range, tame_toggle_off, tame_toggle_on) depth 8
+tame_toggle_lists kind = search (tame_parts, tame_range, tame_toggle_off, tame_toggle_on) depth 8

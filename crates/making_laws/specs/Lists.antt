@@ -1,7 +1,7 @@
 -- The laws of the commands for lists: the run of each is tame.
-use Rattle.std.specs.Prelude.{Bool}
 use Rattle.list_indent.specs.Commands.{indent, outdent}
 use Rattle.list_toggle.specs.Toggle.{toggle_lists}
+use Rattle.list_toggle.specs.declared.toggling.ListKind.{ListKind}
 use Rattle.making_laws.specs.Tame.{Tame}
 
 abbrev pub IndentIsTame : Type 0
@@ -12,4 +12,4 @@ OutdentIsTame = Tame outdent
 
 -- insertOrderedList, and insertUnorderedList
 abbrev pub ListTogglesAreTame : Type 0
-ListTogglesAreTame = (ordered : Bool) → Tame (toggle_lists ordered)
+ListTogglesAreTame = (kind : ListKind) → Tame (toggle_lists kind)
