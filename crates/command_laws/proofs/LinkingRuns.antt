@@ -4,7 +4,7 @@ use Rattle.edit_laws.specs.Steady.{Steady}
 use Rattle.edit_laws.specs.OrderPreserving.{OrderPreserving}
 use Rattle.edit_laws.proofs.SteadyRuns.{steady_parts}
 use Rattle.edit_laws.proofs.OrderPreserving.{order_preserving}
-use Rattle.inline_commands.specs.Linking.{relink, relink_above, relink_range, link_range, link_to, create_link}
+use Rattle.inline_commands.specs.Linking.{relink, relink_range, link_range, link_to, create_link}
 use Rattle.inline_commands.specs.Unlink.{clear_links, unlink}
 use Rattle.command_laws.proofs.Fits.{Fit, fit, fits, fit_answer}
 use Rattle.command_laws.proofs.SelectionRuns.{fit_clear_one, fit_set_value}
@@ -22,13 +22,9 @@ steady_relink v e = search steady_parts
 fit_relink : (v : List ℕ) (e : ℕ) → Fit (relink v e)
 fit_relink v e = fit (order_preserving_relink v e) (steady_relink v e)
 
-fit_relink_above : (v : List ℕ) (n : ℕ) → Fit (relink_above v n)
-unfolding relink_above
-fit_relink_above v n = search (fits, fit_relink)
-
 fit_relink_range : (v : List ℕ) → Fit (relink_range v)
 unfolding relink_range
-fit_relink_range v = search (fits, fit_relink_above)
+fit_relink_range v = search (fits, fit_relink)
 
 fit_link_range : (v : List ℕ) → Fit (link_range v)
 unfolding link_range

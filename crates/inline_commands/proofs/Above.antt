@@ -7,7 +7,7 @@ use Rattle.dom_model.proofs.Parts.{at_label}
 use Rattle.node_styles.specs.Lineage.{lineage}
 use Rattle.node_styles.proofs.Lineages.{lineage-root, lineage-child}
 use Rattle.inline_value.specs.Forcing.{ancestors}
-use Rattle.inline_commands.specs.Linking.{links_above}
+use Rattle.inline_commands.specs.Merging.{links_above}
 use Rattle.inline_commands.specs.Unlink.{is_link}
 
 module _ (f : Forest Content) (once : IsDistinct f) (n : ℕ) (here : 0 < count_of f n) where

@@ -16,7 +16,7 @@ use Rattle.point_order.specs.PointOrder.{is_within, is_ancestor}
 use Rattle.node_styles.specs.Lineage.{Ancestor, lineage_from, lineage}
 use Rattle.node_styles.proofs.Lineages.{ancestor, lineage_absent}
 use Rattle.edit_model.specs.Valid.{IsForest}
-use Rattle.inline_commands.specs.Linking.{links_above}
+use Rattle.inline_commands.specs.Merging.{links_above}
 use Rattle.inline_commands.specs.Unlink.{is_link}
 use Rattle.inline_commands.proofs.Above.{none_above, above_child}
 use Rattle.inline_commands.proofs.TreeOrder.{preorder_tree}
@@ -52,7 +52,7 @@ after_tells W m c ks rest n once tells l here = tells l (omega (arith, here)) �
 top_test : (m : ℕ) (c : Content) (ks rest : Forest Content) (n : ℕ) → is_within (Tree m c ks rest) m n ≡ nat_lt 0 (count_of (Tree m c ks Nil) n)
 top_test m c ks rest n = let t = eqb_refl_true m in rw t refl
 
-pub parts : (W : ℕ → Bool) (m : ℕ) (c : Content) (ks rest : Forest Content) → filter W (preorder (Tree m c ks rest)) ≡ filter W (m ∷ []) ++ (filter W (preorder ks) ++ filter W (preorder rest))
+parts : (W : ℕ → Bool) (m : ℕ) (c : Content) (ks rest : Forest Content) → filter W (preorder (Tree m c ks rest)) ≡ filter W (m ∷ []) ++ (filter W (preorder ks) ++ filter W (preorder rest))
 parts W m c ks rest =
     ap (filter W) (preorder_tree m c ks rest) ∙ (filter-append W (m ∷ []) (preorder ks ++ preorder rest) ∙ ap (λ xs. filter W (m ∷ []) ++ xs) (filter-append W (preorder ks) (preorder rest)))
 
@@ -202,7 +202,7 @@ module _ (f : Forest Content) (once : IsDistinct f) (l p : ℕ) where
   within_none off root zero none = nowhere f l p none
   within_none off root (suc k) e = none_told (count_of (tree_of f l) p) (within_root f l once (omega (arith, e)) p off root)
 
-  ancestor_none : parent_of f p ≡ None → is_ancestor f l p ≡ false
+  pub ancestor_none : parent_of f p ≡ None → is_ancestor f l p ≡ false
   ancestor_none root =
       elim (eqb_tells l p) [
         | inl (t, _) ↦ rw t refl
@@ -254,8 +254,8 @@ module _ (f : Forest Content) (next : ℕ) (law : IsForest f next) where
       ∙ (filter_both (is_link f) (λ l. is_within f l q) (preorder (tree_of f 0))
       ∙ ap (filter (is_link f)) (ancestors q (within_step f 0 law.distinct law.document n q off up inner)))
 
-  pub links_around : (n : ℕ) → IsWithin f 0 n → 0 < count_of f n → filter (λ l. is_link f l && is_ancestor f l n) (preorder (tree_of f 0)) ≡ links_above f n
-  links_around n inner here = by_parent (parent_of f n) refl
+  pub found_above : (n : ℕ) → IsWithin f 0 n → 0 < count_of f n → filter (λ l. is_link f l && is_ancestor f l n) (preorder (tree_of f 0)) ≡ links_above f n
+  found_above n inner here = by_parent (parent_of f n) refl
     where
       by_parent : (o : Option ℕ) → parent_of f n ≡ o → filter (λ l. is_link f l && is_ancestor f l n) (preorder (tree_of f 0)) ≡ links_above f n
       by_parent None root =

@@ -1,8 +1,10 @@
 pub mod Above
 pub mod Ancestors
+pub mod Around
 pub mod Elsewhere
 pub mod Items
 pub mod Merging
+pub mod Order
 pub mod Pairs
 pub mod Touched
 pub mod TreeOrder

@@ -1,36 +1,22 @@
 -- What three tests find in a list in tree order, put together from what each of them finds.
-use Rattle.std.proofs.Common.{◌≡◌, ℕ, ◌+◌, ◌<◌, ◌≤◌, Bool, true, false, cond, ◌||◌, List, [], ◌∷◌, ◌++◌, length, drop, get_or, append_assoc, refl, sym, ap, subst, ◌∙◌, inl, inr, arith}
+use Rattle.std.proofs.Common.{◌≡◌, ℕ, ◌+◌, ◌<◌, ◌≤◌, Bool, true, false, not, ◌||◌, List, [], ◌∷◌, ◌++◌, length, drop, get_or, append_assoc, refl, sym, ap, subst, ◌∙◌, arith}
 use Rattle.std.specs.Prelude.{filter}
 use Rattle.std.specs.List.{All}
-use Rattle.std.proofs.lemmas.Bool.Decides.{eqb_tells}
 use Rattle.std.proofs.lemmas.List.Elements.{All-append, All-drop, All-from_get_or, All-get_or}
 use Rattle.dom_model.specs.declared.Content.{Content}
 use Rattle.dom_model.specs.Forest.{Forest, times}
-use Rattle.dom_model.proofs.Links.{eqb_refl_true}
 use Rattle.node_arena.specs.declared.NodeRef.{NodeRef}
 use Rattle.point_order.specs.PointOrder.{is_ancestor}
 use Rattle.edit_model.specs.Gives.{labels_of}
 use Rattle.edit_model.proofs.Steps.{labels_of_drop, labels_of_end, labels_of_push, labels_of-append}
 use Rattle.edit_doc.specs.Whole.{Whole}
 use Rattle.edit_doc.specs.Held.{Holds, EachHeld}
-use Rattle.inline_commands.specs.Merging.{around, beyond, merged}
-use Rattle.inline_commands.proofs.Pairs.{Pairs, head_in}
+use Rattle.inline_commands.specs.Merging.{around, beyond, links_above, links_over, merged}
+use Rattle.inline_commands.proofs.Pairs.{Pairs, found, head_in}
 
 -- ---- what a test finds
 
-found : (T : ℕ → Bool) (xs : List ℕ) (l : ℕ) → 0 < times (filter T xs) l → (0 < times xs l) × (T l ≡ true)
-found T [] l h = absurd (omega (arith, h))
-found T (x ∷ xs) l h = by_test (T x) refl h (λ h'. found T xs l h')
-  where
-    by_test : (b : Bool) → T x ≡ b → 0 < times (cond b (x ∷ filter T xs) (filter T xs)) l → (0 < times (filter T xs) l → (0 < times xs l) × (T l ≡ true)) → (0 < times (x ∷ xs) l) × (T l ≡ true)
-    by_test false e h more = let r = more h in (omega (arith, r.0), r.1)
-    by_test true e h more =
-        elim (eqb_tells x l) [
-          | inl (t, is) ↦ (rw t (omega arith), ap T (sym is) ∙ e)
-          | inr (t, _) ↦ (let h' = rw t at h in let r = more (omega (arith, h')) in (omega (arith, r.0), r.1))
-        ]
-
-pub none_found : (T : ℕ → Bool) (xs : List ℕ) → ((l : ℕ) → 0 < times xs l → T l ≡ true → ⊥) → filter T xs ≡ []
+none_found : (T : ℕ → Bool) (xs : List ℕ) → ((l : ℕ) → 0 < times xs l → T l ≡ true → ⊥) → filter T xs ≡ []
 none_found T [] none = refl
 none_found T (x ∷ xs) none = by_test (T x) refl (none_found T xs (λ l h. none l (omega (arith, h))))
   where
@@ -178,6 +164,21 @@ module _ (T : ℕ → Bool) (xs : List NodeRef) (i : ℕ) (low : i < length xs) 
       let rest = filter T (labels_of (drop (i + 1) xs)) in
       let head : filter T (x.label ∷ labels_of (drop (i + 1) xs)) ≡ rest = rw fails refl in
       ap (λ ys. labels_of kept ++ ys) (sym (turn ∙ head)) ∙ same
+
+-- what was appended with the links above the members that are left, past one of these
+module _ (f : Forest Content) (xs : List NodeRef) (i : ℕ) (low : i < length xs) (last : ℕ) (list : List NodeRef) (whole : List ℕ)
+    (same : labels_of list ++ links_over f last (labels_of (drop i xs)) ≡ whole) where
+  pub over_on : (beside new : List NodeRef) → labels_of beside ≡ filter (λ l. not (is_ancestor f l last)) (links_above f (get_or xs i nobody).label) → new ≡ list ++ beside
+      → labels_of new ++ links_over f (get_or xs i nobody).label (labels_of (drop (i + 1) xs)) ≡ whole
+  over_on beside new is more =
+      let x = (get_or xs i nobody).label in
+      let rest = links_over f x (labels_of (drop (i + 1) xs)) in
+      ap (λ ys. labels_of ys ++ rest) more
+      ∙ ap (λ ys. ys ++ rest) (labels_of-append list beside)
+      ∙ append_assoc (labels_of list) (labels_of beside) rest
+      ∙ ap (λ ys. labels_of list ++ (ys ++ rest)) is
+      ∙ ap (λ ys. labels_of list ++ links_over f last ys) (sym (labels_of_drop xs i low))
+      ∙ same
 
 -- what is held of two lists is held of the one with a part of the other
 pub rest_held : (d : Whole) (xs ys new : List NodeRef) (at : ℕ) → EachHeld d xs → EachHeld d ys → new ≡ xs ++ drop at ys → EachHeld d new

@@ -1,5 +1,6 @@
 -- Of two nodes in tree order, the later one stands below the earlier one, or below a later sibling of it or of one above it.
-use Rattle.std.proofs.Common.{◌≡◌, ◌≢◌, ℕ, zero, suc, ◌+◌, ◌<◌, ◌≤◌, true, false, eqb, List, [], ◌∷◌, ◌++◌, Option, Some, None, refl, sym, ap, subst, ◌∙◌, inl, inr, arith}
+use Rattle.std.proofs.Common.{◌≡◌, ◌≢◌, ◌⊎◌, ℕ, zero, suc, ◌+◌, ◌<◌, ◌≤◌, Bool, true, false, cond, eqb, List, [], ◌∷◌, ◌++◌, Option, Some, None, refl, sym, ap, subst, ◌∙◌, inl, inr, arith}
+use Rattle.std.specs.Prelude.{filter}
 use Rattle.std.specs.Option.{option_map_or, option_and_then}
 use Rattle.std.proofs.lemmas.Bool.Decides.{eqb_tells}
 use Rattle.dom_model.specs.declared.Content.{Content}
@@ -39,6 +40,47 @@ pairs-append : (R : ℕ → ℕ → Type 0) (xs ys : List ℕ) → Pairs R xs �
 pairs-append R [] ys h k across = k
 pairs-append R (x ∷ xs) ys h k across =
     (λ y t. in_either (R x y) xs ys y t (h.0 y) (λ u. across x y (head_in x xs) u), pairs-append R xs ys h.1 k (λ a y t u. across a y (omega (arith, t)) u))
+
+tail_in : (x : ℕ) (xs : List ℕ) (y : ℕ) → x ≢ y → 0 < times (x ∷ xs) y → 0 < times xs y
+tail_in x xs y off h = elim (eqb_tells x y) [ inl (_, same) ↦ absurd (off same) | inr (t, _) ↦ (let h' = rw t at h in omega (arith, h')) ]
+
+-- what a test finds
+pub found : (T : ℕ → Bool) (xs : List ℕ) (l : ℕ) → 0 < times (filter T xs) l → (0 < times xs l) × (T l ≡ true)
+found T [] l h = absurd (omega (arith, h))
+found T (x ∷ xs) l h = by_test (T x) refl h (λ h'. found T xs l h')
+  where
+    by_test : (b : Bool) → T x ≡ b → 0 < times (cond b (x ∷ filter T xs) (filter T xs)) l → (0 < times (filter T xs) l → (0 < times xs l) × (T l ≡ true)) → (0 < times (x ∷ xs) l) × (T l ≡ true)
+    by_test false e h more = let r = more h in (omega (arith, r.0), r.1)
+    by_test true e h more =
+        elim (eqb_tells x l) [
+          | inl (t, is) ↦ (rw t (omega arith), ap T (sym is) ∙ e)
+          | inr (t, _) ↦ (let h' = rw t at h in let r = more (omega (arith, h')) in (omega (arith, r.0), r.1))
+        ]
+
+module _ (R : ℕ → ℕ → Type 0) where
+  -- of two members one comes first
+  pub either_first : (xs : List ℕ) → Pairs R xs → (p q : ℕ) → 0 < times xs p → 0 < times xs q → p ≢ q → R p q ⊎ R q p
+  either_first [] pairs p q has_p has_q off = absurd (omega (arith, has_p))
+  either_first (x ∷ xs) pairs p q has_p has_q off =
+      elim (eqb_tells x p) [
+        | inl (_, is) ↦ inl (subst (λ y. R y q) is (pairs.0 q (tail_in x xs q (λ same. off (sym is ∙ same)) has_q)))
+        | inr (_, not_p) ↦ elim (eqb_tells x q) [
+          | inl (_, is) ↦ inr (subst (λ y. R y p) is (pairs.0 p (tail_in x xs p not_p has_p)))
+          | inr (_, not_q) ↦ either_first xs pairs.1 p q (tail_in x xs p not_p has_p) (tail_in x xs q not_q has_q) off
+        ]
+      ]
+
+  pub pairs_kept : (T : ℕ → Bool) (xs : List ℕ) → Pairs R xs → Pairs R (filter T xs)
+  pairs_kept T [] pairs = tt
+  pairs_kept T (x ∷ xs) pairs = by_test (T x) (pairs_kept T xs pairs.1)
+    where
+      by_test : (b : Bool) → Pairs R (filter T xs) → Pairs R (cond b (x ∷ filter T xs) (filter T xs))
+      by_test true rest = (λ y h. pairs.0 y (found T xs y h).0, rest)
+      by_test false rest = rest
+
+  pub pairs_to : (S : ℕ → ℕ → Type 0) → ((p q : ℕ) → R p q → S p q) → (xs : List ℕ) → Pairs R xs → Pairs S xs
+  pairs_to S to [] pairs = tt
+  pairs_to S to (x ∷ xs) pairs = (λ y h. to x y (pairs.0 y h), pairs_to S to xs pairs.1)
 
 times-onto : (g : Forest Content) (ls : List ℕ) (l : ℕ) → times (preorder_onto g ls) l ≡ count_of g l + times ls l
 times-onto Nil ls l = omega arith

@@ -1,30 +1,27 @@
 -- The links that a range touches: those around its start, and those around its end alone with those that it contains.
-use Rattle.std.proofs.Common.{◌≡◌, ◌≢◌, ◌⊎◌, inl, inr, ℕ, zero, suc, ◌+◌, ◌<◌, ◌≤◌, Bool, true, false, cond, not, ◌&&◌, ◌||◌, List, [], ◌∷◌, ◌++◌, Option, Some, None, refl, sym, ap, subst, ◌∙◌, arith, eqb}
+use Rattle.std.proofs.Common.{◌≡◌, ◌≢◌, ◌⊎◌, inl, inr, ℕ, ◌+◌, ◌<◌, ◌≤◌, Bool, true, false, cond, not, ◌&&◌, ◌||◌, List, [], ◌∷◌, ◌++◌, Option, Some, None, refl, sym, ap, ◌∙◌, arith}
 use Rattle.std.specs.Prelude.{filter}
-use Rattle.std.proofs.lemmas.Bool.{and_parts, le-ltb}
-use Rattle.std.proofs.lemmas.Bool.Decides.{eqb_tells, nat_tests}
+use Rattle.std.proofs.lemmas.Bool.{and_parts}
 use Rattle.dom_model.specs.declared.Content.{Content}
 use Rattle.dom_model.specs.Contents.{length_of}
-use Rattle.dom_model.specs.Forest.{Forest, count_of, IsDistinct, IsWithin, tree_of, parent_of, preorder}
+use Rattle.dom_model.specs.Forest.{Forest, count_of, IsWithin, tree_of, parent_of, preorder}
 use Rattle.dom_model.specs.Places.{index_of}
-use Rattle.dom_model.proofs.Earlier.{first_of_two-within, first_of_two-swap}
-use Rattle.dom_model.proofs.Links.{tree_of_absent, eqb_refl_true}
 use Rattle.live_range.specs.declared.places.Pair.{Pair}
 use Rattle.live_range.specs.declared.places.Point.{Point}
-use Rattle.point_order.specs.PointOrder.{is_ancestor, is_before, is_within}
-use Rattle.node_tests.specs.Listing.{LiesBefore}
+use Rattle.point_order.specs.PointOrder.{is_ancestor, is_before}
 use Rattle.node_tests.specs.Ranges.{is_contained, contained_nodes}
-use Rattle.node_tests.proofs.Reaching.{after_it, before_it, child_with}
+use Rattle.node_tests.proofs.Reaching.{before_it}
+use Rattle.node_tests.proofs.Skipping.{sibling_before}
 use Rattle.edit_model.specs.Valid.{IsForest}
 use Rattle.edit_model.proofs.Documents.{index_below}
 use Rattle.edit_model.proofs.Trees.{within_trans}
 use Rattle.edit_actions.specs.ActiveRange.{start_of, end_of}
-use Rattle.inline_commands.specs.Linking.{links_above}
-use Rattle.inline_commands.specs.Merging.{links_inside, merged}
+use Rattle.inline_commands.specs.Merging.{links_above, links_inside, merged}
 use Rattle.inline_commands.specs.Unlink.{is_link, is_touched, links_in}
-use Rattle.inline_commands.proofs.Ancestors.{filter_by, filter_both, filter_none, and_false, none_told, links_around}
-use Rattle.inline_commands.proofs.Elsewhere.{contained_in, some_count}
+use Rattle.inline_commands.proofs.Ancestors.{filter_by, filter_both, filter_none, and_false, found_above}
+use Rattle.inline_commands.proofs.Elsewhere.{contained_in}
 use Rattle.inline_commands.proofs.Merging.{Agree, parted}
+use Rattle.inline_commands.proofs.Order.{above_is, above_off, above_parts, above_through, child_of, none_earlier, one_way, own_front}
 use Rattle.inline_commands.proofs.Pairs.{document_pairs}
 
 -- the points of a range are in order
@@ -38,47 +35,9 @@ ends_ordered f pair = by_focus (is_before f pair.focus pair.anchor) refl
     by_focus true e = inl e
     by_focus false e = inr e
 
--- ---- one node above another
-
-module _ (f : Forest Content) (once : IsDistinct f) where
-  apart_labels : (p q : ℕ) → (not (eqb p q)) ≡ true → p ≢ q
-  apart_labels p q e = elim (eqb_tells p q) [ inl (t, _) ↦ absurd (let u : false ≡ true = ap not (sym t) ∙ e in cc) | inr (_, off) ↦ off ]
-
-  above_parts : (p q : ℕ) → is_ancestor f p q ≡ true → (p ≢ q) × IsWithin f p q
-  above_parts p q e = let r = and_parts (not (eqb p q)) (is_within f p q) e in (apart_labels p q r.0, some_count (count_of (tree_of f p) q) r.1)
-
-  above_is : (p q : ℕ) → p ≢ q → IsWithin f p q → is_ancestor f p q ≡ true
-  above_is p q off inside = elim (eqb_tells p q) [ inl (_, same) ↦ absurd (off same) | inr (t, _) ↦ rw t (grind (arith, nat_tests, inside)) ]
-
-  above_off : (p q : ℕ) → (IsWithin f p q → ⊥) → is_ancestor f p q ≡ false
-  above_off p q out = and_false (not (eqb p q)) (is_within f p q) (none_told (count_of (tree_of f p) q) out)
-
-  -- of two nodes not each stands below the other
-  one_way : (p q : ℕ) → IsWithin f p q → IsWithin f q p → p ≡ q
-  one_way p q down up =
-      let first = first_of_two-within f p q once down in
-      let second = first_of_two-within f q p once up in
-      let t : Some p ≡ Some q = sym first ∙ (first_of_two-swap f p q ∙ second) in
-      cc
-
-  there : (p q : ℕ) → IsWithin f p q → 0 < count_of f p
-  there p q inside = by_count (count_of f p) refl
-    where
-      by_count : (n : ℕ) → count_of f p ≡ n → 0 < count_of f p
-      by_count zero e = absurd (let none = ap (λ g. count_of g q) (tree_of_absent f p e) in omega (arith, none, inside))
-      by_count (suc n) e = omega (arith, e)
-
 contained_both : (f : Forest Content) (start end : Point) (l : ℕ) → is_contained f start end l ≡ true → (is_before f start (record { label = l; offset = 0 }) ≡ true) × (is_before f (record { label = l; offset = length_of f l }) end ≡ true)
 unfolding is_contained
 contained_both f start end l e = and_parts (is_before f start (record { label = l; offset = 0 })) (is_before f (record { label = l; offset = length_of f l }) end) e
-
-own_front : (f : Forest Content) (p : Point) (l : ℕ) → p.label ≡ l → is_before f p (record { label = l; offset = 0 }) ≡ false
-unfolding is_before
-own_front f p l is = rw (is, eqb_refl_true l) (le-ltb p.offset 0 (omega arith))
-
--- what stands below a child comes before what stands below a later one
-sibling_before : (f : Forest Content) → IsDistinct f → (top k c : ℕ) (p : Point) → parent_of f k ≡ Some top → parent_of f c ≡ Some top → index_of f k < index_of f c → IsWithin f c p.label → LiesBefore f p k
-sibling_before f once top k c p child other low inside = before_it f once p top k child (inr (c, other, inside, low))
 
 -- ---- the three kinds of links
 
@@ -107,17 +66,12 @@ module _ (f : Forest Content) (next : ℕ) (law : IsForest f next) (start end : 
   not_amid_start : (l : ℕ) → amid l ≡ true → IsWithin f l start.label → ⊥
   not_amid_start l e inside =
       let on = (contained_both f start end l (amid_is l e)).0 in
-      elim (eqb_tells l start.label) [
-        | inl (_, same) ↦ (let off = own_front f start l (sym same) in cc)
-        | inr (_, other) ↦ (
-            let k = child_with f law.distinct l start.label (there f law.distinct l start.label inside) inside other in
-            let off = (after_it f law.distinct (record { label = l; offset = 0 }) l k.0 k.1 (inl (refl, omega arith))).none start.label start.offset k.2 in
-            cc)
-      ]
+      let off = none_earlier f law.distinct l start inside in
+      cc
 
   not_amid_end : (l : ℕ) → amid l ≡ true → l ≢ end.label → IsWithin f l end.label → ⊥
   not_amid_end l e other inside =
-      let k = child_with f law.distinct l end.label (there f law.distinct l end.label inside) inside other in
+      let k = child_of f law.distinct l end.label other inside in
       let off = (before_it f law.distinct (record { label = l; offset = length_of f l }) l k.0 k.1 (inl (refl, index_below f next law l k.0 k.1))).none end.label end.offset k.2 in
       let on = (contained_both f start end l (amid_is l e)).1 in
       cc
@@ -139,10 +93,7 @@ module _ (f : Forest Content) (next : ℕ) (law : IsForest f next) (start end : 
   down : (p q : ℕ) → p ≢ q → IsWithin f p q → Agree f from upto amid p q
   down p q off inside = record {
     second = λ e e'.
-        let s = from_is q e in
-        let low : IsWithin f p start.label = within_trans f p q start.label law.distinct inside s.1 in
-        let other : p ≢ start.label = λ same. off (one_way f law.distinct p q inside (subst (λ x. IsWithin f q x) (sym same) s.1)) in
-        let on = above_is f law.distinct p start.label other low in
+        let on = above_through f law.distinct p q start.label off inside (and_parts (is_link f q) (is_ancestor f q start.label) e).1 in
         let out = (upto_is p e').0 in
         absurd (let t : false ≡ true = ap not (sym on) ∙ out in cc);
     third = λ e e'. not_amid_start p e' (within_trans f p q start.label law.distinct inside (from_is q e).1);
@@ -197,13 +148,13 @@ module _ (f : Forest Content) (next : ℕ) (law : IsForest f next) (start end : 
 
   -- ---- what each of them finds
 
-  amid_links : IsWithin f 0 start.label → filter amid (preorder (tree_of f 0)) ≡ links_inside f start end
-  amid_links inside = by_order (is_before f start end)
+  amid_links : IsWithin f 0 start.label → 0 < count_of f end.label → filter amid (preorder (tree_of f 0)) ≡ links_inside f start end
+  amid_links inside end_here = by_order (is_before f start end)
     where
       by_order : (b : Bool) → filter (λ l. is_link f l && (b && is_contained f start end l)) (preorder (tree_of f 0)) ≡ cond b (filter (is_link f) (contained_nodes f start end)) []
       by_order true =
           filter_both (is_link f) (is_contained f start end) (preorder (tree_of f 0))
-          ∙ ap (filter (is_link f)) (contained_in f next law start end inside)
+          ∙ ap (filter (is_link f)) (contained_in f next law start end inside end_here)
       by_order false = filter_none (λ l. is_link f l && false) (preorder (tree_of f 0)) (λ l. and_false (is_link f l) false refl)
 
 pub links_found : (f : Forest Content) (next : ℕ) → IsForest f next → (start end : Point) → InOrder f start end
@@ -215,11 +166,11 @@ links_found f next law start end ordered inside end_inside here end_here =
     let A = from f next law start end in
     let B = upto f next law start end in
     let X = amid f next law start end in
-    let first : filter A P ≡ links_above f start.label = links_around f next law start.label inside here in
+    let first : filter A P ≡ links_above f start.label = found_above f next law start.label inside here in
     let second : filter B P ≡ filter (λ l. not (is_ancestor f l start.label)) (links_above f end.label) =
     filter_both (λ l. not (is_ancestor f l start.label)) (λ l. is_link f l && is_ancestor f l end.label) P
-    ∙ ap (filter (λ l. not (is_ancestor f l start.label))) (links_around f next law end.label end_inside end_here) in
-    let third : filter X P ≡ links_inside f start end = amid_links f next law start end inside in
+    ∙ ap (filter (λ l. not (is_ancestor f l start.label))) (found_above f next law end.label end_inside end_here) in
+    let third : filter X P ≡ links_inside f start end = amid_links f next law start end inside end_here in
     ap (λ xs. xs ++ merged f (filter (λ l. not (is_ancestor f l start.label)) (links_above f end.label)) (links_inside f start end)) (sym first)
     ∙ ap (λ xs. filter A P ++ merged f xs (links_inside f start end)) (sym second)
     ∙ ap (λ xs. filter A P ++ merged f (filter B P) xs) (sym third)

@@ -1,12 +1,23 @@
--- The list of the links that a range touches, made from its parts. No public clause cites this
--- module.
-use Rattle.std.specs.Prelude.{ℕ, List, [], ◌∷◌, ◌++◌, filter, if◌then◌else◌}
+-- The lists of the links that a range touches, and of those around what it contains, made from
+-- their parts. No public clause cites this module.
+use Rattle.std.specs.Prelude.{ℕ, not, List, [], ◌∷◌, ◌++◌, filter, reverse, if◌then◌else◌}
 use Rattle.dom_model.specs.declared.Content.{Content}
 use Rattle.dom_model.specs.Forest.{Forest}
 use Rattle.live_range.specs.declared.places.Point.{Point}
 use Rattle.point_order.specs.PointOrder.{is_ancestor, is_before}
 use Rattle.node_tests.specs.Ranges.{contained_nodes}
+use Rattle.inline_value.specs.Forcing.{ancestors}
 use Rattle.inline_commands.specs.Unlink.{is_link}
+
+-- the links among the ancestors of a node, the outermost first
+unfoldable pub links_above : Forest Content → ℕ → List ℕ
+links_above f n = filter (is_link f) (reverse (ancestors f n))
+
+-- of each member those that don't stand above the one before it, which is `last` for the first
+abbrev pub links_over : Forest Content → ℕ → List ℕ → List ℕ
+links_over f last [] = []
+links_over f last (n ∷ ns) =
+    filter (λ l. not (is_ancestor f l last)) (links_above f n) ++ links_over f n ns
 
 -- the links that a range contains; one that isn't in order contains none
 abbrev pub links_inside : Forest Content → Point → Point → List ℕ

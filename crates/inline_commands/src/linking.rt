@@ -5,10 +5,9 @@ ghost use Rattle.edit_model.specs.Gives.{Gives, labels_of};
 ghost use Rattle.edit_model.specs.Run.{for_each};
 ghost use Rattle.edit_doc.specs.Held.{Holds, EachHeld, Keeps};
 ghost use Rattle.edit_doc.specs.Whole.{IsOpen};
-ghost use Rattle.inline_commands.specs.Linking.{relink, relink_above, relink_range, link_range, create_link};
+ghost use Rattle.inline_commands.specs.Linking.{relink, relink_range, link_range, create_link};
 
-use crate::links::links_above;
-use crate::ranges::nodes_in_range;
+use crate::links::links_around;
 use dom_model::Name;
 use edit_doc::{Chars, Doc, EditFault, NodeRef};
 use html_names::Command;
@@ -51,43 +50,6 @@ fn relink_each(
     Ok(())
 }
 
-// CreateLink, step 2: of the links around one node.
-#[tactic(auto, using(edit_model::proofs::Steps::steps, edit_model::proofs::Steps::exits), unfolding(crate::specs::Linking::relink_above))]
-fn relink_above(
-    alloc: Global,
-    doc: &mut Doc,
-    value: &[char],
-    node: NodeRef,
-) -> Result<(), EditFault>
-    requires open { IsOpen doc.old }
-    requires node_held { Holds doc.old node }
-    ensures gives { Gives result doc.old.state doc.new.state (relink_above value.now node.label) }
-    ensures keeps { Keeps doc.old doc.new }
-{
-    let list = links_above(alloc, doc, node)?;
-    relink_each(alloc, doc, value, &list)
-}
-
-// CreateLink, step 2: of the links around each node of a list.
-#[tactic(auto, using(edit_model::proofs::Steps::eachs, edit_model::proofs::Steps::exits))]
-fn relink_around(
-    alloc: Global,
-    doc: &mut Doc,
-    value: &[char],
-    list: &[NodeRef],
-) -> Result<(), EditFault>
-    requires open { IsOpen doc.old }
-    requires list_held { EachHeld doc.old list.now }
-    ensures gives { Gives result doc.old.state doc.new.state
-        (for_each (labels_of list.now) (relink_above value.now)) }
-    ensures keeps { Keeps doc.old doc.new }
-{
-    for node in list {
-        relink_above(alloc, doc, value, *node)?;
-    }
-    Ok(())
-}
-
 // CreateLink, step 2.
 #[tactic(auto, using(edit_model::proofs::Steps::steps, edit_model::proofs::Steps::exits), unfolding(crate::specs::Linking::relink_range))]
 fn relink_range(alloc: Global, doc: &mut Doc, value: &[char]) -> Result<(), EditFault>
@@ -95,8 +57,8 @@ fn relink_range(alloc: Global, doc: &mut Doc, value: &[char]) -> Result<(), Edit
     ensures gives { Gives result doc.old.state doc.new.state (relink_range value.now) }
     ensures keeps { Keeps doc.old doc.new }
 {
-    let list = nodes_in_range(alloc, doc)?;
-    relink_around(alloc, doc, value, list.as_slice())
+    let list = links_around(alloc, doc)?;
+    relink_each(alloc, doc, value, &list)
 }
 
 // CreateLink, steps 2 and 3.

@@ -1,4 +1,4 @@
-//! The links that unlink is for.
+//! The links that createLink and unlink are for.
 
 ghost use Rattle.std.specs.Prelude.{◌≡◌, ◌++◌, ◌∷◌, ◌<◌, ◌≤◌, [], OnOk, IfOk, drop, filter, length, map, not, reverse};
 ghost use Rattle.dom_model.specs.Forest.{count_of};
@@ -7,10 +7,11 @@ ghost use Rattle.edit_model.specs.Valid.{IsPlacedPair};
 ghost use Rattle.edit_model.specs.Gives.{labels_of};
 ghost use Rattle.edit_doc.specs.Held.{Holds, EachHeld};
 ghost use Rattle.node_styles.specs.Lineage.{lineage};
-ghost use Rattle.inline_commands.specs.Linking.{links_above};
-ghost use Rattle.inline_commands.specs.Merging.{around, beyond, links_inside, merged};
+ghost use Rattle.inline_commands.specs.Linking.{links_around};
+ghost use Rattle.inline_commands.specs.Merging.{around, beyond, links_above, links_inside, links_over, merged};
 ghost use Rattle.inline_commands.specs.Unlink.{is_link, links_of_pair};
 
+use crate::ranges::nodes_in_range;
 use command_value::is_link as is_link_content;
 use edit_actions::ends_of;
 use edit_doc::{Doc, NodeRef, Pair, Point};
@@ -60,8 +61,8 @@ fn push_above(list: &mut Vec<NodeRef>, doc: &Doc, node: NodeRef) -> Result<(), A
     }
 }
 
-/// The links among the ancestors of a node, the outermost first.
-pub(crate) fn links_above(
+// The links among the ancestors of a node, the outermost first.
+fn links_above(
     alloc: Global,
     doc: &Doc,
     node: NodeRef,
@@ -226,4 +227,33 @@ pub(crate) fn links_of(alloc: Global, doc: &Doc, pair: Pair) -> Result<Vec<NodeR
     let inside = links_inside(alloc, doc, (start, end))?;
     push_merged(&mut list, doc, &beside, &inside)?;
     Ok(list)
+}
+
+// The links above the nodes of a list, each once where the list is in tree order: of each node
+// those that don't stand above the one before it.
+fn links_over(alloc: Global, doc: &Doc, list: &[NodeRef]) -> Result<Vec<NodeRef>, AllocError>
+    requires { EachHeld doc.now list.now }
+    ensures held { IfOk result (λ links. EachHeld doc.now links.items) }
+    ensures links { IfOk result (λ links. labels_of links.items
+        ≡ links_over doc.now.state.trees 0 (labels_of list.now)) }
+{
+    let mut links = Vec::new(alloc);
+    let mut last = doc.document();
+    for node in list {
+        let beside = links_beside(alloc, doc, *node, last)?;
+        links.extend_from_slice(&beside)?;
+        last = *node;
+    }
+    Ok(links)
+}
+
+/// The links that createLink is for, in tree order. It looks at the nodes that the active range
+/// effectively contains and those above them.
+pub(crate) fn links_around(alloc: Global, doc: &Doc) -> Result<Vec<NodeRef>, AllocError>
+    ensures held { IfOk result (λ list. EachHeld doc.now list.items) }
+    ensures links { IfOk result (λ list. labels_of list.items ≡ links_around doc.now.state) }
+{
+    doc.valid();
+    let list = nodes_in_range(alloc, doc)?;
+    links_over(alloc, doc, list.as_slice())
 }

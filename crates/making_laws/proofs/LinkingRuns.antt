@@ -1,6 +1,6 @@
 -- Making links, and unlink, are tame.
 use Rattle.std.proofs.Common.{ℕ, List, [], ◌∷◌}
-use Rattle.inline_commands.specs.Linking.{relink, relink_above, relink_range, link_range, link_to, create_link}
+use Rattle.inline_commands.specs.Linking.{relink, relink_range, link_range, link_to, create_link}
 use Rattle.inline_commands.specs.Unlink.{clear_links, unlink}
 use Rattle.making_laws.specs.Tame.{Tame}
 use Rattle.making_laws.proofs.TameRuns.{set_href_name, tame_answer, tame_parts}
@@ -12,13 +12,9 @@ tame_relink : (v : List ℕ) (e : ℕ) → Tame (relink v e)
 unfolding relink
 tame_relink v e = search (tame_parts, set_href_name)
 
-tame_relink_above : (v : List ℕ) (n : ℕ) → Tame (relink_above v n)
-unfolding relink_above
-tame_relink_above v n = search (tame_parts, tame_relink)
-
 tame_relink_range : (v : List ℕ) → Tame (relink_range v)
 unfolding relink_range
-tame_relink_range v = search (tame_parts, tame_relink_above)
+tame_relink_range v = search (tame_parts, tame_relink)
 
 tame_link_range : (v : List ℕ) → Tame (link_range v)
 unfolding link_range

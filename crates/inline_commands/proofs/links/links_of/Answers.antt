@@ -4,8 +4,7 @@ use Rattle.edit_model.specs.Gives.{labels_of}
 use Rattle.edit_actions.specs.ActiveRange.{start_of, end_of}
 use Rattle.edit_actions.proofs.Placed.{placed_inside, placed_here}
 use Rattle.point_order.specs.PointOrder.{is_ancestor}
-use Rattle.inline_commands.specs.Linking.{links_above}
-use Rattle.inline_commands.specs.Merging.{links_inside, merged}
+use Rattle.inline_commands.specs.Merging.{links_above, links_inside, merged}
 use Rattle.inline_commands.specs.Unlink.{links_in}
 use Rattle.inline_commands.proofs.Touched.{InOrder, ends_ordered, links_found}
 use Rattle.inline_commands.proofs.links.links_of.Goals as goal
