@@ -1,5 +1,5 @@
 -- The delete command leaves the states of contenteditable.
-use Rattle.std.proofs.Common.{ℕ, Bool}
+use Rattle.std.proofs.Common.{ℕ}
 use Rattle.live_range.specs.declared.places.Point.{Point}
 use Rattle.edit_laws.specs.Steady.{Steady}
 use Rattle.edit_laws.proofs.SteadyRuns.{steady_parts}
@@ -76,9 +76,9 @@ steady_part_entries p = search (steady_parts, steady_part_entry)
 
 -- ---- what goes, and what is joined
 
-pub steady_erase : (merge strip backward : Bool) → Steady (erase merge strip backward)
+pub steady_erase : (m : _) → Steady (erase m)
 unfolding erase
-steady_erase merge strip backward = search (steady_parts, steady_delete_selection, steady_restore_states)
+steady_erase m = search (steady_parts, steady_delete_selection, steady_restore_states)
 
 steady_erase_single : (p : Point) → Steady (erase_single p)
 unfolding erase_single

@@ -297,6 +297,6 @@ steady_delete_between : (m : _) → Steady (delete_between m)
 unfolding delete_between
 steady_delete_between m = search (steady_parts, steady_delete_range)
 
-pub steady_delete_selection : (merge strip backward : Bool) → Steady (delete_selection merge strip backward)
+pub steady_delete_selection : (m : _) → Steady (delete_selection m)
 unfolding delete_selection
-steady_delete_selection merge strip backward = search (steady_parts, steady_canonicalize_start, steady_canonicalize_end, steady_delete_between)
+steady_delete_selection m = search (steady_parts, steady_canonicalize_start, steady_canonicalize_end, steady_delete_between)

@@ -9,7 +9,8 @@ use Rattle.edit_model.specs.State.{State}
 use Rattle.edit_model.proofs.Steps.{final-look, final-answer, final-bind, value-bind, value-answer}
 use Rattle.edit_actions.specs.Siblings.{first_parent, members}
 use Rattle.wrap_split.specs.Split.{is_void_thing, split_at, split_members, split_parent}
-use Rattle.delete_core.specs.Merging.{is_stuck, split_line}
+use Rattle.delete_core.specs.Gaps.{is_stuck}
+use Rattle.delete_core.specs.Merging.{split_line}
 
 nothing_there : (k : ℕ) → None ≡ Some k → ⊥
 nothing_there k e = absurd (let t = e in cc)

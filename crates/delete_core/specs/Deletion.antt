@@ -1,6 +1,6 @@
 -- Deleting the selection (HTML Editing APIs, "delete the selection"), whole. The steps are those of
 -- docs/ALGORITHMS.md.
-use Rattle.std.specs.Prelude.{ℕ, ◌==◌, Bool, true, false, ◌&&◌, List, [], Option, if◌then◌else◌}
+use Rattle.std.specs.Prelude.{ℕ, ◌==◌, true, false, ◌&&◌, List, [], Option, if◌then◌else◌}
 use Rattle.dom_model.specs.Forest.{Forest}
 use Rattle.live_range.specs.declared.places.Pair.{Pair}
 use Rattle.live_range.specs.declared.places.Point.{Point}
@@ -20,11 +20,11 @@ use Rattle.delete_core.specs.Merging.{merge_if}
 unfoldable pub erase_across : Manner → Point → Point → Option ℕ → Option ℕ → Run (Unit {0})
 erase_across m p q b c = do
   cut_after p
-  remove_nodes m.strip p.label
+  remove_nodes m.strip_wrappers p.label
   cut_before q
   canonicalize_start false
   canonicalize_end false
-  merge_if m.merge m.backward b c
+  merge_if m.block_merging m.backward b c
 
 -- step 5, or from 6 on
 unfoldable pub erase : Manner → Point → Point → Option ℕ → Option ℕ → Run (Unit {0})
@@ -55,8 +55,8 @@ delete_between m = look λ s. given s.points.selection (answer []) λ pair.
     (first_equivalent s.trees (end_of s.trees pair))
 
 -- delete the selection, steps 1 to 15
-unfoldable pub delete_selection : Bool → Bool → Bool → Run (List Override)
-delete_selection merge strip backward = do
+unfoldable pub delete_selection : Manner → Run (List Override)
+delete_selection m = do
   canonicalize_start true
   canonicalize_end true
-  delete_between record { merge = merge; strip = strip; backward = backward }
+  delete_between m

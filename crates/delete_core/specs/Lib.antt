@@ -9,3 +9,4 @@ pub mod Merging
 pub mod Values
 pub mod Stretches
 pub mod Deletion
+pub mod Gaps

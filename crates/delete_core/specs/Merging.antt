@@ -19,7 +19,7 @@ use Rattle.edit_model.specs.Run.{Run, ◌>>=◌, ◌>>◌, answer, done, look, g
 use Rattle.wrap_split.specs.Walks.{turn_bound}
 use Rattle.inline_value.specs.Recording.{Recorded, values_of, restore_values}
 use Rattle.wrap_split.specs.Breaks.{breaks_at_end}
-use Rattle.wrap_split.specs.Split.{is_void_thing, split_parent}
+use Rattle.wrap_split.specs.Split.{split_parent}
 use Rattle.wrap_split.specs.Wrap.{append_break, is_inline, list_on}
 use Rattle.delete_core.specs.Ends.{collapse_selection}
 use Rattle.delete_core.specs.Erasing.{removed_up}
@@ -103,14 +103,6 @@ split_line list k = split_parent list >> answer k
 -- delete the selection, step 11 e: while the first of the line has another parent than b
 unfoldable pub split_out : ℕ → List ℕ → ℕ → Run (Unit {0})
 split_out b list k = look λ s. while_at_most (turn_bound s) (is_apart b) (split_line list) k >> done
-
--- splitting the parent of a line that begins with k changes nothing, so a loop of it may end. Only
--- proofs cite it.
-unfoldable pub is_stuck : State → ℕ → Bool
-is_stuck s k =
-    option_map_or
-    (λ p. not (is_editable_for s p) || (is_none (parent_of s.trees p) || is_void_thing s p))
-    (parent_of s.trees k) false
 
 -- step 11 f
 unfoldable pub drop_break_before : ℕ → Run (Unit {0})

@@ -22,15 +22,43 @@ use inline_value::{Overrides, record_states};
 use point_order::node_of;
 use std::alloc::Global;
 
-/// How a selection is deleted.
+/// How a selection is deleted: the flags of HTML Editing APIs, "delete the selection".
 #[derive(Clone, Copy)]
-struct Manner {
-    /// The blocks of the two ends are merged.
-    merge: bool,
+pub struct Manner {
+    /// The blocks of the two ends become one.
+    pub block_merging: bool,
     /// Inline nodes that are left empty go, also those in which the start stands.
-    strip: bool,
-    /// The caret that is left where nothing is merged stands at the end of the range.
-    backward: bool,
+    pub strip_wrappers: bool,
+    /// The caret that is left where nothing is merged stands at the end of the range, and not at
+    /// its start.
+    pub backward: bool,
+}
+
+impl Manner {
+    /// The flags as they are where nothing is said of them.
+    pub const DEFAULT: Manner = Manner {
+        block_merging: true,
+        strip_wrappers: true,
+        backward: false,
+    };
+
+    /// Inline nodes in which the start stands stay, also where they are left empty.
+    pub const KEEP_WRAPPERS: Manner = Manner {
+        strip_wrappers: false,
+        ..Manner::DEFAULT
+    };
+
+    /// The blocks of the two ends stay apart.
+    pub const KEEP_BLOCKS: Manner = Manner {
+        block_merging: false,
+        ..Manner::DEFAULT
+    };
+
+    /// The caret that is left stands at the end of the range, where nothing is merged.
+    pub const BACKWARD: Manner = Manner {
+        backward: true,
+        ..Manner::DEFAULT
+    };
 }
 
 /// What is deleted: from a point of a node to a point of another one.
@@ -60,11 +88,11 @@ fn erase_across(
     ensures keeps { Keeps doc.old doc.new }
 {
     cut_after(doc, stretch.start_node, stretch.start)?; // step 6
-    remove_nodes(alloc, doc, manner.strip, stretch.start_node)?; // step 7
+    remove_nodes(alloc, doc, manner.strip_wrappers, stretch.start_node)?; // step 7
     cut_before(doc, stretch.end_node, stretch.end)?; // step 8
     canonicalize_start(alloc, doc, false)?;
     canonicalize_end(alloc, doc, false)?;
-    merge_if(alloc, doc, manner.merge, manner.backward, blocks) // steps 9 to 15
+    merge_if(alloc, doc, manner.block_merging, manner.backward, blocks) // steps 9 to 15
 }
 
 // Step 5, or from 6 on.
@@ -183,30 +211,20 @@ fn delete_between(alloc: Global, doc: &mut Doc, manner: Manner) -> Result<Overri
     delete_range(alloc, doc, manner, first, last)
 }
 
-/// Deletes what is selected (HTML Editing APIs, "delete the selection"). With `merge` the blocks of
-/// the two ends become one. With `strip` inline nodes that are left empty go; without it those stay
-/// in which the start stands. The caret that is left where nothing is merged stands at the start of
-/// the range, or at its end where `backward` is on. Answers the states and values to restore, which
-/// are those of the first formattable node that was selected; none where nothing is deleted.
+/// Deletes what is selected (HTML Editing APIs, "delete the selection"), by the flags of a manner.
+/// Answers the states and values to restore, which are those of the first formattable node that was
+/// selected; none where nothing is deleted.
 #[tactic(auto, using(edit_model::proofs::Steps::steps, edit_model::proofs::Steps::exits), unfolding(crate::specs::Deletion::delete_selection))]
 pub fn delete_selection(
     alloc: Global,
     doc: &mut Doc,
-    merge: bool,
-    strip: bool,
-    backward: bool,
+    manner: Manner,
 ) -> Result<Overrides, EditFault>
     requires open { IsOpen doc.old }
-    ensures gives { Gives result doc.old.state doc.new.state
-        (delete_selection merge strip backward) }
+    ensures gives { Gives result doc.old.state doc.new.state (delete_selection manner) }
     ensures keeps { Keeps doc.old doc.new }
 {
     canonicalize_start(alloc, doc, true)?;
     canonicalize_end(alloc, doc, true)?;
-    let manner = Manner {
-        merge,
-        strip,
-        backward,
-    };
     delete_between(alloc, doc, manner)
 }

@@ -5,7 +5,8 @@ ghost use Rattle.std.specs.Prelude.{◌≡◌, IfOk, Some, None};
 ghost use Rattle.edit_model.specs.Gives.{Gives, GivesAs, GivesNode, labels_of};
 ghost use Rattle.edit_doc.specs.Whole.{IsOpen};
 ghost use Rattle.edit_doc.specs.Held.{Holds, EachHeld, Keeps};
-ghost use Rattle.delete_core.specs.Merging.{is_apart, is_sole, drop_sole, parts_lines, part_lines, remove_own, drop_parted, drop_soles, drop_block, split_line, is_stuck, split_out, drop_break_before, take_out_line, take_line, merge_content, merge_inner};
+ghost use Rattle.delete_core.specs.Gaps.{is_stuck};
+ghost use Rattle.delete_core.specs.Merging.{is_apart, is_sole, drop_sole, parts_lines, part_lines, remove_own, drop_parted, drop_soles, drop_block, split_line, split_out, drop_break_before, take_out_line, take_line, merge_content, merge_inner};
 ghost use Rattle.dom_model.specs.Forest.{first_in};
 ghost use Rattle.delete_core.specs.Values.{ValuesHeld, recorded_in};
 
@@ -147,7 +148,7 @@ fn drop_block(alloc: Global, doc: &mut Doc, outer: NodeRef, node: NodeRef) -> Re
 }
 
 // Whether splitting the parent of a line that begins with a node changes nothing.
-#[tactic(auto, unfolding(crate::specs::Merging::is_stuck))]
+#[tactic(auto, unfolding(crate::specs::Gaps::is_stuck))]
 fn is_stuck(doc: &Doc, node: NodeRef) -> bool
     requires { Holds doc.now node }
     ensures { result ≡ is_stuck doc.now.state node.label }

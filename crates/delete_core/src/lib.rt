@@ -23,7 +23,7 @@ mod stepping;
 mod trimming;
 mod whitespace;
 
-pub use deletion::delete_selection;
+pub use deletion::{Manner, delete_selection};
 pub use edit_doc::{Doc, EditFault, Point};
 pub use ends::{canonicalize_end, canonicalize_start, collapse_selection, select};
 pub use equivalent::{first_equivalent, last_equivalent};

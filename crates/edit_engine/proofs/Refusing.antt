@@ -22,7 +22,6 @@ use Rattle.list_toggle.specs.Toggle.{is_ordered, toggle_off, toggle_on, toggle_l
 use Rattle.list_toggle.specs.declared.toggling.ListKind.{ListKind}
 use Rattle.list_toggle.specs.declared.toggling.ListKind.TheVariants.{Ordered, Unordered}
 use Rattle.text_insertion.specs.Paragraph.{insert_paragraph_inside, insert_paragraph}
-use Rattle.text_insertion.specs.Start.{erase}
 use Rattle.text_insertion.specs.Typing.{insert_chars, insert_text}
 use Rattle.text_commands.specs.Delete.{delete}
 use Rattle.text_commands.proofs.Taken.{delete_answers_true}
@@ -145,11 +144,11 @@ leaves_delete = leaves_taken delete delete_answers_true
 
 leaves_text : (v : List ℕ) → LeavesRefused (insert_text v)
 unfolding insert_text
-leaves_text v = leaves_two (erase true false false) (insert_chars v)
+leaves_text v = leaves_two _ (insert_chars v)
 
 leaves_paragraph : LeavesRefused insert_paragraph
 unfolding insert_paragraph
-leaves_paragraph = leaves_two (erase true true false) insert_paragraph_inside
+leaves_paragraph = leaves_two _ insert_paragraph_inside
 
 abbrev lists_toggled : ListKind → State → Run (Unit {0})
 lists_toggled kind s = if is_list_state (is_ordered kind) (list_state s s.host) then toggle_off (is_ordered kind) else toggle_on (is_ordered kind)

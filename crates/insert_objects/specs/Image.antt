@@ -7,6 +7,7 @@ use Rattle.dom_model.specs.Forest.{first_of, next_of}
 use Rattle.live_range.specs.declared.places.Point.{Point}
 use Rattle.node_styles.specs.Blocks.{is_block}
 use Rattle.edit_model.specs.Run.{Run, ◌>>=◌, ◌>>◌, answer, done, look, given, remove}
+use Rattle.delete_core.specs.declared.deletion.TheConstants.Manner.{KEEP_WRAPPERS}
 use Rattle.text_insertion.specs.Start.{erase}
 use Rattle.insert_objects.specs.Putting.{from_start_inside, collapse_after, put}
 
@@ -34,7 +35,7 @@ show_image value p = drop_lone_break p >> put_image value
 
 -- steps 2 to 4
 unfoldable pub insert_source : List ℕ → Run Bool
-insert_source value = erase true false false >> from_start_inside (show_image value)
+insert_source value = erase KEEP_WRAPPERS >> from_start_inside (show_image value)
 
 -- step 1, and then from 2 on: the empty value is refused
 unfoldable pub insert_image : List ℕ → Run Bool

@@ -10,6 +10,7 @@ use Rattle.node_tests.specs.SolidNeighbours.{is_extraneous_break, is_collapsed_b
 use Rattle.edit_model.specs.State.{State}
 use Rattle.edit_model.specs.Moves.{make_break}
 use Rattle.edit_model.specs.Run.{Run, ◌>>=◌, ◌>>◌, answer, done, look}
+use Rattle.delete_core.specs.declared.deletion.TheConstants.Manner.{KEEP_WRAPPERS}
 use Rattle.text_insertion.specs.Start.{insert_at_start, erase}
 use Rattle.insert_objects.specs.Putting.{from_start_inside, collapse_after, put}
 
@@ -39,4 +40,4 @@ break_line p = look λ s. if takes_break s p.label then put_break else answer tr
 
 -- step 1, and then from 2 on
 unfoldable pub insert_line_break : Run Bool
-insert_line_break = erase true false false >> from_start_inside break_line
+insert_line_break = erase KEEP_WRAPPERS >> from_start_inside break_line

@@ -1,6 +1,6 @@
 -- The insertHorizontalRule command (HTML Editing APIs, "the insertHorizontalRule command"). The
 -- steps are those of docs/ALGORITHMS.md. It answers true.
-use Rattle.std.specs.Prelude.{◌==◌, Bool, false, true, ◌&&◌, not, [], Option, None, codes, if◌then◌else◌}
+use Rattle.std.specs.Prelude.{◌==◌, Bool, true, ◌&&◌, not, [], Option, None, codes, if◌then◌else◌}
 use Rattle.dom_model.specs.Contents.{length_of}
 use Rattle.dom_model.specs.Forest.{is_label}
 use Rattle.live_range.specs.declared.places.Pair.{Pair}
@@ -10,6 +10,7 @@ use Rattle.edit_model.specs.Run.{Run, ◌>>=◌, ◌>>◌, answer, done, look, g
 use Rattle.edit_actions.specs.ActiveRange.{start_of, end_of}
 use Rattle.wrap_split.specs.Walks.{turn_bound}
 use Rattle.inline_value.specs.Ancestors.{fix_ancestors}
+use Rattle.delete_core.specs.declared.deletion.TheConstants.Manner.{KEEP_BLOCKS}
 use Rattle.delete_core.specs.Places.{before_node, after_node, walk_points}
 use Rattle.text_insertion.specs.Start.{erase}
 use Rattle.insert_objects.specs.Putting.{from_start_inside, collapse_after, put}
@@ -56,5 +57,5 @@ put_rule = do
 unfoldable pub insert_horizontal_rule : Run Bool
 insert_horizontal_rule = do
   widen_range
-  erase false true false
+  erase KEEP_BLOCKS
   from_start_inside λ p. put_rule

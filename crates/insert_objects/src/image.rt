@@ -8,6 +8,7 @@ ghost use Rattle.edit_doc.specs.Held.{Keeps};
 ghost use Rattle.insert_objects.specs.Image as command;
 
 use crate::putting::{collapse_after, put};
+use delete_core::Manner;
 use edit_doc::{Attributes, Chars, Doc, EditFault, Name, Point};
 use node_tests::{is_block, is_break};
 use point_order::node_of;
@@ -51,7 +52,7 @@ fn insert_source(alloc: Global, doc: &mut Doc, value: &[char]) -> Result<bool, E
     ensures gives { Gives result doc.old.state doc.new.state (command.insert_source value.now) }
     ensures keeps { Keeps doc.old doc.new }
 {
-    erase(alloc, doc, true, false, false)?;
+    erase(alloc, doc, Manner::KEEP_WRAPPERS)?;
     let Some(at) = start_inside(doc) else {
         return Ok(true);
     };

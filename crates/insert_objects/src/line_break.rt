@@ -7,6 +7,7 @@ ghost use Rattle.edit_doc.specs.Held.{Holds, Keeps};
 ghost use Rattle.insert_objects.specs.LineBreak as command;
 
 use crate::putting::{collapse_after, put};
+use delete_core::Manner;
 use edit_actions::make_break;
 use edit_doc::{Attributes, Doc, EditFault, NodeRef};
 use node_tests::{is_collapsed_break, is_element, is_extraneous_break, name_allowed_in};
@@ -53,7 +54,7 @@ pub fn insert_line_break(alloc: Global, doc: &mut Doc) -> Result<bool, EditFault
     ensures gives { Gives result doc.old.state doc.new.state command.insert_line_break }
     ensures keeps { Keeps doc.old doc.new }
 {
-    erase(alloc, doc, true, false, false)?;
+    erase(alloc, doc, Manner::KEEP_WRAPPERS)?;
     let Some(at) = start_inside(doc) else {
         return Ok(true);
     };

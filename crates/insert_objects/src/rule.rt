@@ -9,7 +9,7 @@ ghost use Rattle.edit_doc.specs.Held.{Keeps};
 ghost use Rattle.insert_objects.specs.Rule as command;
 
 use crate::putting::{collapse_after, put};
-use delete_core::{after_node, before_node, select};
+use delete_core::{Manner, after_node, before_node, select};
 use edit_actions::{ends_of, is_same};
 use edit_doc::{Attributes, Doc, EditFault, NodeRef, Point};
 use inline_value::fix_ancestors;
@@ -109,7 +109,7 @@ pub fn insert_horizontal_rule(alloc: Global, doc: &mut Doc) -> Result<bool, Edit
     ensures keeps { Keeps doc.old doc.new }
 {
     widen_range(doc);
-    erase(alloc, doc, false, true, false)?;
+    erase(alloc, doc, Manner::KEEP_BLOCKS)?;
     if start_inside(doc).is_none() {
         return Ok(true);
     }

@@ -1,5 +1,5 @@
 -- Deleting is tame.
-use Rattle.std.proofs.Common.{ℕ, Bool}
+use Rattle.std.proofs.Common.{ℕ}
 use Rattle.live_range.specs.declared.places.Point.{Point}
 use Rattle.inline_value.specs.Ancestors.{split_out}
 use Rattle.text_commands.specs.Approach.{drop_child, back_turn, go_back, climb_turn, climb}
@@ -68,9 +68,9 @@ tame_part_entries p = search (tame_parts, tame_part_entry)
 
 -- ---- what goes, and what is joined
 
-pub tame_erase : (merge strip backward : Bool) → Tame (erase merge strip backward)
+pub tame_erase : (m : _) → Tame (erase m)
 unfolding erase
-tame_erase merge strip backward = search (tame_parts, tame_delete_selection, tame_restore_states)
+tame_erase m = search (tame_parts, tame_delete_selection, tame_restore_states)
 
 tame_erase_single : (p : Point) → Tame (erase_single p)
 unfolding erase_single

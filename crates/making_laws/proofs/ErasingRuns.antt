@@ -311,6 +311,6 @@ tame_delete_between : (m : _) → Tame (delete_between m)
 unfolding delete_between
 tame_delete_between m = search (tame_parts, tame_delete_range)
 
-pub tame_delete_selection : (merge strip backward : Bool) → Tame (delete_selection merge strip backward)
+pub tame_delete_selection : (m : _) → Tame (delete_selection m)
 unfolding delete_selection
-tame_delete_selection merge strip backward = search (tame_parts, tame_canonicalize_start, tame_canonicalize_end, tame_delete_between)
+tame_delete_selection m = search (tame_parts, tame_canonicalize_start, tame_canonicalize_end, tame_delete_between)

@@ -32,6 +32,7 @@ use Rattle.html_names.specs.ElementNames.{is_single_line_container}
 use Rattle.forest_changes.specs.Named.{Each}
 use Rattle.inline_commands.specs.RestoringStates.{restore_states}
 use Rattle.inline_value.specs.declared.overrides.Override.{Override}
+use Rattle.delete_core.specs.declared.deletion.TheConstants.Manner.{KEEP_WRAPPERS}
 use Rattle.delete_core.specs.Whitespace.{canonicalize}
 use Rattle.making_laws.specs.Known.{Source, IsKnownName, IsKnownCharacter, KnowsAll}
 use Rattle.making_laws.specs.Names.{made_names, is_made_name}
@@ -272,8 +273,8 @@ module _ (source : Source) where
   from_paragraph : TameFrom source insert_paragraph
   from_paragraph = from_any source insert_paragraph tame_insert_paragraph
 
-  from_erase : (merge strip backward : Bool) → TameFrom source (erase merge strip backward)
-  from_erase merge strip backward = from_any source (erase merge strip backward) (tame_erase merge strip backward)
+  from_erase : (m : _) → TameFrom source (erase m)
+  from_erase m = from_any source (erase m) (tame_erase m)
 
   -- ---- one character that the source has
 
@@ -328,4 +329,4 @@ module _ (source : Source) where
   pub from_insert_text : (value : List ℕ) → Each (IsKnownCharacter source) value → TameFrom source (insert_text value)
   unfolding insert_text
   from_insert_text value known =
-      from_bind source _ _ (from_erase true false false) (λ _. from_bind source _ _ (from_chars value known) (λ _. from_answer source true))
+      from_bind source _ _ (from_erase KEEP_WRAPPERS) (λ _. from_bind source _ _ (from_chars value known) (λ _. from_answer source true))

@@ -13,6 +13,7 @@ use Rattle.edit_model.specs.Run.{Run, ◌>>=◌, ◌>>◌, answer, done, look, g
 use Rattle.edit_actions.specs.ActiveRange.{start_of}
 use Rattle.edit_query.specs.Carets.{is_caret}
 use Rattle.wrap_split.specs.Walks.{turn_bound}
+use Rattle.delete_core.specs.declared.deletion.TheConstants.Manner.{DEFAULT, BACKWARD}
 use Rattle.delete_core.specs.Ends.{canonicalize_start}
 use Rattle.delete_core.specs.Places.{at, start_in, end_in, walk_points}
 use Rattle.text_commands.specs.Approach.{is_affected_host, go_back, climb}
@@ -38,7 +39,7 @@ unfoldable pub erase_single : Point → Run (Unit {0})
 erase_single p = do
   collapse p
   extend (one_before p)
-  erase true true false
+  erase DEFAULT
 
 -- ---- step 9: a table
 
@@ -73,7 +74,7 @@ unfoldable pub erase_line : Point → Point → Run (Unit {0})
 erase_line p q = do
   set_scratch (record { anchor = p; focus = p })
   select (one_before q) q
-  erase true true false
+  erase DEFAULT
   look λ s. given s.points.scratch done λ pair. collapse pair.anchor
 
 -- ---- step 12: from where to where what stands before is joined
@@ -104,7 +105,7 @@ unfoldable pub join : Point → Point → Run (Unit {0})
 join p q = do
   part_entries q
   look λ s. select (joined s p q).0 (joined s p q).1
-  erase true true true
+  erase BACKWARD
 
 -- steps 7 to 13, with the caret at p
 unfoldable pub delete_across : Point → Run (Unit {0})
@@ -132,4 +133,4 @@ delete_at_caret = do
 
 -- step 1, or from 2 on
 unfoldable pub delete : Run Bool
-delete = look λ s. (if is_caret s then delete_at_caret else erase true true false) >> answer true
+delete = look λ s. (if is_caret s then delete_at_caret else erase DEFAULT) >> answer true

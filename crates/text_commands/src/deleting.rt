@@ -12,7 +12,7 @@ use crate::erasing::{erase_line, extend, follows_single};
 use crate::joining::{follows_line, follows_table, is_kept_from, joined};
 use crate::outdents::{outdent_line, starts_indented};
 use crate::places::one_before;
-use delete_core::{canonicalize_start, select};
+use delete_core::{Manner, canonicalize_start, select};
 use edit_actions::ends_of;
 use edit_doc::{Doc, EditFault, NodeRef, Point};
 use edit_query::is_caret;
@@ -50,7 +50,7 @@ fn delete_across(alloc: Global, doc: &mut Doc, node: NodeRef, caret: Point) -> R
     part_entries(alloc, doc, outer, at)?; // step 11
     let (from, to) = joined(doc, caret, outer, at); // step 12
     select(doc, from, to);
-    erase(alloc, doc, true, true, true) // step 13
+    erase(alloc, doc, Manner::BACKWARD) // step 13
 }
 
 // Steps 2 to 13.
@@ -76,7 +76,7 @@ fn delete_at_caret(alloc: Global, doc: &mut Doc) -> Result<(), EditFault>
         // step 4
         select(doc, caret, caret);
         extend(doc, one_before(caret));
-        return erase(alloc, doc, true, true, false);
+        return erase(alloc, doc, Manner::DEFAULT);
     }
     // step 5
     if !is_block(doc, node) {
@@ -101,7 +101,7 @@ pub fn delete(alloc: Global, doc: &mut Doc) -> Result<bool, EditFault>
     if is_caret(doc) {
         delete_at_caret(alloc, doc)?;
     } else {
-        erase(alloc, doc, true, true, false)?; // step 1
+        erase(alloc, doc, Manner::DEFAULT)?; // step 1
     }
     Ok(true)
 }

@@ -8,7 +8,7 @@ ghost use Rattle.edit_doc.specs.Held.{Holds, Keeps};
 ghost use Rattle.text_commands.specs.Delete as command;
 
 use crate::places::one_before;
-use delete_core::{child_before, select};
+use delete_core::{Manner, child_before, select};
 use edit_doc::{Doc, EditFault, NodeRef, Pair, Point};
 use node_tests::{has_name, is_block, is_break, is_image, is_words};
 use std::alloc::Global;
@@ -64,7 +64,7 @@ pub(crate) fn erase_line(
 {
     keep(doc, caret);
     select(doc, one_before(at), at);
-    erase(alloc, doc, true, true, false)?;
+    erase(alloc, doc, Manner::DEFAULT)?;
     if let Some(pair) = doc.points().scratch() {
         select(doc, pair.anchor, pair.anchor);
     }

@@ -1,6 +1,6 @@
 -- Inserting a paragraph (HTML Editing APIs, "the insertParagraph command"): what is selected goes,
 -- and the line is parted there. The steps are those of docs/ALGORITHMS.md. It answers true.
-use Rattle.std.specs.Prelude.{ℕ, ◌+◌, ◌==◌, Bool, true, false, ◌||◌, ◌&&◌, codes, Option, None, if◌then◌else◌, unwrap_or}
+use Rattle.std.specs.Prelude.{ℕ, ◌+◌, ◌==◌, Bool, true, ◌||◌, ◌&&◌, codes, Option, None, if◌then◌else◌, unwrap_or}
 use Rattle.dom_model.specs.declared.Content.{Content}
 use Rattle.dom_model.specs.Contents.{has_name, has_chars_at, length_of}
 use Rattle.dom_model.specs.Forest.{Forest}
@@ -11,6 +11,7 @@ use Rattle.edit_model.specs.Compositions.{split_words}
 use Rattle.edit_model.specs.Moves.{make_break}
 use Rattle.edit_model.specs.Run.{Run, ◌>>=◌, ◌>>◌, answer, done, look, given, collapse}
 use Rattle.wrap_split.specs.Breaks.{last_below}
+use Rattle.delete_core.specs.declared.deletion.TheConstants.Manner.{DEFAULT}
 use Rattle.delete_core.specs.Places.{at, before_node, after_node}
 use Rattle.text_insertion.specs.Containers.{container_of, own_container}
 use Rattle.text_insertion.specs.Entries.{is_empty_entry, leave_list}
@@ -81,6 +82,6 @@ insert_paragraph_inside =
 -- step 1, and then from 2 on
 unfoldable pub insert_paragraph : Run Bool
 insert_paragraph = do
-  erase true true false
+  erase DEFAULT
   insert_paragraph_inside
   answer true

@@ -13,6 +13,7 @@ use Rattle.edit_model.specs.Confined.{is_inside}
 use Rattle.edit_model.specs.Run.{Run, ◌>>=◌, ◌>>◌, done, look, given, insert}
 use Rattle.edit_actions.specs.ActiveRange.{start_of}
 use Rattle.inline_commands.specs.RestoringStates.{restore_states}
+use Rattle.delete_core.specs.declared.deletion.Manner.{Manner}
 use Rattle.delete_core.specs.Deletion.{delete_selection}
 
 -- the start of the active range
@@ -41,5 +42,5 @@ unfoldable pub cuts_text : Forest Content → Point → Bool
 cuts_text f p = is_words f p.label && (not (p.offset == 0) && not (p.offset == length_of f p.label))
 
 -- what is selected goes, and the states and values of it are restored
-unfoldable pub erase : Bool → Bool → Bool → Run (Unit {0})
-erase merge strip backward = delete_selection merge strip backward >>= restore_states
+unfoldable pub erase : Manner → Run (Unit {0})
+erase m = delete_selection m >>= restore_states

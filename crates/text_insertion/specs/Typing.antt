@@ -12,6 +12,7 @@ use Rattle.node_tests.specs.SolidNeighbours.{is_collapsed_break}
 use Rattle.edit_model.specs.Run.{Run, ◌>>=◌, ◌>>◌, answer, done, look, given, for_each, remove, replace, make_words, select, collapse}
 use Rattle.inline_commands.specs.RestoringStates.{restore_states}
 use Rattle.inline_value.specs.Overrides.{overrides_of}
+use Rattle.delete_core.specs.declared.deletion.TheConstants.Manner.{KEEP_WRAPPERS}
 use Rattle.delete_core.specs.Ends.{collapse_selection, canonicalize_start, canonicalize_end}
 use Rattle.delete_core.specs.Places.{at, start_in, end_in}
 use Rattle.delete_core.specs.Whitespace.{canonicalize}
@@ -84,7 +85,7 @@ insert_char_inside c = look λ s. given (start_inside s) done (insert_char_at c)
 
 -- insert text, of one character
 unfoldable pub insert_char : ℕ → Run (Unit {0})
-insert_char c = erase true false false >> insert_char_inside c
+insert_char c = erase KEEP_WRAPPERS >> insert_char_inside c
 
 -- step 2: each of several characters in order
 unfoldable pub insert_several : List ℕ → Run (Unit {0})
@@ -100,6 +101,6 @@ insert_chars (c ∷ d ∷ rest) = insert_several (c ∷ d ∷ rest)
 -- insert text, step 1, and then from 2 on
 unfoldable pub insert_text : List ℕ → Run Bool
 insert_text value = do
-  erase true false false
+  erase KEEP_WRAPPERS
   insert_chars value
   answer true

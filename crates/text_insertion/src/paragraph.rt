@@ -12,7 +12,7 @@ use crate::entries::{is_empty_entry, leave_list};
 use crate::halves::part_container;
 use crate::lines::own_container;
 use crate::start::{cuts_text, erase, has_chars, insert_at_start, start_inside};
-use delete_core::{after_node, before_node, select};
+use delete_core::{Manner, after_node, before_node, select};
 use edit_actions::make_break;
 use edit_doc::{Doc, EditFault, NodeRef, Point};
 use node_tests::{has_name, is_words};
@@ -150,7 +150,7 @@ pub fn insert_paragraph(alloc: Global, doc: &mut Doc) -> Result<bool, EditFault>
     ensures taken { IfOk result (λ answer. answer ≡ true) }
     ensures keeps { Keeps doc.old doc.new }
 {
-    erase(alloc, doc, true, true, false)?; // step 1
+    erase(alloc, doc, Manner::DEFAULT)?; // step 1
     insert_paragraph_inside(alloc, doc)?;
     Ok(true)
 }

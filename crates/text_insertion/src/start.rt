@@ -9,7 +9,7 @@ ghost use Rattle.edit_doc.specs.Whole.{IsOpen};
 ghost use Rattle.edit_doc.specs.Held.{Holds, Keeps};
 ghost use Rattle.text_insertion.specs.Start as start;
 
-use delete_core::{child_at, delete_selection};
+use delete_core::{Manner, child_at, delete_selection};
 use dom_model::Content;
 use edit_actions::ends_of;
 use edit_doc::{Doc, EditFault, NodeRef, Point};
@@ -93,17 +93,11 @@ pub fn has_chars(doc: &Doc, node: NodeRef) -> bool
 
 /// Deletes what is selected, and restores its states and values.
 #[tactic(auto, using(edit_model::proofs::Steps::steps, edit_model::proofs::Steps::exits), unfolding(crate::specs::Start::erase))]
-pub fn erase(
-    alloc: Global,
-    doc: &mut Doc,
-    merge: bool,
-    strip: bool,
-    backward: bool,
-) -> Result<(), EditFault>
+pub fn erase(alloc: Global, doc: &mut Doc, manner: Manner) -> Result<(), EditFault>
     requires open { IsOpen doc.old }
-    ensures gives { Gives result doc.old.state doc.new.state (start.erase merge strip backward) }
+    ensures gives { Gives result doc.old.state doc.new.state (start.erase manner) }
     ensures keeps { Keeps doc.old doc.new }
 {
-    let states = delete_selection(alloc, doc, merge, strip, backward)?;
+    let states = delete_selection(alloc, doc, manner)?;
     restore_states(alloc, doc, &states)
 }

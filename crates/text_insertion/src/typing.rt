@@ -11,8 +11,8 @@ ghost use Rattle.text_insertion.specs.Typing as typing;
 use crate::paragraph::insert_paragraph;
 use crate::start::{active_start, erase, insert_at_start, start_inside};
 use delete_core::{
-    canonicalize, canonicalize_end, canonicalize_start, child_at, child_before, collapse_selection,
-    end_in, select, start_in,
+    Manner, canonicalize, canonicalize_end, canonicalize_start, child_at, child_before,
+    collapse_selection, end_in, select, start_in,
 };
 use edit_doc::{Doc, EditFault, NodeRef, Point};
 use inline_commands::restore_states;
@@ -170,7 +170,7 @@ fn insert_char(alloc: Global, doc: &mut Doc, put: char) -> Result<(), EditFault>
     ensures gives { Gives result doc.old.state doc.new.state (typing.insert_char put) }
     ensures keeps { Keeps doc.old doc.new }
 {
-    erase(alloc, doc, true, false, false)?;
+    erase(alloc, doc, Manner::KEEP_WRAPPERS)?;
     insert_char_inside(alloc, doc, put)
 }
 
@@ -216,7 +216,7 @@ pub fn insert_text(alloc: Global, doc: &mut Doc, value: &[char]) -> Result<bool,
     ensures taken { IfOk result (λ answer. answer ≡ true) }
     ensures keeps { Keeps doc.old doc.new }
 {
-    erase(alloc, doc, true, false, false)?;
+    erase(alloc, doc, Manner::KEEP_WRAPPERS)?;
     insert_chars(alloc, doc, value)?;
     Ok(true)
 }

@@ -5,7 +5,7 @@ ghost use Rattle.edit_doc.specs.Whole.{IsOpen};
 
 use crate::tests::fixtures::{Act, At, Row, check_rows, point, selects};
 use delete_core::{
-    canonical_spaces, canonicalize, delete_selection, first_equivalent, last_equivalent,
+    Manner, canonical_spaces, canonicalize, delete_selection, first_equivalent, last_equivalent,
 };
 use edit_doc::{Doc, Setting};
 use html_names::Command;
@@ -266,9 +266,7 @@ fn what_stands_before_goes(rt: HostRuntime) -> Result<(), Fail> {
 
 // A deletion of the selection, with its flags.
 struct Cut {
-    merge: bool,
-    strip: bool,
-    backward: bool,
+    manner: Manner,
     from: At,
     to: At,
     left: At,
@@ -277,7 +275,7 @@ struct Cut {
 impl Act for Cut {
     fn act(&self, alloc: Global, doc: &mut Doc) -> Result<bool, Fail> {
         doc.select(point(self.from), point(self.to));
-        delete_selection(alloc, doc, self.merge, self.strip, self.backward)?;
+        delete_selection(alloc, doc, self.manner)?;
         Ok(selects(doc, self.left, self.left))
     }
 }
@@ -287,9 +285,7 @@ static CUT: [Row<Cut>; 4] = [
     Row(
         "<p>foo</p><p>bar</p>",
         Cut {
-            merge: false,
-            strip: true,
-            backward: false,
+            manner: Manner::KEEP_BLOCKS,
             from: (3, 1),
             to: (5, 2),
             left: (3, 1),
@@ -299,9 +295,10 @@ static CUT: [Row<Cut>; 4] = [
     Row(
         "<p>foo</p><p>bar</p>",
         Cut {
-            merge: false,
-            strip: true,
-            backward: true,
+            manner: Manner {
+                backward: true,
+                ..Manner::KEEP_BLOCKS
+            },
             from: (3, 1),
             to: (5, 2),
             left: (5, 0),
@@ -312,9 +309,7 @@ static CUT: [Row<Cut>; 4] = [
     Row(
         "<p>a<b>b</b>c</p>",
         Cut {
-            merge: true,
-            strip: false,
-            backward: false,
+            manner: Manner::KEEP_WRAPPERS,
             from: (5, 0),
             to: (5, 1),
             left: (4, 0),
@@ -324,9 +319,7 @@ static CUT: [Row<Cut>; 4] = [
     Row(
         "<p>a<b>b</b>c</p>",
         Cut {
-            merge: true,
-            strip: true,
-            backward: true,
+            manner: Manner::BACKWARD,
             from: (3, 0),
             to: (6, 1),
             left: (2, 0),
