@@ -3,7 +3,7 @@
 use Rattle.edit_laws.specs.Steady.{Steady}
 use Rattle.delete_core.specs.declared.deletion.Manner.{Manner}
 use Rattle.delete_core.specs.Deletion.{delete_selection}
-use Rattle.text_commands.specs.Delete.{delete}
+use Rattle.text_deletion.specs.Delete.{delete}
 
 abbrev pub SelectionGoesSteady : Type 0
 SelectionGoesSteady = (m : Manner) → Steady (delete_selection m)

@@ -23,8 +23,8 @@ use Rattle.list_toggle.specs.declared.toggling.ListKind.{ListKind}
 use Rattle.list_toggle.specs.declared.toggling.ListKind.TheVariants.{Ordered, Unordered}
 use Rattle.text_insertion.specs.Paragraph.{insert_paragraph_inside, insert_paragraph}
 use Rattle.text_insertion.specs.Typing.{insert_chars, insert_text}
-use Rattle.text_commands.specs.Delete.{delete}
-use Rattle.text_commands.proofs.Taken.{delete_answers_true}
+use Rattle.text_deletion.specs.Delete.{delete}
+use Rattle.text_deletion.proofs.Taken.{delete_answers_true}
 use Rattle.insert_objects.specs.LineBreak.{insert_line_break}
 use Rattle.insert_objects.specs.Rule.{insert_horizontal_rule}
 use Rattle.insert_objects.specs.Image.{insert_source, insert_image}

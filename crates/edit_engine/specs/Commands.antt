@@ -22,7 +22,7 @@ use Rattle.insert_objects.specs.Image.{insert_image}
 use Rattle.list_indent.specs.Commands.{indent, outdent}
 use Rattle.list_toggle.specs.Toggle.{toggle_lists}
 use Rattle.list_toggle.specs.declared.toggling.ListKind.TheVariants.{Ordered, Unordered}
-use Rattle.text_commands.specs.Delete.{delete}
+use Rattle.text_deletion.specs.Delete.{delete}
 use Rattle.text_insertion.specs.Paragraph.{insert_paragraph}
 use Rattle.text_insertion.specs.Typing.{insert_text}
 

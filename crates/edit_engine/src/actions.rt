@@ -29,7 +29,7 @@ use insert_objects::{insert_horizontal_rule, insert_image, insert_line_break};
 use list_indent::{indent, outdent};
 use list_toggle::{ListKind, toggle_lists};
 use std::alloc::{AllocError, Global};
-use text_commands::{delete, insert_paragraph, insert_text};
+use text_deletion::{delete, insert_paragraph, insert_text};
 
 // styleWithCSS and useCSS, step 1.
 #[tactic(auto, using(edit_model::proofs::Steps::actions), unfolding(crate::specs::Commands::set_css_styling))]

@@ -1,7 +1,7 @@
 -- The laws of deleting and inserting: the run of each command is tame, where the source has the
 -- characters that are typed.
 use Rattle.std.specs.Prelude.{ℕ, List}
-use Rattle.text_commands.specs.Delete.{delete}
+use Rattle.text_deletion.specs.Delete.{delete}
 use Rattle.text_insertion.specs.Paragraph.{insert_paragraph}
 use Rattle.text_insertion.specs.Typing.{insert_text}
 use Rattle.insert_objects.specs.Image.{insert_image}

@@ -2,7 +2,7 @@
 //! their labels (1 is the host), and what the host then holds.
 //!
 //! A module a layer: `inline` for `inline_value`, `inline_actions` for `inline_commands`, `blocks`
-//! for `block_commands` and `list_indent`, `deleting` for `delete_core` and `text_commands`,
+//! for `block_commands` and `list_indent`, `deleting` for `delete_core` and `text_deletion`,
 //! `typing` and `paragraphs` for `text_insertion`, `toggles` for `list_toggle`, `objects` for
 //! `insert_objects`.
 

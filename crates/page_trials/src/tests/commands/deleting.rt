@@ -11,7 +11,7 @@ use edit_doc::{Doc, Setting};
 use html_names::Command;
 use std::alloc::Global;
 use std::test::Fail;
-use text_commands::delete;
+use text_deletion::delete;
 
 // The command with an anchor and a focus, and those that it leaves.
 struct Delete(At, At, At, At);

@@ -1,0 +1,19 @@
+use Rattle.std.proofs.Common.{◌≡◌, ◌<◌}
+use Rattle.dom_model.specs.Forest.{count_of}
+use Rattle.edit_model.specs.Run.{final, value, while_at_most}
+use Rattle.edit_doc.specs.Held.{Keeps}
+use Rattle.wrap_split.specs.Walks.{turn_bound}
+use Rattle.text_deletion.specs.Approach.{goes_on, back_turn}
+use Rattle.text_deletion.proofs.approach.go_back.Given as goal
+
+-- what is left to do ends where the whole ends, and the way stands at a node that is there
+abbrev pub invariant-loop-turns : goal.invariant-loop-turns
+invariant-loop-turns l =
+    (final (while_at_most l.turns goes_on back_turn l.way) l.doc.state
+    ≡ final (while_at_most (turn_bound l.initial.doc.state) goes_on back_turn l.initial.way) l.initial.doc.state)
+    × ((value (while_at_most l.turns goes_on back_turn l.way) l.doc.state
+    ≡ value (while_at_most (turn_bound l.initial.doc.state) goes_on back_turn l.initial.way) l.initial.doc.state)
+    × (Keeps l.initial.doc l.doc × (0 < count_of l.doc.state.trees l.way.at.label)))
+
+abbrev pub decreases-loop-turns : goal.decreases-loop-turns
+decreases-loop-turns l = l.turns
