@@ -62,11 +62,7 @@ fn push_above(list: &mut Vec<NodeRef>, doc: &Doc, node: NodeRef) -> Result<(), A
 }
 
 // The links among the ancestors of a node, the outermost first.
-fn links_above(
-    alloc: Global,
-    doc: &Doc,
-    node: NodeRef,
-) -> Result<Vec<NodeRef>, AllocError>
+fn links_above(alloc: Global, doc: &Doc, node: NodeRef) -> Result<Vec<NodeRef>, AllocError>
     requires { Holds doc.now node }
     ensures held { IfOk result (λ list. EachHeld doc.now list.items) }
     ensures links { IfOk result (λ list. labels_of list.items
