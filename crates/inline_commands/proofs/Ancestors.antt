@@ -32,7 +32,7 @@ tree_below m c ks rest l once here =
       | inr (t, _) ↦ (let none : count_of rest l ≡ 0 = (let o = once l in let o' = rw t at o in omega (arith, o', here)) in rw (t, tree_of_absent rest l none) (join-Nil (tree_of ks l)))
     ]
 
-tree_after : (m : ℕ) (c : Content) (ks rest : Forest Content) (l : ℕ) → IsDistinct (Tree m c ks rest) → 0 < count_of rest l → tree_of (Tree m c ks rest) l ≡ tree_of rest l
+pub tree_after : (m : ℕ) (c : Content) (ks rest : Forest Content) (l : ℕ) → IsDistinct (Tree m c ks rest) → 0 < count_of rest l → tree_of (Tree m c ks rest) l ≡ tree_of rest l
 tree_after m c ks rest l once here =
     elim (eqb_tells m l) [
       | inl (t, _) ↦ absurd (let o = once l in let o' = rw t at o in omega (arith, o', here))
@@ -52,7 +52,7 @@ after_tells W m c ks rest n once tells l here = tells l (omega (arith, here)) �
 top_test : (m : ℕ) (c : Content) (ks rest : Forest Content) (n : ℕ) → is_within (Tree m c ks rest) m n ≡ nat_lt 0 (count_of (Tree m c ks Nil) n)
 top_test m c ks rest n = let t = eqb_refl_true m in rw t refl
 
-parts : (W : ℕ → Bool) (m : ℕ) (c : Content) (ks rest : Forest Content) → filter W (preorder (Tree m c ks rest)) ≡ filter W (m ∷ []) ++ (filter W (preorder ks) ++ filter W (preorder rest))
+pub parts : (W : ℕ → Bool) (m : ℕ) (c : Content) (ks rest : Forest Content) → filter W (preorder (Tree m c ks rest)) ≡ filter W (m ∷ []) ++ (filter W (preorder ks) ++ filter W (preorder rest))
 parts W m c ks rest =
     ap (filter W) (preorder_tree m c ks rest) ∙ (filter-append W (m ∷ []) (preorder ks ++ preorder rest) ∙ ap (λ xs. filter W (m ∷ []) ++ xs) (filter-append W (preorder ks) (preorder rest)))
 

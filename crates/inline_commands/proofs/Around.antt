@@ -1,5 +1,5 @@
 -- The links above the nodes of a list in tree order, as a test finds them in tree order.
-use Rattle.std.proofs.Common.{◌≡◌, ◌≢◌, ◌⊎◌, inl, inr, ℕ, ◌<◌, Bool, true, false, cond, not, ◌&&◌, ◌||◌, List, [], ◌∷◌, ◌++◌, Option, Some, None, refl, sym, ap, subst, ◌∙◌, arith}
+use Rattle.std.proofs.Common.{◌≡◌, ◌≢◌, ◌⊎◌, inl, inr, ℕ, ◌<◌, Bool, true, false, cond, not, ◌&&◌, ◌||◌, List, [], ◌∷◌, ◌++◌, Option, Some, None, refl, sym, ap, subst, ◌∙◌, arith, eqb}
 use Rattle.std.specs.Prelude.{IfSome, filter}
 use Rattle.std.specs.List.{list_any}
 use Rattle.std.proofs.lemmas.Bool.{and_parts}
@@ -7,17 +7,16 @@ use Rattle.std.proofs.lemmas.Bool.Decides.{eqb_tells}
 use Rattle.dom_model.specs.declared.Content.{Content}
 use Rattle.dom_model.specs.Forest.{Forest, count_of, times, IsWithin, tree_of, parent_of, preorder}
 use Rattle.dom_model.specs.Places.{index_of}
+use Rattle.dom_model.proofs.Totals.{total-without}
 use Rattle.dom_model.proofs.Within.{within_self}
 use Rattle.live_range.specs.declared.places.Pair.{Pair}
 use Rattle.point_order.specs.PointOrder.{is_ancestor, is_before, is_placed}
 use Rattle.node_tests.specs.Ranges.{is_effectively_contained}
-use Rattle.node_tests.proofs.Pieces.{count_in_tree}
-use Rattle.node_tests.proofs.Skipping.{sibling_before}
 use Rattle.edit_model.specs.State.{State}
 use Rattle.edit_model.specs.Valid.{IsForest, IsPlacedPair, IsValid}
 use Rattle.edit_model.proofs.Trees.{within_trans}
 use Rattle.edit_actions.specs.ActiveRange.{start_of, end_of}
-use Rattle.edit_actions.proofs.Placed.{placed_inside, placed_here}
+use Rattle.edit_actions.proofs.Placed.{placed_inside}
 use Rattle.inline_value.specs.Selections.{nodes_by, nodes_in_range}
 use Rattle.inline_commands.specs.Linking.{is_around, links_around}
 use Rattle.inline_commands.specs.Merging.{links_above, links_over, merged}
@@ -25,7 +24,7 @@ use Rattle.inline_commands.specs.Unlink.{is_link}
 use Rattle.inline_commands.proofs.Ancestors.{ancestor_none, and_false, filter_both, filter_by, filter_none, found_above}
 use Rattle.inline_commands.proofs.Elsewhere.{effective_in}
 use Rattle.inline_commands.proofs.Merging.{Agree, parted}
-use Rattle.inline_commands.proofs.Order.{above_is, above_parts, above_through, begins_first, none_earlier}
+use Rattle.inline_commands.proofs.Order.{above_is, above_parts, above_through, begins_first, none_earlier, sibling_before}
 use Rattle.inline_commands.proofs.Pairs.{Pairs, document_pairs, either_first, found, head_in, listed, pairs_kept, pairs_to}
 
 any_in : (T : ℕ → Bool) (xs : List ℕ) → list_any T xs ≡ true → (r : ℕ) × (0 < times xs r) × (T r ≡ true)
@@ -90,7 +89,7 @@ module _ (f : Forest Content) (next : ℕ) (law : IsForest f next) where
     inside = listed (tree_of f 0) n listed_n
 
     here : 0 < count_of f n
-    here = let low = count_in_tree f 0 n in omega (arith, low, inside)
+    here = omega (arith, inside, total-without (λ k _. cond (eqb k n) 1 0) f 0)
 
     itself : IsWithin f n n
     itself = within_self f n law.distinct here
@@ -206,7 +205,7 @@ module _ (f : Forest Content) (next : ℕ) (law : IsForest f next) where
       let start = start_of f pair in
       let end = end_of f pair in
       let ends = ends_placed pair placed in
-      subst IsOrdered (effective_in f next law start end (placed_inside f start ends.0) (placed_here f end ends.1)) (kept_order (is_effectively_contained f start end))
+      subst IsOrdered (effective_in f next law start end (placed_inside f start ends.0) (placed_inside f end ends.1)) (kept_order (is_effectively_contained f start end))
 
 pub links_are : (s : State) → IsValid s → links_over s.trees 0 (nodes_in_range s) ≡ links_around s
 unfolding nodes_in_range links_around is_around

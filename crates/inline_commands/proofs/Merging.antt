@@ -16,7 +16,7 @@ use Rattle.inline_commands.proofs.Pairs.{Pairs, found, head_in}
 
 -- ---- what a test finds
 
-none_found : (T : ℕ → Bool) (xs : List ℕ) → ((l : ℕ) → 0 < times xs l → T l ≡ true → ⊥) → filter T xs ≡ []
+pub none_found : (T : ℕ → Bool) (xs : List ℕ) → ((l : ℕ) → 0 < times xs l → T l ≡ true → ⊥) → filter T xs ≡ []
 none_found T [] none = refl
 none_found T (x ∷ xs) none = by_test (T x) refl (none_found T xs (λ l h. none l (omega (arith, h))))
   where

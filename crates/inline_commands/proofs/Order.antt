@@ -4,16 +4,17 @@ use Rattle.std.proofs.lemmas.Bool.{and_parts, le-ltb}
 use Rattle.std.proofs.lemmas.Bool.Decides.{eqb_tells, nat_tests}
 use Rattle.dom_model.specs.declared.Content.{Content}
 use Rattle.dom_model.specs.Forest.{Forest, count_of, IsDistinct, IsWithin, tree_of, parent_of}
+use Rattle.dom_model.specs.Places.{index_of}
 use Rattle.dom_model.proofs.Earlier.{first_of_two-within, first_of_two-swap}
 use Rattle.dom_model.proofs.Links.{tree_of_absent, eqb_refl_true}
 use Rattle.live_range.specs.declared.places.Point.{Point}
 use Rattle.point_order.specs.PointOrder.{is_ancestor, is_before, is_within}
-use Rattle.node_tests.specs.Listing.{LiesAfter}
-use Rattle.node_tests.proofs.Reaching.{after_it, child_with}
+use Rattle.node_tests.specs.Listing.{LiesAfter, LiesBefore}
+use Rattle.node_tests.proofs.Reaching.{after_it, before_it, child_with}
 use Rattle.edit_model.proofs.Trees.{within_trans}
 use Rattle.inline_commands.proofs.Ancestors.{and_false, none_told}
 
-some_count : (n : ℕ) → nat_lt 0 n ≡ true → 0 < n
+pub some_count : (n : ℕ) → nat_lt 0 n ≡ true → 0 < n
 some_count n h = grind (arith, nat_tests)
 
 pub own_front : (f : Forest Content) (p : Point) (l : ℕ) → p.label ≡ l → is_before f p (record { label = l; offset = 0 }) ≡ false
@@ -74,3 +75,7 @@ module _ (f : Forest Content) (once : IsDistinct f) where
         | inl (_, same) ↦ own_front f at p (sym same)
         | inr (_, off) ↦ (let k = after_front p at.label off inside in k.1.none at.label at.offset k.2)
       ]
+
+  -- what stands below a child comes before what stands below a later one
+  pub sibling_before : (top k c : ℕ) (p : Point) → parent_of f k ≡ Some top → parent_of f c ≡ Some top → index_of f k < index_of f c → IsWithin f c p.label → LiesBefore f p k
+  sibling_before top k c p child other low inside = before_it f once p top k child (inr (c, other, inside, low))

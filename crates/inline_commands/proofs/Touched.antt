@@ -11,7 +11,6 @@ use Rattle.live_range.specs.declared.places.Point.{Point}
 use Rattle.point_order.specs.PointOrder.{is_ancestor, is_before}
 use Rattle.node_tests.specs.Ranges.{is_contained, contained_nodes}
 use Rattle.node_tests.proofs.Reaching.{before_it}
-use Rattle.node_tests.proofs.Skipping.{sibling_before}
 use Rattle.edit_model.specs.Valid.{IsForest}
 use Rattle.edit_model.proofs.Documents.{index_below}
 use Rattle.edit_model.proofs.Trees.{within_trans}
@@ -21,7 +20,7 @@ use Rattle.inline_commands.specs.Unlink.{is_link, is_touched, links_in}
 use Rattle.inline_commands.proofs.Ancestors.{filter_by, filter_both, filter_none, and_false, found_above}
 use Rattle.inline_commands.proofs.Elsewhere.{contained_in}
 use Rattle.inline_commands.proofs.Merging.{Agree, parted}
-use Rattle.inline_commands.proofs.Order.{above_is, above_off, above_parts, above_through, child_of, none_earlier, one_way, own_front}
+use Rattle.inline_commands.proofs.Order.{above_is, above_off, above_parts, above_through, child_of, none_earlier, one_way, own_front, sibling_before}
 use Rattle.inline_commands.proofs.Pairs.{document_pairs}
 
 -- the points of a range are in order
@@ -148,13 +147,13 @@ module _ (f : Forest Content) (next : ℕ) (law : IsForest f next) (start end : 
 
   -- ---- what each of them finds
 
-  amid_links : IsWithin f 0 start.label → 0 < count_of f end.label → filter amid (preorder (tree_of f 0)) ≡ links_inside f start end
-  amid_links inside end_here = by_order (is_before f start end)
+  amid_links : IsWithin f 0 start.label → filter amid (preorder (tree_of f 0)) ≡ links_inside f start end
+  amid_links inside = by_order (is_before f start end)
     where
       by_order : (b : Bool) → filter (λ l. is_link f l && (b && is_contained f start end l)) (preorder (tree_of f 0)) ≡ cond b (filter (is_link f) (contained_nodes f start end)) []
       by_order true =
           filter_both (is_link f) (is_contained f start end) (preorder (tree_of f 0))
-          ∙ ap (filter (is_link f)) (contained_in f next law start end inside end_here)
+          ∙ ap (filter (is_link f)) (contained_in f next law start end inside)
       by_order false = filter_none (λ l. is_link f l && false) (preorder (tree_of f 0)) (λ l. and_false (is_link f l) false refl)
 
 pub links_found : (f : Forest Content) (next : ℕ) → IsForest f next → (start end : Point) → InOrder f start end
@@ -170,7 +169,7 @@ links_found f next law start end ordered inside end_inside here end_here =
     let second : filter B P ≡ filter (λ l. not (is_ancestor f l start.label)) (links_above f end.label) =
     filter_both (λ l. not (is_ancestor f l start.label)) (λ l. is_link f l && is_ancestor f l end.label) P
     ∙ ap (filter (λ l. not (is_ancestor f l start.label))) (found_above f next law end.label end_inside end_here) in
-    let third : filter X P ≡ links_inside f start end = amid_links f next law start end inside end_here in
+    let third : filter X P ≡ links_inside f start end = amid_links f next law start end inside in
     ap (λ xs. xs ++ merged f (filter (λ l. not (is_ancestor f l start.label)) (links_above f end.label)) (links_inside f start end)) (sym first)
     ∙ ap (λ xs. filter A P ++ merged f xs (links_inside f start end)) (sym second)
     ∙ ap (λ xs. filter A P ++ merged f (filter B P) xs) (sym third)

@@ -1,4 +1,4 @@
-use Rattle.std.proofs.Common.{ap, ◌∙◌}
+use Rattle.std.proofs.Common.{◌++◌, ap, ◌∙◌}
 use Rattle.inline_commands.proofs.Merging.{over_on, rest_held}
 use Rattle.inline_commands.proofs.links.links_over.Goals as goal
 
