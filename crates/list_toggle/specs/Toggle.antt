@@ -84,5 +84,5 @@ unfoldable pub toggle_lists : ListKind → Run Bool
 toggle_lists kind = look λ s. do
   normalize_range
   if is_list_state (is_ordered kind) (list_state s s.host)
-    then toggle_off (is_ordered kind) else toggle_on (is_ordered kind)
+      then toggle_off (is_ordered kind) else toggle_on (is_ordered kind)
   answer true

@@ -71,7 +71,11 @@ static TOGGLED: [Row<Toggled>; 43] = [
         Toggled(ListKind::Ordered, ((2, 0), (2, 0)), ((2, 0), (2, 0))),
         "<ol><li>a<b>b</b></li></ol>",
     ),
-    Row("", Toggled(ListKind::Ordered, ((1, 0), (1, 0)), ((1, 0), (1, 0))), ""),
+    Row(
+        "",
+        Toggled(ListKind::Ordered, ((1, 0), (1, 0)), ((1, 0), (1, 0))),
+        "",
+    ),
     // indentation elements stay
     // 2 blockquote (3 p (4 "a"))
     Row(
