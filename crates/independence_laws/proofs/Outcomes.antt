@@ -11,7 +11,8 @@ use Rattle.dom_model.specs.Document.{page_depth}
 use Rattle.live_range.specs.declared.places.Pair.{Pair}
 use Rattle.edit_model.specs.State.{State}
 use Rattle.edit_model.specs.History.{rested, begun}
-use Rattle.edit_model.specs.Run.{Run}
+use Rattle.edit_model.specs.Action.{Select}
+use Rattle.edit_model.specs.Run.{Run, select}
 use Rattle.edit_actions.specs.ActiveRange.{affected_host}
 use Rattle.edit_engine.specs.Commands.{row_of, action_of, is_enabled_in}
 use Rattle.edit_engine.specs.Editing.{Editing}
@@ -20,12 +21,13 @@ use Rattle.edit_engine.specs.Going.{joins_by}
 use Rattle.independence_laws.specs.Unmarked.{unmarked}
 use Rattle.independence_laws.specs.Ignoring.{IgnoresMarks}
 use Rattle.independence_laws.specs.Editors.{AreSameButMarks, AreAlikeUnlessFull, MarksAreIgnored, MarksAreIgnoredWhereDenied, MarksAreIgnoredAtRanges, CapsOnlyRefuse}
-use Rattle.independence_laws.proofs.IgnoringRuns.{ignoring_parts}
+use Rattle.independence_laws.proofs.IgnoringRuns.{ignores_bind, ignores_perform}
 use Rattle.independence_laws.proofs.CommandRuns.{ignores_action}
 
 ignores_at : (at : Option Pair) (m : Run Bool) → IgnoresMarks m → IgnoresMarks (run_at at m)
 ignores_at None m h = h
-ignores_at (Some range) m h = search (ignoring_parts, h)
+ignores_at (Some range) m h =
+    ignores_bind (select range.anchor range.focus) (λ _. m) (ignores_perform (Select range.anchor range.focus)) (λ _. h)
 
 host_same : (at : Option Pair) (s : State) → host_at at (unmarked s) ≡ host_at at s
 unfolding affected_host

@@ -62,8 +62,8 @@ unfolding record_values
 ignores_record_values list = ignores_look _ (λ s. rw (values_of_same s)) (λ s. ignores_answer _)
 
 ignores_restored_to : (command : Command) (n : ℕ) (w u : Option (List ℕ)) → IgnoresMarks (restored_to command n w u)
-ignores_restored_to command n None u = search (ignoring_parts, ignores_push_down, ignores_force)
-ignores_restored_to command n (Some w) u = search (ignoring_parts, ignores_push_down, ignores_force)
+ignores_restored_to command n None u = search (ignoring_parts, ignores_push_down)
+ignores_restored_to command n (Some w) u = search (ignoring_parts, ignores_force)
 
 ignores_restore_value : (r : Recorded) → IgnoresMarks (restore_value r)
 unfolding restore_value

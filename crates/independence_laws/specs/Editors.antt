@@ -1,5 +1,5 @@
--- What a command comes to in an editor doesn't depend on marks or on the history, and on the cap only
--- where it is refused for that. What is answered to a question depends on none of them.
+-- What a command comes to in an editor doesn't depend on marks or on the history, and on the cap
+-- only where it is refused for that. What is answered to a question depends on none of them.
 use Rattle.std.specs.Prelude.{◌≡◌, ◌≤◌, ℕ, Bool, List}
 use Rattle.html_names.specs.declared.query.QueryKind.{QueryKind}
 use Rattle.live_range.specs.declared.places.Pair.{Pair}
@@ -9,8 +9,8 @@ use Rattle.edit_engine.specs.Execution.{Outcome, Refused, Deep, Full, Acted, out
 use Rattle.edit_engine.specs.Queries.{reply_of}
 use Rattle.independence_laws.specs.Unmarked.{unmarked}
 
--- the states are the same but for the marks and the cap: the document with its labels, the selection,
--- the overrides and the flags, and the next label. The histories are any.
+-- the states are the same but for the marks and the cap: the document with its labels, the
+-- selection, the overrides and the flags, and the next label. The histories are any.
 abbrev pub AreSameButMarks : Editing → Editing → Type 0
 AreSameButMarks e f = unmarked e.state ≡ unmarked f.state
 
@@ -42,8 +42,8 @@ MarksAreIgnoredAtRanges =
     (e f : Editing) (range : Pair) (v : List ℕ) → AreSameButMarks e f
     → AreAlikeUnlessFull (replaced_outcome e range v) (replaced_outcome f range v)
 
--- what is refused at a cap is refused at every smaller one; so at the same cap both commands are, or
--- neither
+-- what is refused at a cap is refused at every smaller one; so at the same cap both commands are,
+-- or neither
 abbrev pub CapsOnlyRefuse : Type 0
 CapsOnlyRefuse =
     (joined : Bool) (e f : Editing) (name v : List ℕ) → AreSameButMarks e f

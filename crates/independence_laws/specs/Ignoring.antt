@@ -1,5 +1,5 @@
--- Runs that don't look at marks or the cap: the certificate of an algorithm that does the same whatever
--- these are.
+-- Runs that don't look at marks or the cap: the certificate of an algorithm that does the same
+-- whatever these are.
 use Rattle.std.specs.Prelude.{◌≡◌}
 use Rattle.edit_model.specs.State.{State}
 use Rattle.edit_model.specs.Run.{Run, final, value}

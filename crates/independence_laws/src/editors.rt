@@ -19,8 +19,8 @@ pub fn marks_are_ignored_at_ranges()
     ensures { MarksAreIgnoredAtRanges }
 {}
 
-/// What is refused at a cap is refused at every smaller one. So two editors with one cap both refuse
-/// a command for want of labels, or neither does.
+/// What is refused at a cap is refused at every smaller one. So two editors with one cap both
+/// refuse a command for want of labels, or neither does.
 pub fn caps_only_refuse()
     ensures { CapsOnlyRefuse }
 {}

@@ -1,5 +1,5 @@
-//! The laws of what commands and questions don't look at: the marks, the history and the cap. Each is
-//! the contract of a function that does nothing.
+//! The laws of what commands and questions don't look at: the marks, the history and the cap. Each
+//! is the contract of a function that does nothing.
 #![tactic(auto)]
 
 mod editors;
