@@ -1,0 +1,4 @@
+pub mod Unmarked
+pub mod Ignoring
+pub mod Laws
+pub mod Editors
