@@ -124,7 +124,7 @@ NoComment told _ = Unit {0}
 
 made_no_comment : (ns : List (ℕ × Content)) → Each CanBeMade ns → (l : ℕ) → option_map kind_in (content_made ns l) ≡ Some Comment → ⊥
 made_no_comment [] can l e = (let t : None ≡ Some Comment = e in cc)
-made_no_comment (n ∷ ns) can l e = by_test (eqb n.0 l) e
+made_no_comment (n ∷ ns) can l e = by_test (eqb n.0 l) (made_no_comment ns can.1 l) e
   where
     own : (c : Content) → CanBeMade (n.0, c) → Some (kind_in c) ≡ Some Comment → ⊥
     own content.Document t e = true≢false (sym t)
@@ -132,9 +132,9 @@ made_no_comment (n ∷ ns) can l e = by_test (eqb n.0 l) e
     own (content.Words chars) t e = (let u : Some Text ≡ Some Comment = e in cc)
     own (content.Remark chars) t e = true≢false (sym t)
 
-    by_test : (b : Bool) → option_map kind_in (cond b (Some n.1) (content_made ns l)) ≡ Some Comment → ⊥
-    by_test true e = own n.1 can.0 e
-    by_test false e = made_no_comment ns can.1 l e
+    by_test : (b : Bool) → (option_map kind_in (content_made ns l) ≡ Some Comment → ⊥) → option_map kind_in (cond b (Some n.1) (content_made ns l)) ≡ Some Comment → ⊥
+    by_test true more e = own n.1 can.0 e
+    by_test false more e = more e
 
 no_comment : (f : Forest Content) (ns : List (ℕ × Content)) → Each CanBeMade ns → (x : Change) → SparesComments f x → NoComment (λ l. either (content_of f l) (content_made ns l)) x
 no_comment f ns can (SetText n words) spares = λ e. by_content (content_of f n) refl e
