@@ -98,18 +98,18 @@ first_after (Move l p b) f place h =
 first_after (Words l words) f place h = first_revised f l (with_chars words) h
 first_after (Tag l name attributes) f place h = first_revised f l (with_attributes attributes) h
 
-has_its_place : (x : StepLine) (d : Labelled) → fault_of x d ≡ None → has_place x d.trees ≡ true
+pub line_fits : (x : StepLine) (d : Labelled) → fault_of x d ≡ None → (has_labels x d ≡ true) × (has_place x d.trees ≡ true)
 unfolding fault_of
-has_its_place x d e = by_tests (has_labels x d) (has_place x d.trees) (has_room x d.trees) e
+line_fits x d e = by_tests (has_labels x d) (has_place x d.trees) (has_room x d.trees) e
   where
-    by_tests : (a b c : Bool) → ◌≡◌ {A = Option StepFault} (cond a (cond b (cond c None (Some TooDeep)) (Some BadPlace)) (Some BadLabel)) None → b ≡ true
-    by_tests true true c e = refl
+    by_tests : (a b c : Bool) → ◌≡◌ {A = Option StepFault} (cond a (cond b (cond c None (Some TooDeep)) (Some BadPlace)) (Some BadLabel)) None → (a ≡ true) × (b ≡ true)
+    by_tests true true c e = (refl, refl)
     by_tests true false c e = absurd (let t : ◌≡◌ {A = Option StepFault} (Some BadPlace) None = e in cc)
     by_tests false b c e = absurd (let t : ◌≡◌ {A = Option StepFault} (Some BadLabel) None = e in cc)
 
-by_fault : (number : ℕ) (o : Option StepFault) (rest : Result Labelled (ℕ × StepFault)) (last : Labelled) → refused_or number o rest ≡ Ok last → (o ≡ None) × (rest ≡ Ok last)
-by_fault number None rest last e = (refl, e)
-by_fault number (Some fault) rest last e = absurd (let t : ◌≡◌ {A = Result Labelled (ℕ × StepFault)} (Err (number, fault)) (Ok last) = e in cc)
+pub first_applied : (number : ℕ) (o : Option StepFault) (rest : Result Labelled (ℕ × StepFault)) (last : Labelled) → refused_or number o rest ≡ Ok last → (o ≡ None) × (rest ≡ Ok last)
+first_applied number None rest last e = (refl, e)
+first_applied number (Some fault) rest last e = absurd (let t : ◌≡◌ {A = Result Labelled (ℕ × StepFault)} (Err (number, fault)) (Ok last) = e in cc)
 
 pub first_stays : (number : ℕ) (xs : List StepLine) (d last : Labelled) → replayed_from number xs d ≡ Ok last → HasFirst d.trees → HasFirst last.trees
 unfolding replayed_from line_applied
@@ -117,8 +117,8 @@ first_stays number [] d last e h =
     let same : d ≡ last = (let t : ◌≡◌ {A = Result Labelled (ℕ × StepFault)} (Ok d) (Ok last) = e in cc) in
     subst (λ (w : Labelled). HasFirst w.trees) same h
 first_stays number (x ∷ xs) d last e h =
-    let parts = by_fault number (fault_of x d) (replayed_from (number + 1) xs (line_applied x d)) last e in
-    first_stays (number + 1) xs (line_applied x d) last parts.1 (first_after x d.trees (has_its_place x d parts.0) h)
+    let parts = first_applied number (fault_of x d) (replayed_from (number + 1) xs (line_applied x d)) last e in
+    first_stays (number + 1) xs (line_applied x d) last parts.1 (first_after x d.trees (line_fits x d parts.0).1 h)
 
 -- ---- what is printed
 

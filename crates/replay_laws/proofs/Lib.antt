@@ -7,4 +7,5 @@ pub mod Spelling
 pub mod Replaying
 pub mod LogLines
 pub mod Firsts
+pub mod Labels
 pub mod Texts

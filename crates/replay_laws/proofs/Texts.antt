@@ -6,7 +6,7 @@ use Rattle.std.specs.Option.{option_map_or}
 use Rattle.std.proofs.lemmas.Bool.Decides.{nat_tests}
 use Rattle.dom_model.specs.declared.Content.{Content as NodeContent}
 use Rattle.dom_model.specs.declared.Content.TheVariants.{Document}
-use Rattle.dom_model.specs.ArenaState.{ArenaState as Arena}
+use Rattle.dom_model.specs.ArenaState.{ArenaState as Arena, IsValid as IsArena}
 use Rattle.dom_model.specs.Forest.{Forest}
 use Rattle.dom_model.specs.Forest.Forest.{Nil as NoTrees, Tree}
 use Rattle.forest_changes.specs.Named.{Each}
@@ -26,8 +26,9 @@ use Rattle.edit_session.specs.declared.session.Status.TheVariants.{Done, Usage}
 use Rattle.edit_session.proofs.Grammars.{rests}
 use Rattle.replay_laws.specs.Lines.{tallied_all}
 use Rattle.replay_laws.specs.Steps.{on_page, StepsReplay, SessionReplays}
-use Rattle.replay_laws.specs.Texts.{IsReadAs, TextReplays, SessionTextReplays}
+use Rattle.replay_laws.specs.Texts.{IsInGrammar, IsReadAs, TextReplays, SessionTextReplays}
 use Rattle.replay_laws.proofs.Firsts.{HasFirst, first_stays, text_same}
+use Rattle.replay_laws.proofs.Labels.{HasLabels, lines_are}
 use Rattle.replay_laws.proofs.LogLines.{steps_are_lines, lines_replay}
 
 -- ---- a page within a greater cap
@@ -98,12 +99,21 @@ page_is : (bytes : List ℕ) (page : Arena) (r : IsReadAs bytes page) → on_pag
 page_is bytes page r = λ i. record { trees = r.trees i; next = r.next i; cap = greatest_cap }
 
 module _ (front bytes : List ℕ) (page : Arena) (e : Editing) (block : block_of (front ++ 10 ∷ []) ≡ Whole bytes []) (r : IsReadAs bytes page)
-    (are : Each IsStepLine (log_steps e.history)) (fits : length (front ++ 10 ∷ log_text e.history) ≤ input_limit) (steps : StepsReplay page greatest_cap e) where
+    (law : IsArena page) (spelled : Each IsInGrammar (log_steps e.history)) (fits : length (front ++ 10 ∷ log_text e.history) ≤ input_limit) (steps : StepsReplay page greatest_cap e) where
   abbrev text : List ℕ
   text = front ++ 10 ∷ log_text e.history
 
   abbrev lines : List (List ℕ)
   lines = map line_text (log_steps e.history)
+
+  low : HasLabels (on_page page greatest_cap)
+  low = record {
+    each = λ l here. (let lt = law.below l here in let next = law.capped in let cap = r.capped in omega (arith, lt, next, cap));
+    capped = omega arith;
+  }
+
+  are : Each IsStepLine (log_steps e.history)
+  are = lines_are 1 (log_steps e.history) (on_page page greatest_cap) steps.result steps.ok low spelled
 
   whole : block_of text ≡ Whole bytes lines
   whole =
@@ -137,6 +147,6 @@ module _ (front bytes : List ℕ) (page : Arena) (e : Editing) (block : block_of
             ∙ ap (transcript_of Done) (text_same t d.trees e.state.trees d.next first steps.document)))));
       }
 
-pub session_text_replays : (page : Arena) (e : Editing) → SessionReplays page e → SessionTextReplays page e
-session_text_replays page e replays front bytes block r s off shallow are fits =
-    text_replays front bytes page e block r are fits (replays greatest_cap r.capped s off shallow)
+pub session_text_replays : (page : Arena) (e : Editing) → IsArena page → SessionReplays page e → SessionTextReplays page e
+session_text_replays page e law replays front bytes block r s off shallow spelled fits =
+    text_replays front bytes page e block r law spelled fits (replays greatest_cap r.capped s off shallow)
