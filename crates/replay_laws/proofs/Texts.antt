@@ -43,11 +43,18 @@ wider_content d c a n (TextNode l t f) s r le (m, label, low, room, some, not, t
     (m, label, (let lt : n < a = omega (arith, low, le) in lt), room, some, not, text, wider_content d c a (suc n) f m r le rest)
 wider_content d c a n (CommentNode l t f) s r le (b, m, label, low, room, opens, text, rest) =
     (b, m, label, (let lt : n < a = omega (arith, low, le) in lt), room, opens, text, wider_content d c a (suc n) f m r le rest)
-wider_content d c a n (ElementNode l w ts k f) s r le (b, e, m, label, low, room, tag, inner, rest) =
-    (b, e, m, label, (let lt : n < a = omega (arith, low, le) in lt), room, tag,
-    match_second (is_void w) (IsNil k × (b ≡ m)) (Content (pred d) c (suc n) k b e × EndTag w e m) (Content (pred d) a (suc n) k b e × EndTag w e m)
-    (λ h. (wider_content (pred d) c a (suc n) k b e le h.0, h.1)) inner,
-    wider_content d c a (suc n + size k) f m r le rest)
+wider_content d c a n (ElementNode l w ts k f) s r le (b, e, m, label, low, room, tag, inner, rest) = (
+  b,
+  e,
+  m,
+  label,
+  (let lt : n < a = omega (arith, low, le) in lt),
+  room,
+  tag,
+  match_second (is_void w) (IsNil k × (b ≡ m)) (Content (pred d) c (suc n) k b e × EndTag w e m) (Content (pred d) a (suc n) k b e × EndTag w e m)
+      (λ h. (wider_content (pred d) c a (suc n) k b e le h.0, h.1)) inner,
+  wider_content d c a (suc n + size k) f m r le rest,
+)
 
 wider_reading : (c : ℕ) (bytes : List ℕ) (children : Siblings) → c ≤ greatest_cap → page_reading depth_limit c bytes ≡ Children children → page_reading depth_limit greatest_cap bytes ≡ Children children
 wider_reading c bytes children le e =
