@@ -1,5 +1,5 @@
 -- Each act of a session keeps what is tracked, where no entry has been dropped.
-use Rattle.std.proofs.Common.{◌≡◌, ℕ, zero, suc, ◌<◌, ◌≤◌, Bool, true, false, true≢false, codes, cond, not, eqb, List, [], ◌∷◌, length, Option, Some, None, refl, sym, ap, subst, ◌∙◌, arith}
+use Rattle.std.proofs.Common.{◌≡◌, ℕ, zero, suc, ◌<◌, ◌≤◌, Bool, true, false, true≢false, codes, cond, not, List, [], ◌∷◌, length, Option, Some, None, refl, sym, ap, subst, ◌∙◌, arith}
 use Rattle.std.specs.Prelude.{nat_le, nat_lt, min, ◌&&◌, if◌then◌else◌}
 use Rattle.std.specs.List.{All}
 use Rattle.std.specs.Map.{remove_entry}
@@ -49,7 +49,7 @@ use Rattle.edit_engine.specs.Going.{goes_on, joins_by}
 use Rattle.edit_engine.specs.Places.{point_in, point_at, pair_of, pair_at, pair_from, selecting, unselecting, marking, unmarking}
 use Rattle.edit_engine.proofs.GoingOn.{joins_on}
 use Rattle.edit_engine.proofs.Seeing.{path_inside, in_document, placed_by}
-use Rattle.edit_session.specs.Replies.{replied, select_reply, is_crowded, mark_reply, exec_reply, undo_reply, redo_reply, act_reply, known_reply, read_reply, line_reply}
+use Rattle.edit_session.specs.Replies.{replied, select_reply, is_crowded, mark_reply, exec_reply, undo_reply, redo_reply, act_reply, read_reply, line_reply}
 use Rattle.replay_laws.specs.Sessions.{after_lines, IsOfSession}
 use Rattle.replay_laws.proofs.Leaving.{run_leaves}
 use Rattle.replay_laws.proofs.Still.{stays_alone}

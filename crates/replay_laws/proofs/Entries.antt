@@ -1,5 +1,5 @@
 -- What is known of an entry of a history, and what a command adds to that.
-use Rattle.std.proofs.Common.{◌≡◌, ◌⊎◌, ℕ, ◌+◌, ◌<◌, ◌≤◌, List, [], ◌∷◌, ◌++◌, Option, Some, None, refl, sym, subst, ◌∙◌, inl, inr, arith}
+use Rattle.std.proofs.Common.{◌≡◌, ℕ, ◌+◌, ◌<◌, ◌≤◌, List, ◌++◌, Some, sym, subst, ◌∙◌, inl, inr, arith}
 use Rattle.dom_model.specs.declared.Content.{Content}
 use Rattle.dom_model.specs.Forest.{Forest, count_of}
 use Rattle.forest_changes.specs.Change.{Change, Remove, Insert, Move, SetText, SetAttributes}
@@ -9,7 +9,7 @@ use Rattle.edit_model.specs.State.{State}
 use Rattle.edit_model.specs.History.{Entry, document_of, view_of, used, entry_of}
 use Rattle.edit_model.specs.Valid.{IsValid, IsView}
 use Rattle.edit_model.proofs.Resting.{view_valid, view_later}
-use Rattle.edit_laws.specs.Kinds.{Kind, Text, Comment, kind_of, SameKinds}
+use Rattle.edit_laws.specs.Kinds.{Text, Comment, kind_of, SameKinds}
 use Rattle.edit_laws.proofs.Resting.{document_again}
 use Rattle.edit_laws.proofs.StayingKinds.{kind_there}
 use Rattle.edit_doc.proofs.MadeApart.{each_used}

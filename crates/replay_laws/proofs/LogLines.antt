@@ -7,7 +7,6 @@ use Rattle.std.specs.Str.Parse.{digits_value}
 use Rattle.std.proofs.lemmas.Fmt.{digits_decimal}
 use Rattle.std.proofs.lemmas.Str.Parse.{IsNumeralModel, numerals_by_value}
 use Rattle.escaped_text.specs.Escaped.{escape_of, escaped, escaped_bytes}
-use Rattle.forest_changes.specs.Named.{Each}
 use Rattle.page_write.specs.Html.{start_tag}
 use Rattle.script_read.proofs.Cutting.{Avoids, Avoids-append, passing_avoids}
 use Rattle.step_text.specs.Applying.{Labelled, fault_of, line_applied, refused_or, replayed_from}

@@ -1,10 +1,9 @@
 -- The log of a session begins with its page, and its steps replay on that.
-use Rattle.std.proofs.Common.{◌≡◌, ℕ, ◌≤◌, false, List, [], ◌∷◌, ◌++◌, reverse, Ok, refl, sym, ap, subst, ◌∙◌, arith}
+use Rattle.std.proofs.Common.{◌≡◌, ℕ, ◌≤◌, List, [], ◌∷◌, ◌++◌, reverse, Ok, refl, sym, ap, subst, ◌∙◌, arith}
 use Rattle.std.proofs.lemmas.List.{reverse-append}
 use Rattle.dom_model.specs.declared.Content.{Content}
 use Rattle.dom_model.specs.ArenaState.{ArenaState as Arena, IsValid as IsArena}
 use Rattle.dom_model.specs.Forest.{Forest}
-use Rattle.forest_changes.specs.Leaves.{IsBelow}
 use Rattle.forest_changes.specs.Named.{Each}
 use Rattle.forest_changes.proofs.ChangeLists.{each_of}
 use Rattle.edit_model.specs.State.{State}
@@ -16,12 +15,12 @@ use Rattle.edit_engine.specs.Editing.{Editing}
 use Rattle.edit_engine.specs.Logs.{log_steps}
 use Rattle.edit_engine.specs.Replaying.{StayShallow, IsPlainEntry, page_before, page_of, WasNext, LogReplays}
 use Rattle.replay_laws.specs.Beginnings.{BeginsWithPage, DrawsNewLabels, IsSpelled, SpellsEntries}
-use Rattle.replay_laws.specs.Steps.{StepsReplay, SessionReplays}
+use Rattle.replay_laws.specs.Steps.{SessionReplays}
 use Rattle.replay_laws.proofs.Acts.{session_tracked}
 use Rattle.replay_laws.proofs.Entries.{IsKnown, each_weaker}
 use Rattle.replay_laws.proofs.Leaving.{IsFrom}
 use Rattle.replay_laws.proofs.Spelling.{each_both, entries_spelled}
-use Rattle.replay_laws.proofs.Tracking.{LedFrom, IsTracked}
+use Rattle.replay_laws.proofs.Tracking.{LedFrom}
 
 -- ---- the page
 

@@ -1,5 +1,5 @@
 -- Entries that lead on, and change the characters of no comment, change those of texts alone.
-use Rattle.std.proofs.Common.{◌≡◌, ◌≢◌, ◌⊎◌, ℕ, ◌+◌, ◌<◌, ◌≤◌, Bool, true, false, true≢false, cond, eqb, List, [], ◌∷◌, ◌++◌, reverse, Option, Some, None, unwrap_or, refl, sym, ap, subst, ◌∙◌, inl, inr, arith}
+use Rattle.std.proofs.Common.{◌≡◌, ◌≢◌, ◌⊎◌, ℕ, ◌+◌, ◌≤◌, Bool, true, false, true≢false, cond, eqb, List, [], ◌∷◌, ◌++◌, reverse, Option, Some, None, unwrap_or, refl, sym, ap, subst, ◌∙◌, inl, inr, arith}
 use Rattle.std.specs.Option.{option_map, option_map_or}
 use Rattle.std.proofs.lemmas.Bool.Decides.{eqb_tells, nat_tests}
 use Rattle.std.proofs.lemmas.List.{reverse-append}
@@ -11,15 +11,15 @@ use Rattle.dom_model.proofs.Kept.{content_of-link, content_of-unlink, content_of
 use Rattle.dom_model.proofs.Links.{total-with_leaf}
 use Rattle.dom_model.proofs.Stands.{seek_absent}
 use Rattle.dom_model.specs.declared.attributes.Attribute.{Attribute}
-use Rattle.undo_log.specs.Turning.{forth, FitsForth}
-use Rattle.forest_changes.specs.Change.{Change, Remove, Insert, Move, SetText, SetAttributes, IsForest, Fits, applied}
+use Rattle.undo_log.specs.Turning.{FitsForth}
+use Rattle.forest_changes.specs.Change.{Change, Remove, Insert, Move, SetText, SetAttributes, Fits, applied}
 use Rattle.forest_changes.specs.Leaves.{IsBelow}
 use Rattle.forest_changes.specs.Named.{Each}
 use Rattle.forest_changes.proofs.BesideLeaf.{fresh}
 use Rattle.forest_changes.proofs.ChangeLists.{each_first, each_rest, each_of}
 use Rattle.forest_changes.proofs.Twice.{IsForest-unlink, given_parent}
 use Rattle.edit_model.specs.History.{Entry}
-use Rattle.edit_laws.specs.Kinds.{Kind, Text, Comment, kind_in, kind_of}
+use Rattle.edit_laws.specs.Kinds.{Text, Comment, kind_in, kind_of}
 use Rattle.edit_laws.proofs.StayingKinds.{kind_of-revised}
 use Rattle.edit_doc.specs.Logged.{content_made, content_in}
 use Rattle.edit_doc.specs.Onward.{with_made, RiseFrom, next_past, at_begin, LeadsOnward, LeadOnward, LeadFrom}

@@ -1,9 +1,8 @@
 -- A run that makes no edit leaves the document.
-use Rattle.std.proofs.Common.{◌≡◌, ℕ, ◌+◌, ◌<◌, Bool, true, false, List, [], ◌∷◌, ◌++◌, length, Option, refl, ap, ◌∙◌, inl, inr, arith, length-append}
+use Rattle.std.proofs.Common.{◌≡◌, ℕ, ◌<◌, Bool, List, [], ◌∷◌, length, Option, refl, ap, ◌∙◌, inl, inr, arith, length-append}
 use Rattle.std.proofs.lemmas.Bool.{cases_Bool}
 use Rattle.dom_model.specs.declared.Content.{Content}
 use Rattle.dom_model.specs.declared.Content.TheVariants.{Element}
-use Rattle.dom_model.specs.Forest.{tree_of}
 use Rattle.forest_changes.specs.Change.{Change}
 use Rattle.forest_changes.proofs.BesideLeaf.{tree_of-with_leaf}
 use Rattle.edit_model.specs.State.{State}

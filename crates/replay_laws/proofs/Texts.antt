@@ -1,26 +1,24 @@
 -- The text of a log after a page block, replayed.
-use Rattle.std.proofs.Common.{◌≡◌, ◌↔◌, ℕ, suc, pred, ◌+◌, ◌<◌, ◌≤◌, Bool, true, false, cond, ◌==◌, map, List, [], ◌∷◌, ◌++◌, length, codes, Option, Some, None, Result, Ok, refl, sym, ap, subst, ◌∙◌, arith, append_assoc}
+use Rattle.std.proofs.Common.{◌≡◌, ℕ, suc, pred, ◌+◌, ◌<◌, ◌≤◌, Bool, true, false, cond, ◌==◌, map, List, [], ◌∷◌, ◌++◌, length, codes, Option, Some, Ok, refl, ap, subst, ◌∙◌, arith, append_assoc}
 use Rattle.std.specs.Prelude.{nat_lt}
 use Rattle.std.specs.Bool.{MatchBool}
 use Rattle.std.specs.Option.{option_map_or}
 use Rattle.std.proofs.lemmas.Bool.Decides.{nat_tests}
-use Rattle.dom_model.specs.declared.Content.{Content as NodeContent}
 use Rattle.dom_model.specs.declared.Content.TheVariants.{Document}
 use Rattle.dom_model.specs.ArenaState.{ArenaState as Arena, IsValid as IsArena}
-use Rattle.dom_model.specs.Forest.{Forest}
-use Rattle.dom_model.specs.Forest.Forest.{Nil as NoTrees, Tree}
+use Rattle.dom_model.specs.Forest.Forest.{Nil as NoTrees}
 use Rattle.forest_changes.specs.Named.{Each}
 use Rattle.page_grammar.specs.Names.{is_void}
-use Rattle.page_grammar.specs.Nodes.{nodes_of, document_of}
+use Rattle.page_grammar.specs.Nodes.{nodes_of}
 use Rattle.page_grammar.specs.Page.{Siblings, Nil, TextNode, CommentNode, ElementNode, Content, EndTag, IsNil, size}
-use Rattle.page_grammar.specs.Reading.{Reading, Children, page_reading}
-use Rattle.step_text.specs.Applying.{Labelled, replayed as steps_replayed, replayed_from}
+use Rattle.page_grammar.specs.Reading.{Children, page_reading}
+use Rattle.step_text.specs.Applying.{Labelled, replayed_from}
 use Rattle.step_text.specs.StepLine.{IsStepLine, line_text}
 use Rattle.edit_engine.specs.Editing.{Editing}
 use Rattle.edit_engine.specs.Logs.{log_steps, log_text}
-use Rattle.edit_session.specs.Block.{Block, Whole, before_line, lines_of, block_in, block_of}
-use Rattle.edit_session.specs.Replay.{none_yet, replayed, lines_replayed, replay}
-use Rattle.edit_session.specs.Transcript.{Transcript, input_limit, depth_limit, transcript_of, page_document, replayed_text, replay_ended, replayed_on, replay_block, order_transcript, transcript}
+use Rattle.edit_session.specs.Block.{Whole, before_line, lines_of, block_in, block_of}
+use Rattle.edit_session.specs.Replay.{none_yet, replayed, replay}
+use Rattle.edit_session.specs.Transcript.{input_limit, depth_limit, transcript_of, page_document, replay_ended, replayed_on, replay_block, order_transcript}
 use Rattle.edit_session.specs.Words.{Order, Replay, order_of, greatest_cap}
 use Rattle.edit_session.specs.declared.session.Status.TheVariants.{Done, Usage}
 use Rattle.edit_session.proofs.Grammars.{rests}

@@ -1,6 +1,6 @@
 -- What is tracked of an editor along the acts of a session: how its entries lead from the document of the page.
-use Rattle.std.proofs.Common.{◌≡◌, ℕ, suc, ◌+◌, ◌<◌, ◌≤◌, Bool, true, false, true≢false, cond, eqb, List, [], ◌∷◌, ◌++◌, length, take, Option, None, refl, sym, ap, subst, ◌∙◌, arith}
-use Rattle.std.specs.Prelude.{◌||◌, nat_le, nat_lt}
+use Rattle.std.proofs.Common.{◌≡◌, ℕ, suc, ◌<◌, ◌≤◌, Bool, true, false, true≢false, cond, eqb, List, [], ◌∷◌, length, take, refl, sym, ap, subst, ◌∙◌, arith}
+use Rattle.std.specs.Prelude.{◌||◌, nat_le}
 use Rattle.std.proofs.lemmas.Bool.Decides.{nat_tests}
 use Rattle.std.proofs.lemmas.List.{take_all}
 use Rattle.html_names.specs.declared.commands.Command.{Command}
@@ -15,10 +15,9 @@ use Rattle.edit_model.proofs.Resting.{valid_rested, valid_at_view}
 use Rattle.edit_laws.proofs.Resting.{document_again}
 use Rattle.edit_engine.specs.Editing.{Editing, IsJoinable, stopped_at, undone, redone, going_past}
 use Rattle.edit_engine.specs.Execution.{after_run}
-use Rattle.edit_engine.specs.Going.{goes_on, going_after}
-use Rattle.edit_engine.specs.declared.going.Going.TheVariants.{Over}
+use Rattle.edit_engine.specs.Going.{goes_on}
 use Rattle.edit_engine.proofs.GoingOn.{recorded_joinable}
-use Rattle.replay_laws.proofs.Entries.{IsKnown, known_later, entry_known, longer, longer_known}
+use Rattle.replay_laws.proofs.Entries.{IsKnown, known_later, entry_known, longer_known}
 use Rattle.replay_laws.proofs.Leaving.{Leaves}
 
 -- the entries, the last one first, lead from the document of the page to this one
