@@ -1,0 +1,11 @@
+pub mod Leaving
+pub mod Still
+pub mod Entries
+pub mod Tracking
+pub mod Acts
+pub mod Spelling
+pub mod Replaying
+pub mod LogLines
+pub mod Firsts
+pub mod Labels
+pub mod Texts

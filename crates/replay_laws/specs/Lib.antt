@@ -1,0 +1,5 @@
+pub mod Sessions
+pub mod Beginnings
+pub mod Steps
+pub mod Lines
+pub mod Texts
