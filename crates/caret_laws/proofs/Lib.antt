@@ -1,0 +1,4 @@
+pub mod Openness
+pub mod Trees
+pub mod Carrying
+pub mod SingleTails

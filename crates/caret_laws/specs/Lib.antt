@@ -1,0 +1,2 @@
+pub mod SingleEdits
+pub mod TailLaws

@@ -1,0 +1,7 @@
+//! What commands at a caret make of a document, and that an algorithm which is one action here is
+//! the single edits of the standard. Each law is the contract of a function that does nothing.
+#![tactic(auto)]
+
+mod tails;
+
+pub use tails::{tails_are_single_edits, tails_of_nothing};
