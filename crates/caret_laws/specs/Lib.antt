@@ -1,2 +1,3 @@
 pub mod SingleEdits
+pub mod TailRun
 pub mod TailLaws

@@ -4,4 +4,4 @@
 
 mod tails;
 
-pub use tails::{tails_are_single_edits, tails_of_nothing};
+pub use tails::{tails_are_runs, tails_are_single_edits, tails_of_nothing};

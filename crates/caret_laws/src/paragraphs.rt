@@ -1,9 +1,0 @@
-//! Inserting a paragraph, where it extracts a tail.
-
-ghost use Rattle.caret_laws.specs.ParagraphLaws.{ParagraphsExtractSingly};
-
-/// Inserting a paragraph ends in the state in which it would end with the tail extracted by the
-/// single edits of the standard, wherever a command comes to it: trees, points, edits and all.
-pub fn paragraphs_extract_singly()
-    ensures { ParagraphsExtractSingly }
-{}
