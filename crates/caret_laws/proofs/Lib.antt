@@ -1,7 +1,13 @@
 pub mod Openness
+pub mod NewWraps
+pub mod NoStates
 pub mod Trees
 pub mod Carrying
 pub mod SingleTails
 pub mod RunTails
 pub mod InsideRuns
 pub mod StillRuns
+pub mod StillWraps
+pub mod SplitTexts
+pub mod ParagraphCalls
+pub mod ParagraphRuns

@@ -1,3 +1,5 @@
 pub mod SingleEdits
 pub mod TailRun
 pub mod TailLaws
+pub mod SingleParagraph
+pub mod ParagraphLaws

@@ -2,6 +2,8 @@
 //! the single edits of the standard. Each law is the contract of a function that does nothing.
 #![tactic(auto)]
 
+mod paragraphs;
 mod tails;
 
+pub use paragraphs::parts_extract_singly;
 pub use tails::{tails_are_runs, tails_are_single_edits, tails_of_nothing};
