@@ -18,7 +18,7 @@ use Rattle.edit_model.specs.Valid.{IsValid}
 use Rattle.edit_model.proofs.CommandParts.{SameCommand}
 use Rattle.edit_model.proofs.Tests.{inserts}
 use Rattle.edit_model.proofs.ValidParts.{valid_applied}
-use Rattle.caret_laws.proofs.Openness.{host_same}
+use Rattle.command_laws.proofs.Openness.{host_same}
 use Rattle.caret_laws.specs.SingleEdits.{taken_out, brought, brought_all}
 use Rattle.caret_laws.specs.TailRun.{Leave}
 use Rattle.caret_laws.proofs.Trees.{parent-link_other, parent-unlink_other, made_open}

@@ -1,6 +1,3 @@
-pub mod Openness
-pub mod NewWraps
-pub mod NoStates
 pub mod Trees
 pub mod Carrying
 pub mod SingleTails
@@ -11,3 +8,4 @@ pub mod StillWraps
 pub mod SplitTexts
 pub mod ParagraphCalls
 pub mod ParagraphRuns
+pub mod WholeParagraphs

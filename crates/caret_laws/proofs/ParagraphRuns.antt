@@ -31,8 +31,8 @@ use Rattle.edit_model.proofs.Steps.{final-bind, value-bind, final-look, value-lo
 use Rattle.edit_model.proofs.Tests.{label_is, parent_there}
 use Rattle.edit_model.proofs.Trees.{within_trans}
 use Rattle.edit_model.proofs.ValidRuns.{final_valid}
-use Rattle.caret_laws.proofs.NewWraps.{new_wrap}
-use Rattle.caret_laws.proofs.NoStates.{editable_unstated, unstated_without_id}
+use Rattle.command_laws.proofs.NewWraps.{new_wrap}
+use Rattle.command_laws.proofs.NoStates.{editable_unstated, unstated_without_id}
 use Rattle.wrap_split.specs.declared.rule.Criterion.TheVariants.{Never}
 use Rattle.wrap_split.specs.declared.rule.Recipe.TheVariants.{Make}
 use Rattle.wrap_split.specs.Wrap.{wrap}

@@ -40,7 +40,7 @@ use Rattle.edit_model.proofs.Hollow.{editable_below}
 use Rattle.edit_model.proofs.Trees.{none_or_some, within_trans, tree_of-with_leaf_other}
 use Rattle.edit_model.proofs.ValidParts.{valid_applied, valid_copied, valid_steps}
 use Rattle.edit_laws.proofs.Hosts.{host_from-join}
-use Rattle.caret_laws.proofs.Openness.{host_same}
+use Rattle.command_laws.proofs.Openness.{host_same}
 use Rattle.caret_laws.specs.SingleEdits.{may_be_taken, brought_all, later_brought, tail_brought, extracted_singly}
 use Rattle.caret_laws.specs.TailRun.{GoesAlone, Leave}
 use Rattle.caret_laws.proofs.Carrying.{Passes, Carries, carried_singly, insert_made, host_inserted, content_inserted, open_by, command_applied}

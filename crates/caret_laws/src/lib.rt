@@ -5,5 +5,5 @@
 mod paragraphs;
 mod tails;
 
-pub use paragraphs::parts_extract_singly;
+pub use paragraphs::{paragraphs_extract_singly, parts_extract_singly};
 pub use tails::{tails_are_runs, tails_are_single_edits, tails_of_nothing};
