@@ -1,5 +1,6 @@
--- Extracting the tail of a node as the standard has it: edits one by one, each with a test of its own and left out by itself where
--- the test fails. Each step looks at the trees as they are then. The steps are those of docs/ALGORITHMS.md.
+-- Extracting the tail of a node as the standard has it: edits one by one, each with a test of its
+-- own and left out by itself where the test fails. Each step looks at the trees as they are then.
+-- The steps are those of docs/ALGORITHMS.md.
 use Rattle.std.specs.Prelude.{ℕ, zero, suc, Bool, false, ◌||◌, ◌&&◌, not, List, [], ◌∷◌, drop, Option, Some, None, if◌then◌else◌, ◌==◌}
 use Rattle.std.specs.Option.{option_map_or}
 use Rattle.dom_model.specs.Forest.{parent_of, children_of, tree_of}
@@ -12,8 +13,8 @@ use Rattle.edit_model.specs.Edit.{Insert, Remove, edited}
 use Rattle.edit_model.specs.Action.{made, applied}
 use Rattle.edit_model.specs.Tail.{later, copy_of, document_size}
 
--- A node leaves its parent, which is open. Here alone it need not be editable: it's inserted again. A keeping command takes out
--- nothing that is kept.
+-- A node leaves its parent, which is open. Here alone it need not be editable: it's inserted again.
+-- A keeping command takes out nothing that is kept.
 abbrev pub may_leave_for : State → ℕ → Option ℕ → Bool
 may_leave_for s n None = false
 may_leave_for s n (Some o) =
@@ -40,9 +41,10 @@ module _ (test : State → ℕ → Bool) where
   unfoldable pub later_brought : ℕ → ℕ → ℕ → State → State
   later_brought c d k s = brought_all d (later (children_of s.trees c) k) s
 
-  -- Extract the tail, steps 1 and 2: what stands in c from a point on goes to the end of d. The copy of the child k, in which the
-  -- point stands, gets what stands in k from the point on, becomes the last child of d, and then comes each child of c after k. It
-  -- ends where the point stands neither in c nor below it.
+  -- Extract the tail, steps 1 and 2: what stands in c from a point on goes to the end of d. The
+  -- copy of the child k, in which the point stands, gets what stands in k from the point on,
+  -- becomes the last child of d, and then comes each child of c after k. It ends where the point
+  -- stands neither in c nor below it.
   unfoldable pub tail_brought : ℕ → Point → ℕ → ℕ → State → State
   tail_brought zero from c d s = s
   tail_brought (suc fuel) from c d s =

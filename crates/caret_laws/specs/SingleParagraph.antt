@@ -1,5 +1,5 @@
--- insertParagraph with the tail extracted by single edits, from step 8 on where its run extracts it by one action; all else is that
--- run. Each function gives the state in which the run with single edits ends.
+-- insertParagraph with the tail extracted by single edits, where its run has one action (step 8);
+-- all else is that run. Each function gives the state in which it ends then.
 use Rattle.std.specs.Prelude.{ℕ, true, false, Option, if◌then◌else◌}
 use Rattle.std.specs.Option.{option_map_or}
 use Rattle.live_range.specs.declared.places.Point.{Point}

@@ -22,8 +22,8 @@ TailsOfNothing =
     → is_within s.trees end from.label ≡ false
     → (extracted from end target s ≡ s) × (extracted_singly from end target s ≡ s)
 
--- and a run of edits with the tests that they have everywhere ends there too, where no island goes along, nor another node that may
--- not be removed by itself
+-- and a run of edits with the tests that they have everywhere ends there too, where no island goes
+-- along, nor another node that may not be removed by itself
 abbrev pub TailsAreRuns : Type 0
 TailsAreRuns =
     (s : State) (from : Point) (end target : ℕ) → IsValid s → may_extract s from end target ≡ true

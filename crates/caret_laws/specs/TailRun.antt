@@ -1,5 +1,6 @@
--- Extracting the tail of a node as a run of edits, each with the test that it has everywhere: so what is taken out has to be
--- editable, made by the command or a br. The steps are those of docs/ALGORITHMS.md.
+-- Extracting the tail of a node as a run of edits, each with the test that it has everywhere: so
+-- what is taken out has to be editable, made by the command or a br. The steps are those of
+-- docs/ALGORITHMS.md.
 use Rattle.std.specs.Prelude.{◌≡◌, ℕ, zero, suc, true, ◌||◌, List, [], ◌∷◌, drop, None, if◌then◌else◌, ◌==◌, codes, unwrap_or}
 use Rattle.dom_model.specs.AttributeList.{unset_in}
 use Rattle.dom_model.specs.Contents.{name_of, attributes_of, is_break}
