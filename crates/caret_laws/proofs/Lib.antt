@@ -9,3 +9,5 @@ pub mod SplitTexts
 pub mod ParagraphCalls
 pub mod ParagraphRuns
 pub mod WholeParagraphs
+pub mod BlindRuns
+pub mod LineBreaks

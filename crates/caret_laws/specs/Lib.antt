@@ -3,3 +3,4 @@ pub mod TailRun
 pub mod TailLaws
 pub mod SingleParagraph
 pub mod ParagraphLaws
+pub mod LineBreakLaws
