@@ -252,10 +252,13 @@ module _ (s : State) (is : IsValid s) (p : Point) (caret : s.points.selection �
   content_v = content_of-with_leaf_other s.trees s.next Br p.label (fresh s.trees s.next is.forest) off_p
 
   has_v : HasIn s.next (Tree s.next Br Nil Nil) alone (made Br s).trees
-  has_v = (br_tree s is, (
-      let own : eqb s.next s.next ≡ true = eq-eqb s.next s.next refl in
-      let one : 0 < count_of (Tree s.next Br Nil Nil) s.next = rw own (omega arith) in
-      omega (arith, one, ap (λ g. count_of g s.next) (br_tree s is), total-without (λ m _. cond (eqb m s.next) 1 0) (made Br s).trees s.next)))
+  has_v = (
+    br_tree s is,
+    (
+        let own : eqb s.next s.next ≡ true = eq-eqb s.next s.next refl in
+        let one : 0 < count_of (Tree s.next Br Nil Nil) s.next = rw own (omega arith) in
+        omega (arith, one, ap (λ g. count_of g s.next) (br_tree s is), total-without (λ m _. cond (eqb m s.next) 1 0) (made Br s).trees s.next)),
+  )
 
   inside_parts : is_inside s p.label ≡ true → (is_label s.host p.label || is_editable_for s p.label) ≡ true
   unfolding is_inside

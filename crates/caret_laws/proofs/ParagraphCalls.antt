@@ -25,7 +25,7 @@ use Rattle.edit_model.specs.Action as action
 use Rattle.edit_model.specs.Action.{made, acted, may_extract}
 use Rattle.edit_model.specs.Laws.{LeavesStates}
 use Rattle.edit_model.specs.Moves.{insert_after}
-use Rattle.edit_model.specs.Run.{here, onward, final}
+use Rattle.edit_model.specs.Run.{onward, final}
 use Rattle.edit_model.specs.Valid.{IsForest, IsValid}
 use Rattle.edit_model.proofs.Documents.{within-link, within-with_leaf, within_above, has_children}
 use Rattle.edit_model.proofs.Forests.{fresh}

@@ -1,6 +1,6 @@
 -- Runs that select nothing, by their parts: points move by edits alone, to where an edit sends them. So where the points of the
 -- selection stand at nodes that are inside, they do so after such a run.
-use Rattle.std.proofs.Common.{◌≡◌, ◌≢◌, ℕ, ◌+◌, Bool, true, false, ◌&&◌, if◌then◌else◌, eqb, List, length, Option, Some, None, IfSome, refl, sym, ap, subst, ◌∙◌, inl, inr, true≢false}
+use Rattle.std.proofs.Common.{◌≡◌, ℕ, ◌+◌, Bool, true, false, ◌&&◌, if◌then◌else◌, eqb, List, length, Option, Some, None, IfSome, refl, sym, ap, subst, ◌∙◌, inl, inr, true≢false}
 use Rattle.std.specs.Option.{option_map, option_map_or}
 use Rattle.std.proofs.lemmas.Bool.{cases_Bool}
 use Rattle.dom_model.specs.declared.Content.{Content}
