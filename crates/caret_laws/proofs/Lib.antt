@@ -1,0 +1,13 @@
+pub mod Trees
+pub mod Carrying
+pub mod SingleTails
+pub mod RunTails
+pub mod InsideRuns
+pub mod StillRuns
+pub mod StillWraps
+pub mod SplitTexts
+pub mod ParagraphCalls
+pub mod ParagraphRuns
+pub mod WholeParagraphs
+pub mod BlindRuns
+pub mod LineBreaks

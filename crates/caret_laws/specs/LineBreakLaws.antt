@@ -1,0 +1,19 @@
+-- The law that inserting a line break keeps what the document bears, once what is selected is erased.
+use Rattle.std.specs.Prelude.{◌≡◌, ℕ, true, Some}
+use Rattle.dom_model.specs.Editing.{is_host}
+use Rattle.live_range.specs.declared.places.Point.{Point}
+use Rattle.edit_model.specs.State.{State}
+use Rattle.edit_model.specs.Run.{final}
+use Rattle.edit_model.specs.Valid.{IsValid}
+use Rattle.edit_laws.specs.Order.{KeepsOrder}
+use Rattle.insert_objects.specs.LineBreak.{break_line}
+use Rattle.insert_objects.specs.Putting.{from_start_inside}
+
+-- From a caret on, after the first step: each image, each rule and each character other than tab, LF, CR
+-- and space stays, in order, and no other comes.
+abbrev pub LineBreaksKeep : Type 0
+LineBreaksKeep =
+    (s : State) (p : Point) → IsValid s
+    → s.points.selection ≡ Some (record { anchor = p; focus = p })
+    → ((h : ℕ) → s.host ≡ Some h → is_host s.trees h ≡ true)
+    → KeepsOrder s (final (from_start_inside break_line) s)
