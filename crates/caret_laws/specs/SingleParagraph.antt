@@ -1,6 +1,6 @@
 -- insertParagraph with the tail extracted by single edits, where its run has one action (step 8);
 -- all else is that run. Each function gives the state in which it ends then.
-use Rattle.std.specs.Prelude.{ℕ, true, false, Option, if◌then◌else◌}
+use Rattle.std.specs.Prelude.{ℕ, Option, if◌then◌else◌}
 use Rattle.std.specs.Option.{option_map_or}
 use Rattle.live_range.specs.declared.places.Point.{Point}
 use Rattle.edit_model.specs.State.{State}
