@@ -1,8 +1,8 @@
 #!/usr/bin/env python3
-"""Which wrong bodies the contracts of crates let through, compared with docs/claims/open.md: bench/plants.py [--minutes N] [CRATE ..]
+"""Which wrong bodies the contracts of crates let through, compared with docs/OPEN.md: bench/plants.py [--minutes N] [CRATE ..]
 
-Without names it tries every crate that open.md has a table of. In each crate it runs `rt plant`, which puts wrong bodies in place of
-public functions and prints those that their contracts don't refuse. Each has to have its row in open.md, with the reason why it may
+Without names it tries every crate that OPEN.md has a table of. In each crate it runs `rt plant`, which puts wrong bodies in place of
+public functions and prints those that their contracts don't refuse. Each has to have its row in OPEN.md, with the reason why it may
 stay. The status is 1 where one has no row, or where a row's body is refused by now. `rt plant` proves the crate first, so this takes as
 long as the crate's proof, and a few seconds for each function.
 """
@@ -13,17 +13,19 @@ import sys
 from pathlib import Path
 
 ROOT = Path(__file__).resolve().parent.parent
-LIST = ROOT / "docs" / "claims" / "open.md"
+LIST = ROOT / "docs" / "OPEN.md"
 SURVIVOR = re.compile(r"(proves|no-ensures|untested)\s+(src/\S+):\d+ (.*)")
 REASON = re.compile(r"  \((?:and in \d+ more impls|[^(){}]*)\)$")
 
 
 def read_list():
-    """The rows of open.md: by crate, the calls with the bodies that they may have."""
+    """The rows of OPEN.md: by crate, the calls with the bodies that they may have."""
     rows, crate = {}, None
     for line in LIST.read_text(encoding="utf-8").splitlines():
         if line.startswith("## "):
-            crate = line[3:].strip("` ")
+            crate = None
+        elif line.startswith("### "):
+            crate = line[4:]
             rows[crate] = set()
         elif crate and line.startswith("| `"):
             cells = [cell.strip().strip("`").replace("\\|", "|") for cell in re.split(r"(?<!\\)\|", line)[1:-1]]
@@ -54,9 +56,9 @@ def main():
     for crate in given.crates or rows:
         found, known = survivors(crate, given.minutes), rows.get(crate, set())
         for call, body in sorted(found - known):
-            print(f"{crate}: {call} may have another body, and open.md doesn't say why: {body}")
+            print(f"{crate}: {call} may have another body, and OPEN.md doesn't say why: {body}")
         for call, body in sorted(known - found):
-            print(f"{crate}: {call} has a row in open.md for a body that is refused, or is gone: {body}")
+            print(f"{crate}: {call} has a row in OPEN.md for a body that is refused, or is gone: {body}")
         wrong += len(found ^ known)
     print(f"{wrong} bodies without a row, and rows without a body")
     return bool(wrong)
