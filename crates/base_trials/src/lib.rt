@@ -5,9 +5,9 @@
 //! A module a library or two: `values` for `css_value`, `names` for `html_names`, `style_table` and
 //! `command_gate`, `texts` for `escaped_text` and `dom_model`, `streams` for `edit_io`, `points`
 //! for `live_range`, `logs` for `undo_log` and `step_count`, `arenas` for `node_arena` and
-//! `point_order`, `styles` for `node_styles`, `steps` for `edit_steps`, `parts` for `edit_parts`,
-//! `edits` for `document_edits`, `pages` for `page_read` and `page_write`, `extracts` for
-//! `node_texts`, `acts` for `script_read`, `lines` and `applying` for `step_text`, `faults` for
+//! `point_order`, `styles` for `node_styles`, `steps` and `splices` for `edit_steps`, `parts` for
+//! `edit_parts`, `edits` for `document_edits`, `pages` for `page_read` and `page_write`, `extracts`
+//! for `node_texts`, `acts` for `script_read`, `lines` and `applying` for `step_text`, `faults` for
 //! what the faults of all of them print. `trees` makes the nodes, and `rows` names the row of a
 //! table that is not met.
 //!

@@ -11,6 +11,7 @@ mod pages;
 mod parts;
 mod points;
 mod rows;
+mod splices;
 mod steps;
 mod streams;
 mod styles;

@@ -38,6 +38,6 @@ impl Value<'_> {
             Value::Pixels(px) => print_font_size(alloc, px),
             Value::Shade(colour) => colour.print(alloc),
         };
-        Ok(Some(Chars::from_vec(text?)))
+        Ok(Some(Chars::from_vec(text?)?))
     }
 }

@@ -18,7 +18,7 @@ use Rattle.dom_model.proofs.Walks.{document_first}
 use Rattle.dom_model.proofs.Within.{within_root}
 use Rattle.undo_log.specs.Turning.{forth, FitsForth}
 use Rattle.point_order.specs.PointOrder.{is_in_document}
-use Rattle.forest_changes.specs.Change.{IsForest, Fits, applied}
+use Rattle.forest_changes.specs.Change.{IsForest, Fits, spliced_at, applied}
 use Rattle.forest_changes.proofs.Contents.{chars_there}
 use Rattle.forest_changes.proofs.Twice.{given_parent}
 use Rattle.document_edits.specs.declared.edit.DocumentEdit.{DocumentEdit}
@@ -151,6 +151,12 @@ at_document (change.SetText n words) c ks rest h =
     let there = chars_there f n h.forest.distinct h.forest.nodes h.here.0 in
     told_text_follows (is_in_document f n) d n (unwrap_or (chars_of f n) words) words (none_of (count_of d n))
     (λ s st. ap (λ o. option_and_then chars_in (option_map (λ (x : Seen Content). x.content) o)) (sym (seek-document c ks rest n s h.forest.distinct st)) ∙ rw there.1 refl)
+at_document (change.Splice n at gone taken put) c ks rest h =
+    let d = Tree 0 c ks Nil in
+    let f = Tree 0 c ks rest in
+    let words = spliced_at f n at (length taken) put in
+    told_text_follows (is_in_document f n) d n (unwrap_or (chars_of f n) []) words (none_of (count_of d n))
+    (λ s st. ap (λ o. option_and_then chars_in (option_map (λ (x : Seen Content). x.content) o)) (sym (seek-document c ks rest n s h.forest.distinct st)) ∙ rw h.here.chars refl)
 at_document (change.SetAttributes n list) c ks rest h =
     let d = Tree 0 c ks Nil in
     told_where (is_in_document (Tree 0 c ks rest) n) (SetAttributes n list) d (revised d n (with_attributes list))

@@ -6,3 +6,4 @@ pub mod Splicing
 pub mod Following
 pub mod Sharing
 pub mod Undoing
+pub mod Wholes

@@ -25,6 +25,7 @@ module _ (k : ℕ → Bool) where
   told-pruned (change.Insert n p b) f prunes h hs = rw (document-pruned f prunes h.forest, tree_of-pruned k f n h.forest.distinct hs.0) refl
   told-pruned (change.Move n p b) f prunes h hs = rw (document-pruned f prunes h.forest, tree_of-pruned k f n h.forest.distinct hs.0) refl
   told-pruned (change.SetText n words) f prunes h hs = rw (document-pruned f prunes h.forest, content_of-pruned k f n h.forest hs.0) refl
+  told-pruned (change.Splice n at rest taken put) f prunes h hs = rw (document-pruned f prunes h.forest, content_of-pruned k f n h.forest hs.0) refl
   told-pruned (change.SetAttributes n list) f prunes h hs = rw (document-pruned f prunes h.forest) refl
 
   pub told_all-pruned : (xs : List Change) (f : Forest Content) → Prunes k f → FitsForth applied Fits xs f → Each (IsLeft k f) (named_in xs) → told_all xs (pruned k f) ≡ told_all xs f

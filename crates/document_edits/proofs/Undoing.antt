@@ -19,7 +19,7 @@ use Rattle.document_edits.proofs.Pruned.{told_all-pruned}
 -- ---- steps from the last of a list to the first are those of the list the other way round
 
 module _ {T S : Type 0} (act : T → S → S) where
-  forth-reverse : (xs : List T) (s : S) → forth act (reverse xs) s ≡ back act xs s
+  pub forth-reverse : (xs : List T) (s : S) → forth act (reverse xs) s ≡ back act xs s
   unfolding back forth
   forth-reverse [] s = refl
   forth-reverse (x ∷ xs) s =
@@ -31,7 +31,7 @@ module _ {T S : Type 0} (act : T → S → S) where
     FitsForth-append [] x s h last = (last, tt)
     FitsForth-append (y ∷ xs) x s h last = (h.0, FitsForth-append xs x (act y s) h.1 last)
 
-    FitsForth-reverse : (xs : List T) (s : S) → FitsBack act fits xs s → FitsForth act fits (reverse xs) s
+    pub FitsForth-reverse : (xs : List T) (s : S) → FitsBack act fits xs s → FitsForth act fits (reverse xs) s
     unfolding back forth FitsBack FitsForth
     FitsForth-reverse [] s h = tt
     FitsForth-reverse (x ∷ xs) s h =

@@ -1,6 +1,6 @@
 -- How a change of the forest is told to one who keeps the document alone: as an edit of the
 -- document, or not at all.
-use Rattle.std.specs.Prelude.{ℕ, Bool, List, [], ◌∷◌, ◌++◌, reverse, Option, unwrap_or, if◌then◌else◌}
+use Rattle.std.specs.Prelude.{ℕ, Bool, List, [], ◌∷◌, ◌++◌, length, reverse, Option, unwrap_or, if◌then◌else◌}
 use Rattle.dom_model.specs.declared.Content.{Content}
 use Rattle.dom_model.specs.Change.{Change, listed}
 use Rattle.dom_model.specs.Change as change
@@ -8,7 +8,7 @@ use Rattle.dom_model.specs.Contents.{chars_of}
 use Rattle.dom_model.specs.Forest.{Forest, tree_of}
 use Rattle.point_order.specs.PointOrder.{is_in_document}
 use Rattle.undo_log.specs.Turning.{forth, inverses_forth}
-use Rattle.forest_changes.specs.Change.{applied, inverse}
+use Rattle.forest_changes.specs.Change.{applied, inverse, spliced_at}
 use Rattle.document_edits.specs.declared.edit.DocumentEdit.{DocumentEdit}
 use Rattle.document_edits.specs.declared.edit.DocumentEdit.TheVariants.{Remove, Insert, Move, SetAttributes}
 use Rattle.document_edits.specs.Flat.{flat}
@@ -32,6 +32,9 @@ told (change.Insert n p b) f = if is_in_document f p then told_tree f n p b ∷ 
 told (change.Move n p b) f = told_move (is_in_document f n) (is_in_document f p) f n p b
 told (change.SetText n words) f =
     if is_in_document f n then listed (replaced n (unwrap_or (chars_of f n) words) words) else []
+told (change.Splice n at rest taken put) f =
+    if is_in_document f n then listed (replaced n (unwrap_or (chars_of f n) [])
+    (spliced_at f n at (length taken) put)) else []
 told (change.SetAttributes n list) f =
     if is_in_document f n then SetAttributes n list ∷ [] else []
 

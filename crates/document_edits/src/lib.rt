@@ -9,7 +9,7 @@ ghost use Rattle.dom_model.specs.declared.Content.{Content};
 ghost use Rattle.dom_model.specs.Forest.{Forest, tree_of};
 ghost use Rattle.dom_model.specs.Pruned.{pruned};
 ghost use Rattle.undo_log.specs.Turning.{forth, FitsForth};
-ghost use Rattle.forest_changes.specs.Change.{Change, Fits, applied};
+ghost use Rattle.forest_changes.specs.Change.{Change, Fits, applied, whole, wholes};
 ghost use Rattle.forest_changes.specs.Named.{named, named_in, Each};
 ghost use Rattle.forest_changes.specs.Down.{Prunes, IsLeft};
 ghost use Rattle.document_edits.specs.Flat.{flat, grown};
@@ -44,6 +44,16 @@ pub fn edits_go_down()
     ensures back { (k : ℕ → Bool) (xs : List Change) (f : Forest Content) → Prunes k f
         → FitsForth applied Fits xs f → Each (IsLeft k f) (named_in xs)
         → told_back xs (pruned k f) ≡ told_back xs f }
+{}
+
+/// Changes with the whole contents afterwards are told as the same edits, and so is what takes them
+/// back.
+pub fn wholes_are_told_alike()
+    ensures change { (x : Change) (f : Forest Content) → Fits x f → told (whole x f) f ≡ told x f }
+    ensures changes { (xs : List Change) (f : Forest Content) → FitsForth applied Fits xs f
+        → told_all (wholes xs f) f ≡ told_all xs f }
+    ensures back { (xs : List Change) (f : Forest Content) → FitsForth applied Fits xs f
+        → told_back (wholes xs f) f ≡ told_back xs f }
 {}
 
 /// Changes after others are told as edits after theirs.

@@ -22,3 +22,5 @@ pub mod Kept
 pub mod Pruning
 pub mod NodesKept
 pub mod Heights
+pub mod Splicing
+pub mod Rooms

@@ -14,3 +14,4 @@ pub mod Pruned
 pub mod Change
 pub mod ChangeCode
 pub mod Subsequence
+pub mod Room

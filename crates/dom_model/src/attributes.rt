@@ -7,7 +7,8 @@ ghost use Rattle.std.specs.Map.{keys_of, values_of};
 ghost use Rattle.dom_model.specs.AttributeList.{value_of, set_in, unset_in, names_of, IsDistinctNames};
 ghost use Rattle.dom_model.specs.AttributeMap.{is_named, IsNumbered, IsKnown, IsAbove};
 
-use crate::items::{Chars, Name};
+use crate::chars::Chars;
+use crate::items::Name;
 use indexmap::IndexMap;
 use std::alloc::{AllocError, AllocFailed, Global};
 use std::collections::BTreeMap;

@@ -1,7 +1,6 @@
 //! Lists of characters, of bytes, and of other items that are copied.
 
 ghost use Rattle.std.specs.Prelude.{◌≡◌, IfOk, length};
-ghost use Rattle.std.specs.Str.{chars};
 
 use std::alloc::{AllocError, Global};
 use std::marker::{Copy, Model};
@@ -11,9 +10,6 @@ use std::marker::{Copy, Model};
 pub struct Items<T> {
     items: Vec<T>,
 }
-
-/// A list of characters: the data of a text or a comment, or the value of an attribute.
-pub type Chars = Items<char>;
 
 /// A list of bytes: the name of an element or an attribute.
 pub type Name = Items<u8>;
@@ -66,18 +62,6 @@ impl<T: Copy> Items<T> {
     {
         Ok(Items {
             items: Vec::from_slice(alloc, items)?,
-        })
-    }
-}
-
-impl Items<char> {
-    /// The characters of a text.
-    #[tactic(auto, using(std::proofs::lemmas::Str::chars_from_encodes))]
-    pub fn from_text(alloc: Global, text: &str) -> Result<Chars, AllocError>
-        ensures { IfOk result (λ collected. collected ≡ chars text.now) }
-    {
-        Ok(Items {
-            items: text.chars().collect(alloc)?,
         })
     }
 }

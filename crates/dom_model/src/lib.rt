@@ -6,10 +6,12 @@
 #![tactic(auto)]
 
 mod attributes;
+mod chars;
 mod items;
 
 pub use attributes::{Attribute, Attributes};
-pub use items::{Chars, Items, Name};
+pub use chars::{Chars, room};
+pub use items::{Items, Name};
 
 /// What a node is, without its place in the tree.
 #[derive(Drop)]

@@ -46,6 +46,7 @@ pub mod Inserting
 pub mod Moving
 pub mod Settling
 pub mod Lessened
+pub mod ShortTexts
 pub mod Replaced
 pub mod Removed
 pub mod Roomier
@@ -67,4 +68,5 @@ pub mod Onwards
 pub mod MadeApart
 pub mod Leading
 pub mod Telling
+pub mod LoggedEdits
 pub mod ToldSince

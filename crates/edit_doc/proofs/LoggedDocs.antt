@@ -10,9 +10,11 @@ use Rattle.live_range.specs.LivePoints.{LivePoints}
 use Rattle.forest_changes.specs.Change.{Change}
 use Rattle.edit_model.specs.declared.settings.Flags.{Flags}
 use Rattle.edit_model.specs.declared.settings.Setting.{Setting}
-use Rattle.edit_model.specs.History.{Entry, document_of, at_view, undone_state, undone_state_by, undone_history, undone_history_by, redone_state, redone_state_by, redone_history, redone_history_by}
+use Rattle.edit_model.specs.History.{Entry, History, document_of, at_view, undone_state, undone_state_by, undone_history, undone_history_by, redone_state, redone_state_by, redone_history, redone_history_by}
 use Rattle.edit_doc.specs.Kept.{LeadAllBack, HoldsOnlyNeeded}
-use Rattle.edit_doc.specs.Logged.{Logged, logged_entry, HasMoved}
+use Rattle.edit_doc.specs.declared.logged.LoggedEdit.{LoggedEdit}
+use Rattle.edit_doc.specs.declared.logged.MadeNode.{MadeNode}
+use Rattle.edit_doc.specs.Logged.{Logged, logged_entry, first_made, first_logged, HasMoved}
 use Rattle.edit_doc.specs.Whole.{Whole, with_state}
 
 -- ---- lists
@@ -176,9 +178,15 @@ listed_more rs ds i lt d es e more m =
     ∙ (ap (λ xs. map logged_entry (take i rs) ++ map logged_entry (take 1 xs)) (d ∙ o.here)
     ∙ (sym (map-append logged_entry (take i rs) (o.item ∷ [])) ∙ ap (λ xs. map logged_entry xs) (sym o.taken))))
 
-pub first_listed : (rs : List Entry) (x : Logged) → option_map logged_entry (slice_get rs 0) ≡ Some x → map logged_entry (take 1 rs) ≡ x ∷ []
-first_listed [] x e = absurd (let t : None ≡ Some x = e in cc)
-first_listed (r ∷ rs) x e = ap (λ y. y ∷ []) (let t : Some (logged_entry r) ≡ Some x = e in cc)
+-- the entry that redo would take is listed, from its nodes and, where undo would take it, its edits
+pub next_listed : (h : History) (before more : List Logged) (made : List MadeNode) (edits : List LoggedEdit) → 0 < length h.redo → made ≡ first_made h.redo → edits ≡ first_logged (redone_history h).undo →
+    more ≡ before ++ record { made = made; edits = edits } ∷ [] → more ≡ before ++ map logged_entry (take 1 h.redo)
+unfolding redone_history
+next_listed h before more made edits some nodes last is = is ∙ ap (λ xs. before ++ xs) (by_redo h.redo some nodes last)
+  where
+    by_redo : (rs : List Entry) → 0 < length rs → made ≡ first_made rs → edits ≡ first_logged (redone_history_by rs h).undo → record { made = made; edits = edits } ∷ [] ≡ map logged_entry (take 1 rs)
+    by_redo [] some nodes last = absurd (omega (arith, some))
+    by_redo (r ∷ rs) some nodes last = λ i. record { made = nodes i; edits = last i } ∷ []
 
 pub some_of : {A B : Type 0} (g : A → B) (o : Option A) (xs : List B) → option_map g o ≡ slice_get xs 0 → 0 < length xs → IsSome o
 some_of g None [] e h = absurd (omega (arith, h))

@@ -1,27 +1,24 @@
--- The entry that redo would take, read from the fields of a document.
+-- The nodes that the commands of the entry made that redo would take, read from the fields of a document.
 use Rattle.std.proofs.Common.{◌≡◌, ℕ, ◌<◌, ◌≤◌, List, [], ◌∷◌, drop, map, Option, Some, None, Bor, sym, ap, subst, ◌∙◌}
 use Rattle.std.specs.Prelude.{slice_get}
 use Rattle.std.specs.Option.{option_map}
 use Rattle.dom_model.specs.declared.Content.{Content}
-use Rattle.dom_model.specs.Forest.{Forest, content_of}
+use Rattle.dom_model.specs.Forest.{Forest}
 use Rattle.dom_model.specs.ArenaState.{IsValid as IsArena}
-use Rattle.node_arena.specs.Held.{Holds}
 use Rattle.undo_log.specs.Log.{noted}
 use Rattle.undo_log.specs.Log.Open.{Closed}
 use Rattle.forest_changes.specs.Named.{Each, named_in}
-use Rattle.forest_changes.proofs.Twice.{forest_of}
 use Rattle.edit_steps.specs.declared.step.Step.{Step}
-use Rattle.edit_steps.specs.Step.{changes_of, nodes_in}
+use Rattle.edit_steps.specs.Step.{changes_of}
 use Rattle.edit_model.specs.History.{used}
 use Rattle.edit_doc.specs.declared.Doc.TheInside.{Inside}
 use Rattle.edit_doc.specs.declared.command.EntrySnapshot.{EntrySnapshot}
 use Rattle.edit_doc.specs.History.{roots_from, redo_entries}
-use Rattle.edit_doc.specs.Logged.{Logged, made_node, logged_with, logged_entry}
+use Rattle.edit_doc.specs.Logged.{made_node, first_made}
 use Rattle.edit_doc.specs.Sound.{AreFresh, RedoSound, next_first}
 use Rattle.edit_doc.specs.Whole.{Whole}
 use Rattle.edit_doc.specs.Live.{live}
 use Rattle.edit_doc.proofs.Inner.{seen, Ok}
-use Rattle.edit_doc.proofs.LoggedNodes.{contents_seen, edits_same}
 use Rattle.edit_doc.proofs.Rests.{AtRest, rest_of, none_noted}
 
 module _ (d : Inside) (v : Whole) (sees : seen d ≡ v) (law : IsArena d.tree.nodes.arena) (closed : d.history.log.open_entry ≡ Closed) (ok : Ok d) where
@@ -36,13 +33,12 @@ module _ (d : Inside) (v : Whole) (sees : seen d ≡ v) (law : IsArena d.tree.no
       ap (λ (w : Whole). w.history.redo) (sym sees)
       ∙ ap (λ g. redo_entries d.tree.points.names g d.history.log.redo d.history.future) (none_noted d.history.log f (ap noted closed))
 
-  -- what reading the entry needs, and what it then is
+  -- what reading the nodes that its commands made needs, and what they are
   pub record Next (e : List Step) (first end : ℕ) : Type 0 where
     pub order : first ≤ end
     pub fresh : AreFresh f first
     pub within : Each (λ l. l < end) (named_in (changes_of e))
-    pub held : Each (λ r. Holds d.tree.nodes.arena r) (nodes_in e)
-    pub value : (entry : Logged) → entry ≡ logged_with (content_of f) (used (changes_of e) (roots_from first f)) (changes_of e) → option_map logged_entry (slice_get v.history.redo 0) ≡ Some entry
+    pub made : map made_node (used (changes_of e) (roots_from first f)) ≡ first_made v.history.redo
 
   next_in : (es : List (List Step)) (bs : List EntrySnapshot) → RedoSound d.tree.nodes.arena.held d.tree.points.names d.command f es bs → v.history.redo ≡ redo_entries d.tree.points.names f es bs →
       (e : List Step) → slice_get es 0 ≡ Some e → Next e (next_first d.command.start bs) (next_first d.command.start (drop 1 bs))
@@ -54,17 +50,7 @@ module _ (d : Inside) (v : Whole) (sees : seen d ≡ v) (law : IsArena d.tree.no
       subst (λ z. Next z y.span.first_label (next_first d.command.start bs)) same own
     where
       own : Next x y.span.first_label (next_first d.command.start bs)
-      own = record {
-        order = h.1.0.drawn;
-        fresh = h.1.0.fresh;
-        within = h.1.0.names_old;
-        held = h.0.1;
-        value = λ entry eq. (
-            let made = used (changes_of x) (roots_from y.span.first_label f) in
-            let seen = contents_seen f (forest_of d.tree.nodes.arena law) d.tree.nodes.arena.next y.span.first_label law.below h.1.0.fresh (changes_of x) h.1.0.names_seen in
-            ap (λ es. option_map logged_entry (slice_get es 0)) is
-            ∙ ap Some (ap (λ es. record { made = map made_node made; edits = es }) (edits_same _ (content_of f) (changes_of x) seen) ∙ sym eq));
-      }
+      own = record { order = h.1.0.drawn; fresh = h.1.0.fresh; within = h.1.0.names_old; made = ap first_made (sym is) }
 
   -- where the code has looked them up
   pub next_read : (o : Option (Bor (List Step))) (e : Bor (List Step)) (first end : ℕ) →

@@ -1,5 +1,5 @@
 -- The nodes that an entry's steps name, in the forest before them: those of the document, and those made, each alone.
-use Rattle.std.proofs.Common.{◌≡◌, ◌⊎◌, ℕ, zero, suc, ◌+◌, ◌<◌, ◌≤◌, Bool, true, false, cond, eqb, List, [], ◌∷◌, ◌++◌, map, Option, Some, None, refl, sym, ap, subst, ◌∙◌, inl, inr, arith, append_assoc}
+use Rattle.std.proofs.Common.{◌≡◌, ◌⊎◌, ℕ, zero, suc, ◌+◌, ◌<◌, ◌≤◌, Bool, true, false, cond, eqb, List, [], ◌∷◌, ◌++◌, length, map, Option, Some, None, refl, sym, ap, subst, ◌∙◌, inl, inr, arith, append_assoc}
 use Rattle.std.specs.Prelude.{nat_le}
 use Rattle.std.specs.Option.{option_map, option_map_or}
 use Rattle.std.proofs.lemmas.List.{map-append}
@@ -8,10 +8,11 @@ use Rattle.dom_model.specs.declared.Content.{Content}
 use Rattle.dom_model.specs.Forest.{Forest, Seen, seek, either, first_in, tops, times, count_of, content_of, parent_of, tree_of, IsDistinct, RisesFrom, IsWithin}
 use Rattle.dom_model.specs.Forest.Forest.{Nil, Tree}
 use Rattle.dom_model.specs.Pruned.{pruned}
+use Rattle.dom_model.specs.Room.{spliced}
 use Rattle.dom_model.proofs.Links.{seen, tree_of_absent}
 use Rattle.dom_model.proofs.Stands.{true_or_false, times-tops, seek_absent}
 use Rattle.live_range.specs.PointsEdit.{has_label}
-use Rattle.forest_changes.specs.Change.{Change, Remove, Insert, Move, SetText, SetAttributes, IsForest}
+use Rattle.forest_changes.specs.Change.{Change, Remove, Insert, Move, SetText, Splice, SetAttributes, IsForest}
 use Rattle.forest_changes.specs.Named.{Each, named, named_in}
 use Rattle.forest_changes.specs.Down.{IsLeft}
 use Rattle.forest_changes.proofs.ChangeLists.{each_first, each_rest}
@@ -20,7 +21,7 @@ use Rattle.edit_model.proofs.Resting.{forest-document, seek_document}
 use Rattle.edit_doc.specs.declared.logged.LoggedEdit.{LoggedEdit}
 use Rattle.edit_doc.specs.declared.logged.MadeNode.{MadeNode}
 use Rattle.edit_doc.specs.History.{roots_from, is_hidden}
-use Rattle.edit_doc.specs.Logged.{content_made, element_name, logged_edit, made_node, node_at}
+use Rattle.edit_doc.specs.Logged.{content_made, element_name, node_chars, logged_edit, made_node, node_at}
 use Rattle.edit_doc.specs.Sound.{AreFresh}
 use Rattle.edit_doc.proofs.HiddenTrees.{le_true, le_false, true_le, model_forest, is_hidden_from}
 use Rattle.edit_doc.proofs.MadeNodes.{listed_has, pick, used_one, used_nil, skips}
@@ -206,6 +207,7 @@ edit_same A B (Remove n) h = refl
 edit_same A B (Insert n p b) h = refl
 edit_same A B (Move n p b) h = refl
 edit_same A B (SetText n words) h = refl
+edit_same A B (Splice n at rest taken put) h = ap (λ o. LoggedEdit.SetText n (spliced (node_chars o) at (length taken) put)) h.0
 edit_same A B (SetAttributes n list) h = ap (λ o. LoggedEdit.SetAttributes n (element_name o) list) h.0
 
 -- edits where each node that is named has the same content

@@ -14,7 +14,7 @@ use Rattle.std.proofs.lemmas.List.{map-append}
 use Rattle.std.proofs.lemmas.List.Folds.{list_any-append}
 use Rattle.undo_log.proofs.Turns.{back-join}
 use Rattle.live_range.specs.PointsEdit.{has_label}
-use Rattle.forest_changes.specs.Change.{Change, Remove, Insert, Move, SetText, SetAttributes, Fits, applied, inverse}
+use Rattle.forest_changes.specs.Change.{Change, Remove, Insert, Move, SetText, Splice, SetAttributes, Fits, applied, inverse, spliced_at}
 use Rattle.forest_changes.specs.Named.{Each, named, named_in}
 use Rattle.forest_changes.proofs.ChangeLists.{each_first, each_rest}
 use Rattle.undo_log.specs.Turning.{back, forth, inverses_back, FitsForth}
@@ -159,6 +159,7 @@ roots-applied n (Remove m) f lt = roots-unlink n m lt f
 roots-applied n (Insert m p b) f lt = roots-link n m lt p b f
 roots-applied n (Move m p b) f lt = roots-link n m lt p b (unlink f m) ∙ roots-unlink n m lt f
 roots-applied n (SetText m words) f lt = roots-revised n m lt (with_chars words) f
+roots-applied n (Splice m at rest taken put) f lt = roots-revised n m lt (with_chars (spliced_at f m at (length taken) put)) f
 roots-applied n (SetAttributes m list) f lt = roots-revised n m lt (with_attributes list) f
 
 own_named : (x : Change) (l : ℕ) → node_of x ≡ l → has_label (named x) l ≡ true
@@ -172,6 +173,7 @@ own_named x l same = subst (λ m. has_label (named x) m ≡ true) same (by x)
     by (Insert n p b) = rw (own n) refl
     by (Move n p b) = rw (own n) refl
     by (SetText n words) = rw (own n) refl
+    by (Splice n at rest taken put) = rw (own n) refl
     by (SetAttributes n list) = rw (own n) refl
 
 or_false : (a b : Bool) → (a || b) ≡ false → (a ≡ false) × (b ≡ false)

@@ -1,5 +1,5 @@
 -- Where nodes stand after a change: only the node that it moves has another parent.
-use Rattle.std.proofs.Common.{◌≡◌, ◌≢◌, ◌⊎◌, ℕ, ◌<◌, cond, eqb, List, [], ◌∷◌, Option, Some, None, unwrap_or, refl, sym, ap, subst, ◌∙◌, inl, inr, arith}
+use Rattle.std.proofs.Common.{◌≡◌, ◌≢◌, ◌⊎◌, ℕ, ◌<◌, cond, eqb, List, [], ◌∷◌, length, Option, Some, None, unwrap_or, refl, sym, ap, subst, ◌∙◌, inl, inr, arith}
 use Rattle.std.specs.Option.{option_and_then}
 use Rattle.std.proofs.lemmas.Bool.Decides.{eqb_tells}
 use Rattle.dom_model.specs.declared.Content.{Content}
@@ -10,7 +10,7 @@ use Rattle.dom_model.proofs.Links.{seen as seen_at, parent_of-link, parent_of-un
 use Rattle.dom_model.proofs.Revising.{parent_of-revised}
 use Rattle.dom_model.proofs.Stands.{times-tops, parent_stands}
 use Rattle.dom_model.proofs.Totals.{total-unlink}
-use Rattle.forest_changes.specs.Change.{Change, Remove, Insert, Move, SetText, SetAttributes, IsForest, Fits, applied}
+use Rattle.forest_changes.specs.Change.{Change, Remove, Insert, Move, SetText, Splice, SetAttributes, IsForest, Fits, applied, spliced_at}
 use Rattle.forest_changes.specs.Named.{named, Each}
 use Rattle.forest_changes.proofs.Twice.{given_parent, IsForest-unlink, IsForest-applied, count_of-applied}
 use Rattle.edit_doc.proofs.HiddenTrees.{top_loose}
@@ -21,6 +21,7 @@ node_of (Remove n) = n
 node_of (Insert n p b) = n
 node_of (Move n p b) = n
 node_of (SetText n words) = n
+node_of (Splice n at rest taken put) = n
 node_of (SetAttributes n list) = n
 
 -- the tree that it makes loose, if it does
@@ -29,6 +30,7 @@ loosed (Remove n) = n ∷ []
 loosed (Insert n p b) = []
 loosed (Move n p b) = []
 loosed (SetText n words) = []
+loosed (Splice n at rest taken put) = []
 loosed (SetAttributes n list) = []
 
 pub named_node : (P : ℕ → Type 0) (x : Change) → Each P (named x) → P (node_of x)
@@ -36,6 +38,7 @@ named_node P (Remove n) h = h.0
 named_node P (Insert n p b) h = h.0
 named_node P (Move n p b) h = h.0
 named_node P (SetText n words) h = h.0
+named_node P (Splice n at rest taken put) h = h.0
 named_node P (SetAttributes n list) h = h.0
 
 pub each_loosed : (P : ℕ → Type 0) (x : Change) → P (node_of x) → Each P (loosed x)
@@ -43,6 +46,7 @@ each_loosed P (Remove n) h = (h, tt)
 each_loosed P (Insert n p b) h = tt
 each_loosed P (Move n p b) h = tt
 each_loosed P (SetText n words) h = tt
+each_loosed P (Splice n at rest taken put) h = tt
 each_loosed P (SetAttributes n list) h = tt
 
 pub root_top : (f : Forest Content) (l : ℕ) → IsDistinct f → 0 < count_of f l → parent_of f l ≡ None → 0 < times (tops f) l
@@ -84,6 +88,7 @@ parent_other (Move n p b) f l h here off =
     let g = IsForest-unlink f (unwrap_or (parent_of f n) 0) n h.forest child in
     parent-link (unlink f n) n p b l g h.here.1 (omega (arith, here, total-unlink (λ m _. cond (eqb m l) 1 0) f n)) off ∙ parent-unlink f n l h.forest child here off
 parent_other (SetText n words) f l h here off = parent_of-revised n (with_chars words) f l
+parent_other (Splice n at rest taken put) f l h here off = parent_of-revised n (with_chars (spliced_at f n at (length taken) put)) f l
 parent_other (SetAttributes n list) f l h here off = parent_of-revised n (with_attributes list) f l
 
 -- the tree of the node is loose after the change: it was loose before, or is made so
@@ -95,6 +100,7 @@ own_root (Move n p b) f h root =
     let g = IsForest-unlink f (unwrap_or (parent_of f n) 0) n h.forest (given_parent f n h.here.0) in
     absurd (let e : Some p ≡ None = sym (linked (unlink f n) n p b g h.here.1) ∙ root in cc)
 own_root (SetText n words) f h root = inl (sym (parent_of-revised n (with_chars words) f n) ∙ root)
+own_root (Splice n at rest taken put) f h root = inl (sym (parent_of-revised n (with_chars (spliced_at f n at (length taken) put)) f n) ∙ root)
 own_root (SetAttributes n list) f h root = inl (sym (parent_of-revised n (with_attributes list) f n) ∙ root)
 
 -- ---- roots

@@ -164,7 +164,7 @@ told_back_at_begin first xs g b =
 -- ---- the entries next to the cursor
 
 module _ (held : List (Option ℕ)) (names : List (List ℕ)) (c : Command) where
-  begins_back : (e : List Step) (f : Forest Content) (b : EntrySnapshot) (detached : List NodeRef) (high start : ℕ) → IsForest f → FitsBack applied Fits (changes_of e) f
+  pub begins_back : (e : List Step) (f : Forest Content) (b : EntrySnapshot) (detached : List NodeRef) (high start : ℕ) → IsForest f → FitsBack applied Fits (changes_of e) f
       → IsSnapshot names (forest_before e f) f e (inverses_back applied inverse (changes_of e) f) b detached high start → Begins b.span.first_label (inverses_back applied inverse (changes_of e) f) (forest_before e f)
   begins_back e f b detached high start is fits snapshot =
       let first = b.span.first_label in

@@ -11,8 +11,10 @@ pub mod Closing
 pub mod GivingUp
 pub mod Fields
 pub mod Marks
+pub mod Splicing
 pub mod Kept
 pub mod Extracting
 pub mod Logged
 pub mod Onward
 pub mod Changes
+pub mod Logging

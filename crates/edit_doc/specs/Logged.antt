@@ -4,17 +4,20 @@ use Rattle.std.specs.Option.{option_map_or, option_and_then}
 use Rattle.dom_model.specs.declared.Content.{Content}
 use Rattle.dom_model.specs.Change.{Change}
 use Rattle.dom_model.specs.Change as change
-use Rattle.dom_model.specs.Contents.{name_in}
+use Rattle.dom_model.specs.Contents.{name_in, chars_in}
 use Rattle.dom_model.specs.Forest.{Forest, content_of, either}
+use Rattle.dom_model.specs.Room.{spliced}
 use Rattle.live_range.specs.PointsEdit.{has_label}
+use Rattle.forest_changes.specs.Change.{wholes}
 use Rattle.edit_model.specs.History.{Entry}
+use Rattle.edit_doc.specs.Onward.{at_begin}
 use Rattle.edit_doc.specs.Whole.{Whole}
 use Rattle.edit_doc.specs.declared.logged.LoggedEdit.{LoggedEdit}
 use Rattle.edit_doc.specs.declared.logged.LoggedEdit.TheVariants.{Remove, Insert, Move, SetText, SetAttributes}
 use Rattle.edit_doc.specs.declared.logged.MadeNode.{MadeNode}
 
 -- the nodes that the commands of an entry made and its edits name, each as made, and its edits,
--- from the first to the last
+-- from the first to the last, with the whole contents afterwards
 pub record Logged : Type 0 where
   pub made : List MadeNode
   pub edits : List LoggedEdit
@@ -33,12 +36,18 @@ content_in e l = either (content_of e.before.document l) (content_made e.made l)
 abbrev pub element_name : Option Content → List ℕ
 element_name o = unwrap_or (option_and_then name_in o) []
 
+-- the characters of a node with this content
+abbrev pub node_chars : Option Content → List ℕ
+node_chars o = unwrap_or (option_and_then chars_in o) []
+
 -- an edit, where each node has the content that is told
 abbrev pub logged_edit : (ℕ → Option Content) → Change → LoggedEdit
 logged_edit content (change.Remove n) = Remove n
 logged_edit content (change.Insert n p b) = Insert n p b
 logged_edit content (change.Move n p b) = Move n p b
 logged_edit content (change.SetText n words) = SetText n words
+logged_edit content (change.Splice n at rest taken put) =
+    SetText n (spliced (node_chars (content n)) at (length taken) put)
 logged_edit content (change.SetAttributes n list) = SetAttributes n (element_name (content n)) list
 
 abbrev pub made_node : ℕ × Content → MadeNode
@@ -49,7 +58,16 @@ logged_with content made edits =
     record { made = map made_node made; edits = map (logged_edit content) edits }
 
 abbrev pub logged_entry : Entry → Logged
-logged_entry e = logged_with (content_in e) e.made e.edits
+logged_entry e = logged_with (content_in e) e.made (wholes e.edits (at_begin e))
+
+-- the nodes and the edits of the first of some entries
+abbrev pub first_made : List Entry → List MadeNode
+first_made [] = []
+first_made (e ∷ es) = (logged_entry e).made
+
+abbrev pub first_logged : List Entry → List LoggedEdit
+first_logged [] = []
+first_logged (e ∷ es) = (logged_entry e).edits
 
 -- the node of a label with its content, if there is one
 abbrev pub node_at : Forest Content → ℕ → List (ℕ × Content)

@@ -8,9 +8,11 @@ ghost use Rattle.undo_log.specs.States.{start};
 ghost use Rattle.undo_log.specs.Turning.{FitsBack};
 ghost use Rattle.edit_doc.specs.Changes.{steps_told, steps_told_back};
 ghost use Rattle.edit_doc.specs.Counted.{IsCounted};
+ghost use Rattle.edit_doc.specs.Logging.{steps_logged};
 ghost use Rattle.edit_doc.specs.Trail.{FitsAlong, with_note, steps_along, arena_along, trail_along};
 
 use crate::history::{History, Way};
+use crate::logged::LoggedEdit;
 use crate::{Arena, Counts, EditFault};
 use document_edits::DocumentEdit;
 use edit_steps::Step;
@@ -129,5 +131,21 @@ impl CountedArena {
         ensures arena { self.new.arena ≡ self.old.arena }
     {
         history.undone_changes(alloc, &mut self.arena)
+    }
+
+    // The edits of the entry that undo would take, as a log has them.
+    pub(crate) fn last_edits(
+        &mut self,
+        alloc: Global,
+        history: &mut History,
+    ) -> Result<Vec<LoggedEdit>, AllocError>
+        requires closed { history.old.log.open_entry ≡ Closed }
+        requires fit { FitsUndo step_applied StepFits history.old.log.undo self.old.arena }
+        ensures read { IfOk result (λ edits. edits.items
+            ≡ steps_logged history.old.log.undo self.old.arena.trees) }
+        ensures history { history.new ≡ history.old }
+        ensures arena { self.new.arena ≡ self.old.arena }
+    {
+        history.last_edits(alloc, &mut self.arena)
     }
 }

@@ -1,23 +1,50 @@
 //! The elementary edits.
 
-ghost use Rattle.std.specs.Prelude.{◌≡◌, ℕ, IfErr, IfSome, OnErr, OnOk, Some, true};
+ghost use Rattle.std.specs.Prelude.{◌≡◌, ℕ, ◌<◌, ◌^◌, length, is_some, IfErr, IfOk, IfSome, OnErr, OnOk, Some, true};
 ghost use Rattle.dom_model.specs.Forest.{parent_of};
 ghost use Rattle.dom_model.specs.Places.{index_of};
 ghost use Rattle.edit_model.specs.Action.{applied};
+ghost use Rattle.edit_model.specs.Confined.{may_change};
 ghost use Rattle.edit_model.specs.Edit.{Insert, Remove, is_made_edit};
 ghost use Rattle.edit_model.specs.Possible.{freed};
 ghost use Rattle.edit_model.specs.Gives.{Gives, label_of};
 ghost use Rattle.edit_model.specs.Run.{insert, remove, move, replace, set_attribute, unset_attribute};
 ghost use Rattle.edit_doc.specs.Whole.{IsOpen};
 ghost use Rattle.edit_doc.specs.Held.{Holds, IfHeld, Keeps};
+ghost use Rattle.edit_doc.specs.Splicing.{own_chars, splice_step};
 
 use crate::numbers::{chars_replaced, counts_moved, counts_with, counts_without};
 use crate::{Chars, Counts, Doc, EditFault, Name, NodeRef};
 use edit_parts::{
-    adjust_inserted, adjust_moved, has_value, is_in_document, moving_from, removal_of, replaced,
+    adjust_inserted, adjust_moved, has_value, is_in_document, moving_from, removal_of,
+    replaced_part,
 };
-use edit_steps::Step;
+use edit_steps::{Splice, Step};
 use node_arena::Content;
+use std::alloc::{AllocError, Global};
+
+// The step by which others take the place of `count` characters of a text, from the offset `at` on.
+// `None` where that edit isn't made.
+fn splice_step(
+    alloc: Global,
+    content: &Content,
+    node: NodeRef,
+    at: u32,
+    count: u32,
+    put: &[char],
+) -> Result<Option<Step>, AllocError>
+    requires { length (own_chars content.now) < 2 ^ 32 }
+    ensures changes { IfOk result (λ made. is_some made
+        ≡ may_change (Some content.now) at count put.now) }
+    ensures step { IfOk result (λ made. IfSome made (λ step. step
+        ≡ splice_step node at count put.now content.now)) }
+{
+    let Some(part) = replaced_part(content, at, count, put) else {
+        return Ok(None);
+    };
+    let splice = Splice::new(alloc, node, at, part.rest, part.taken, put)?;
+    Ok(Some(Step::Splice(splice)))
+}
 
 impl Doc {
     /// Inserts a loose tree under a parent, before one of its children or at the end. Answers
@@ -225,7 +252,7 @@ impl Doc {
             return Ok(false);
         }
         let content = self.tree.nodes.arena.content(node);
-        let Some(words) = replaced(self.alloc, content, at, count, put)? else {
+        let Some(step) = splice_step(self.alloc, content, node, at, count, put)? else {
             return Ok(false);
         };
         let watch = self.tree.watch();
@@ -237,7 +264,6 @@ impl Doc {
             count,
             put,
         );
-        let step = Step::SetText { node, words };
         let counts = Counts {
             chars,
             ..self.tree.nodes.counts

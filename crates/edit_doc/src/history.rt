@@ -12,10 +12,13 @@ ghost use Rattle.edit_doc.specs.Sound.{next_first};
 ghost use Rattle.edit_doc.specs.Trail.{IsTrail, FitsAlong, first_trail, with_note, steps_along, snapshots_along, arena_along, trail_along};
 ghost use Rattle.edit_doc.specs.Closing.{Closes};
 ghost use Rattle.edit_doc.specs.Changes.{steps_told, steps_told_back};
+ghost use Rattle.edit_doc.specs.Logging.{steps_logged};
 
 use crate::Counts;
 use crate::command::{Command, EntrySnapshot, EntrySpan};
 use crate::giving_up::keep_loose;
+use crate::log_recorder::LogRecorder;
+use crate::logged::LoggedEdit;
 use circular_buffer::HeapCircularBuffer;
 use document_edits::DocumentEdit;
 use edit_steps::Step;
@@ -206,6 +209,24 @@ impl History {
     {
         let mut recorder = EditRecorder::new(alloc);
         self.log.watch_undone(arena, &mut recorder);
+        recorder.into_edits()
+    }
+
+    // The edits of the entry that undo would take, as a log has them.
+    pub(crate) fn last_edits(
+        &mut self,
+        alloc: Global,
+        arena: &mut Arena,
+    ) -> Result<Vec<LoggedEdit>, AllocError>
+        requires closed { self.old.log.open_entry ≡ Closed }
+        requires fit { FitsUndo step_applied StepFits self.old.log.undo arena.old }
+        ensures read { IfOk result (λ edits. edits.items
+            ≡ steps_logged self.old.log.undo arena.old.trees) }
+        ensures history { self.new ≡ self.old }
+        ensures arena { arena.new ≡ arena.old }
+    {
+        let mut recorder = LogRecorder::new(alloc);
+        self.log.watch_last(0, arena, &mut recorder);
         recorder.into_edits()
     }
 

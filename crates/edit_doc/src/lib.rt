@@ -20,6 +20,7 @@ mod edits;
 mod extracting;
 mod giving_up;
 mod history;
+mod log_recorder;
 mod logged;
 mod making;
 mod nodes;

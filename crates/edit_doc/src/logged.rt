@@ -1,20 +1,16 @@
 //! The entries of the history before the cursor, read as forward edits.
 
-ghost use Rattle.std.specs.Prelude.{◌≡◌, ℕ, ◌+◌, ◌<◌, ◌≤◌, List, Some, None, IfOk, OnOk, [], ◌∷◌, ◌++◌, length, map, reverse, take, drop, slice_get};
-ghost use Rattle.std.specs.Option.{option_map};
-ghost use Rattle.dom_model.specs.Forest.{content_of};
+ghost use Rattle.std.specs.Prelude.{◌≡◌, ℕ, ◌+◌, ◌<◌, ◌≤◌, List, None, IfOk, OnOk, [], ◌∷◌, ◌++◌, length, map, reverse, take, drop};
 ghost use Rattle.forest_changes.specs.Named.{Each, named, named_in};
 ghost use Rattle.live_range.specs.Names.{shown, IsOver};
-ghost use Rattle.node_arena.specs.Held.{Holds};
-ghost use Rattle.edit_steps.specs.Step.{change_of, changes_of, nodes_of, nodes_in};
-ghost use Rattle.edit_model.specs.Gives.{label_of};
-ghost use Rattle.edit_model.specs.History.{used};
+ghost use Rattle.edit_steps.specs.Step.{change_of, changes_of};
+ghost use Rattle.edit_model.specs.History.{used, redone_state, redone_history};
 ghost use Rattle.edit_model.specs.Valid.{IsPlaced};
 ghost use Rattle.edit_doc.specs.Whole.{IsClosed, with_state};
 ghost use Rattle.edit_doc.specs.History.{roots_from};
 ghost use Rattle.edit_doc.specs.Marks.{place_labels};
 ghost use Rattle.edit_doc.specs.Sound.{AreFresh};
-ghost use Rattle.edit_doc.specs.Logged.{Logged, element_name, logged_edit, logged_with, logged_entry, made_node, node_at, TellNamed, HasMoved};
+ghost use Rattle.edit_doc.specs.Logged.{Logged, logged_entry, first_made, first_logged, made_node, node_at, TellNamed, HasMoved};
 
 use crate::command::Kept;
 use crate::{Arena, Attributes, Chars, Doc, Name, NodeRef};
@@ -158,7 +154,7 @@ impl Doc {
         }
     }
 
-    // Redoes so many entries, and reads each before.
+    // Redoes so many entries, and reads each.
     fn redo_and_read<L: Ledger>(
         &mut self,
         alloc: Global,
@@ -176,44 +172,67 @@ impl Doc {
         let mut entries = Ok(Vec::new(alloc));
         for _done in 0..count {
             entries = match entries {
-                Ok(before) => self.push_next(alloc, before),
-                Err(fault) => Err(fault),
+                Ok(before) => self.redo_next(alloc, before, steps),
+                Err(fault) => {
+                    self.redo(steps);
+                    Err(fault)
+                }
             };
-            self.redo(steps);
         }
         entries
     }
 
-    // Puts the entry that redo would take at the end of a list.
-    fn push_next(
-        &self,
+    // Redoes an entry, and puts it at the end of a list. Its nodes are read before, as they were
+    // made, and its edits as they are made again, since a step lacks the whole contents afterwards.
+    fn redo_next<L: Ledger>(
+        &mut self,
         alloc: Global,
         before: Vec<LoggedEntry>,
+        steps: &mut Steps<L>,
     ) -> Result<Vec<LoggedEntry>, AllocError>
-        requires closed { IsClosed self.now }
-        requires more { 0 < length self.now.history.redo }
-        ensures { IfOk result (λ entries. entries.items ≡ before.items
-            ++ map logged_entry (take 1 self.now.history.redo)) }
+        requires closed { IsClosed self.old }
+        requires more { 0 < length self.old.history.redo }
+        ensures redone { self.new ≡ record self.old {
+          state = redone_state self.old.history self.old.state;
+          history = redone_history self.old.history;
+        } }
+        ensures read { IfOk result (λ entries. entries.items ≡ before.items
+            ++ map logged_entry (take 1 self.old.history.redo)) }
     {
+        let made = self.next_made(alloc);
+        self.redo(steps);
+        let edits = self.last_edits(alloc);
         let mut entries = before;
-        entries.push(self.next_logged(alloc)?)?;
+        entries.push(LoggedEntry {
+            made: made?,
+            edits: edits?,
+        })?;
         Ok(entries)
     }
 
-    // The entry that redo would take. Its edits aren't made, so that its steps have the contents
-    // that they give.
-    fn next_logged(&self, alloc: Global) -> Result<LoggedEntry, AllocError>
+    // The nodes that the commands made of the entry that redo would take.
+    fn next_made(&self, alloc: Global) -> Result<Vec<MadeNode>, AllocError>
         requires closed { IsClosed self.now }
         requires more { 0 < length self.now.history.redo }
-        ensures { IfOk result (λ entry. option_map logged_entry (slice_get self.now.history.redo 0)
-            ≡ Some entry) }
+        ensures { IfOk result (λ nodes. nodes.items ≡ first_made self.now.history.redo) }
     {
         self.tree.nodes.arena.valid();
-        self.tree.nodes.arena.slotted();
         let steps = self.history.next_entry().unwrap();
         let first = self.history.first_undone(self.command.start);
         let end = self.history.first_later(self.command.start);
-        read_entry(alloc, &self.tree.nodes.arena, steps, first, end)
+        made_nodes(alloc, &self.tree.nodes.arena, steps, first, end)
+    }
+
+    // The edits of the entry that undo would take.
+    fn last_edits(&mut self, alloc: Global) -> Result<Vec<LoggedEdit>, AllocError>
+        requires { IsClosed self.old }
+        ensures read { IfOk result (λ edits. edits.items ≡ first_logged self.old.history.undo) }
+        ensures stays { self.new ≡ self.old }
+    {
+        self.history.valid();
+        self.tree.nodes.arena.valid();
+        self.tree.nodes.arena.slotted();
+        self.tree.nodes.last_edits(alloc, &mut self.history)
     }
 
     // Puts the points, the overrides and the flags as they were kept.
@@ -234,96 +253,6 @@ impl Doc {
         self.tree.points.set_places(&kept.places);
         swap(&mut self.tree.overrides, &mut kept.overrides);
         self.tree.flags = kept.flags;
-    }
-}
-
-// An entry of steps that aren't made, where its commands made nodes with labels from `first` on,
-// and before `end`.
-fn read_entry(
-    alloc: Global,
-    arena: &Arena,
-    steps: &[Step],
-    first: u32,
-    end: u32,
-) -> Result<LoggedEntry, AllocError>
-    requires order { first ≤ end }
-    requires fresh { AreFresh arena.now.trees first }
-    requires within { Each (λ l. l < end) (named_in (changes_of steps.now)) }
-    requires held { Each (Holds arena.now) (nodes_in steps.now) }
-    ensures { IfOk result (λ entry. entry ≡ logged_with (content_of arena.now.trees)
-        (used (changes_of steps.now) (roots_from first arena.now.trees)) (changes_of steps.now)) }
-{
-    Ok(LoggedEntry {
-        made: made_nodes(alloc, arena, steps, first, end)?,
-        edits: read_edits(alloc, arena, steps)?,
-    })
-}
-
-fn read_edits(alloc: Global, arena: &Arena, steps: &[Step]) -> Result<Vec<LoggedEdit>, AllocError>
-    requires { Each (Holds arena.now) (nodes_in steps.now) }
-    ensures { IfOk result (λ edits. edits.items ≡ map (logged_edit (content_of arena.now.trees))
-        (changes_of steps.now)) }
-{
-    let mut edits = Vec::with_capacity(alloc, steps.len())?;
-    for step in steps {
-        edits.push(read_edit(alloc, arena, step)?)?;
-    }
-    Ok(edits)
-}
-
-fn read_edit(alloc: Global, arena: &Arena, step: &Step) -> Result<LoggedEdit, AllocError>
-    requires { Each (Holds arena.now) (nodes_of step.now) }
-    ensures { IfOk result (λ edit. edit
-        ≡ logged_edit (content_of arena.now.trees) (change_of step.now)) }
-{
-    Ok(match step {
-        Step::Remove { node } => LoggedEdit::Remove { node: node.label },
-        Step::Insert {
-            node,
-            parent,
-            before,
-        } => LoggedEdit::Insert {
-            node: node.label,
-            parent: parent.label,
-            before: label_of(*before),
-        },
-        Step::Move {
-            node,
-            parent,
-            before,
-        } => LoggedEdit::Move {
-            node: node.label,
-            parent: parent.label,
-            before: label_of(*before),
-        },
-        Step::SetText { node, words } => LoggedEdit::SetText {
-            node: node.label,
-            words: words.clone()?,
-        },
-        Step::SetAttributes { node, list } => LoggedEdit::SetAttributes {
-            node: node.label,
-            name: copy_name(alloc, arena.content(*node))?,
-            attributes: list.copy()?,
-        },
-    })
-}
-
-fn label_of(node: Option<NodeRef>) -> Option<u32>
-    ensures { result ≡ label_of node }
-{
-    match node {
-        Some(node) => Some(node.label),
-        None => None,
-    }
-}
-
-// The name of an element; no other node has attributes.
-fn copy_name(alloc: Global, content: &Content) -> Result<Name, AllocError>
-    ensures { IfOk result (λ name. name ≡ element_name (Some content.now)) }
-{
-    match content {
-        Content::Element { name, .. } => name.clone(),
-        _ => Ok(Name::from_vec(Vec::new(alloc))),
     }
 }
 
@@ -416,6 +345,7 @@ fn mark_step(marks: &mut Vec<bool>, first: u32, step: &Step)
             before,
         } => mark_place(marks, first, *node, *parent, *before),
         Step::SetText { node, .. } => mark(marks, first, node.label),
+        Step::Splice(splice) => mark(marks, first, splice.node().label),
         Step::SetAttributes { node, .. } => mark(marks, first, node.label),
     }
 }

@@ -14,6 +14,7 @@ use Rattle.forest_changes.specs.Change.{Change, IsForest, Fits, applied, inverse
 use Rattle.forest_changes.specs.Named.{Each, listed, named, named_in}
 use Rattle.forest_changes.proofs.ChangeLists.{each_join, each_first, each_rest, each_of}
 use Rattle.forest_changes.proofs.Contents.{stands}
+use Rattle.forest_changes.proofs.Splices.{part_chars}
 use Rattle.forest_changes.proofs.Twice.{IsForest-applied, IsForest-unlink, back_turns, count_of-applied, given_parent}
 use Rattle.edit_model.specs.History.{Entry, document_of, at_view, undone_state, undone_state_by, undone_history, undone_history_by, redone_state, redone_state_by, redone_history, redone_history_by}
 use Rattle.edit_doc.specs.Kept.{LeadAllBack, LeadAllForth, HoldsOnlyNeeded}
@@ -43,6 +44,7 @@ named_there (change.Move n p b) f h =
       (same p h.here.1.place.parent, each_of (Has (unlink f n)) (Has f) (listed b) same (before_there (unlink f n) p b g h.here.1.place.before)),
     )
 named_there (change.SetText n words) f h = (stands f n has_chars h.here.0, tt)
+named_there (change.Splice n at rest taken put) f h = (stands f n has_chars (part_chars f n at rest taken put h.here), tt)
 named_there (change.SetAttributes n list) f h = (stands f n is_element h.here, tt)
 
 all_there : (xs : List Change) (f : Forest Content) → FitsForth applied Fits xs f → Each (Has f) (named_in xs)

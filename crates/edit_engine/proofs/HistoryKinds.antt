@@ -1,5 +1,5 @@
 -- A label has one kind in all documents that undo and redo lead to: the nodes that are held have them all.
-use Rattle.std.proofs.Common.{◌≡◌, ℕ, Bool, List, [], ◌∷◌, Option, Some, refl, sym, ap, subst, ◌∙◌, arith}
+use Rattle.std.proofs.Common.{◌≡◌, ℕ, Bool, List, [], ◌∷◌, length, Option, Some, refl, sym, ap, subst, ◌∙◌, arith}
 use Rattle.std.specs.Prelude.{unwrap_or}
 use Rattle.std.specs.Option.{option_map}
 use Rattle.dom_model.specs.declared.Content.{Content}
@@ -10,7 +10,7 @@ use Rattle.dom_model.specs.Contents.{with_chars, with_attributes}
 use Rattle.dom_model.specs.Forest.{Forest, parent_of, unlink}
 use Rattle.dom_model.proofs.Kept.{content_of-link, content_of-unlink}
 use Rattle.undo_log.specs.Turning.{back, forth, FitsBack, FitsForth}
-use Rattle.forest_changes.specs.Change.{Change, IsForest, Fits, applied}
+use Rattle.forest_changes.specs.Change.{Change, IsForest, Fits, applied, spliced_at}
 use Rattle.forest_changes.specs.Named.{Each}
 use Rattle.forest_changes.proofs.ChangeLists.{each_join, each_first, each_rest, each_of}
 use Rattle.forest_changes.proofs.Twice.{IsForest-unlink, IsForest-applied, given_parent}
@@ -50,6 +50,7 @@ kinds-applied (change.Move n p b) f h l =
     let g = IsForest-unlink f q n h.forest child in
     ap (option_map kind_in) (content_of-link (unlink f n) p b n l g.distinct h.here.1.place ∙ content_of-unlink f q n l h.forest.distinct child)
 kinds-applied (change.SetText n words) f h l = kind_of-revised f n l (with_chars words) (kind-chars words)
+kinds-applied (change.Splice n at rest taken put) f h l = (let words = spliced_at f n at (length taken) put in kind_of-revised f n l (with_chars words) (kind-chars words))
 kinds-applied (change.SetAttributes n list) f h l = kind_of-revised f n l (with_attributes list) (kind-attributes list)
 
 -- the forest is one, and its labels have the same kinds

@@ -14,7 +14,7 @@ use Rattle.dom_model.proofs.Pruning.{tree_of-pruned}
 use Rattle.dom_model.proofs.Stands.{times-tops, seek_absent}
 use Rattle.dom_model.proofs.Walks.{document_first}
 use Rattle.undo_log.specs.Turning.{forth, FitsForth}
-use Rattle.forest_changes.specs.Change.{Change, Remove, Insert, Move, SetText, SetAttributes, IsForest, Fits, applied}
+use Rattle.forest_changes.specs.Change.{Change, Remove, Insert, Move, SetText, Splice, SetAttributes, IsForest, Fits, applied, whole, wholes}
 use Rattle.forest_changes.specs.Down.{Prunes}
 use Rattle.forest_changes.specs.Leaves.{IsBelow, IsMade}
 use Rattle.forest_changes.specs.Named.{Each}
@@ -23,6 +23,7 @@ use Rattle.forest_changes.proofs.ChangeLists.{each_join, forth_down, forth_fits_
 use Rattle.forest_changes.proofs.DownChange.{IsForest-pruned, prunes_roots}
 use Rattle.forest_changes.proofs.ManyLeaves.{has_made, pruned-with_leaf, Prunes-with_leaf}
 use Rattle.forest_changes.proofs.Places.{rising_top}
+use Rattle.forest_changes.proofs.Wholes.{fits_wholes, forth_wholes}
 use Rattle.edit_model.specs.History.{Entry, History, document_of}
 use Rattle.edit_model.proofs.Resting.{forest-document}
 use Rattle.edit_doc.proofs.Downs.{forth_forest, forth_labels}
@@ -37,7 +38,7 @@ use Rattle.edit_engine.specs.Editing.{Editing}
 use Rattle.edit_engine.specs.Logs.{made_steps, edit_step, entry_steps, log_steps}
 use Rattle.edit_doc.specs.Onward.{with_made, RiseFrom, next_past, at_begin, LeadsOnward, LeadOnward, LeadFrom}
 use Rattle.edit_engine.specs.Replaying.{StayShallow, IsPlainEntry, page_before, LogReplays}
-use Rattle.edit_engine.proofs.ReplayedSteps.{AreContents, own_contents, lab, line_with, edits_replayed, made_lines, makes_replayed}
+use Rattle.edit_engine.proofs.ReplayedSteps.{AreContents, own_contents, lab, line_with, said_wholes, shallow_wholes, edits_replayed, made_lines, makes_replayed}
 
 -- ---- the loose trees of a forest
 
@@ -142,8 +143,12 @@ content_with (n ∷ ns) d next is low rise made l =
 
 -- ---- the lines of entries
 
+-- the changes of an entry, each with the whole contents afterwards
+abbrev pub edits_of : Entry → List Change
+edits_of e = wholes e.edits (at_begin e)
+
 abbrev pub entry_lines : Entry → List StepLine
-entry_lines e = steps.Entry ∷ (made_lines e.made ++ map (line_with (content_in e)) e.edits)
+entry_lines e = steps.Entry ∷ (made_lines e.made ++ map (line_with (content_in e)) (edits_of e))
 
 abbrev pub lines_of : List Entry → List StepLine
 lines_of [] = []
@@ -178,23 +183,23 @@ entry_replayed e g next cap is low now room plain =
     let k = loose_root g in
     let b = begins k e.made g next (no_root g next low) is low now.rise now.made (loose_prunes g is) in
     let f = with_made g e.made in
-    let xs = e.edits in
+    let xs = edits_of e in
     let begin : pruned k f ≡ at_begin e = b.same ∙ ap (λ w. with_made w e.made) (document_left g is ∙ sym now.before) in
     let page : IsPage e.before.document next = subst (λ (w : Forest Content). IsPage w next) (sym now.before) (document_page g next is low) in
     let own = own_contents (at_begin e) (content_in e) (content_with e.made e.before.document next page.forest page.below now.rise now.made) in
-    let s : Starts xs (content_in e) (pruned k f) = subst (λ (w : Forest Content). Starts xs (content_in e) w) (sym begin) (record { fits = now.fits; shallow = plain.shallow; own = own }) in
-    let whole = forth_fits_up k xs f b.prunes b.forest s.fits in
-    let down = forth_down k xs f b.prunes whole.0 whole.1 in
+    let s : Starts xs (content_in e) (pruned k f) = subst (λ (w : Forest Content). Starts xs (content_in e) w) (sym begin) (record { fits = fits_wholes e.edits (at_begin e) now.fits; shallow = shallow_wholes e.edits (at_begin e) plain.shallow; own = own }) in
+    let all = forth_fits_up k xs f b.prunes b.forest s.fits in
+    let down = forth_down k xs f b.prunes all.0 all.1 in
     let past = next_past next e.made in
-    let forest = forth_forest xs f whole.0 b.forest in
+    let forest = forth_forest xs f all.0 b.forest in
     record {
       trees = forth applied xs f;
       forest = forest;
-      below = record { below = λ m h. b.below.below m (omega (arith, h, forth_labels xs f m whole.0)) };
-      document = sym (same_document k (forth applied xs f) refl forest) ∙ (ap document_of (down.same ∙ ap (forth applied xs) begin) ∙ now.after);
+      below = record { below = λ m h. b.below.below m (omega (arith, h, forth_labels xs f m all.0)) };
+      document = sym (same_document k (forth applied xs f) refl forest) ∙ (ap document_of (down.same ∙ (ap (forth applied xs) begin ∙ forth_wholes e.edits (at_begin e))) ∙ now.after);
       go = λ rest r onward m. entry_line m (made_lines e.made) (map (line_with (content_in e)) xs) rest g next cap r
           (makes_replayed e.made g next cap (map (line_with (content_in e)) xs ++ rest) r now.rise room plain.made
-          (edits_replayed k (content_in e) xs f past cap rest r b.prunes b.forest s.fits plain.texts s.shallow s.own onward) (m + 1));
+          (edits_replayed k (content_in e) xs f past cap rest r b.prunes b.forest s.fits (said_wholes (content_in e) e.edits (at_begin e) plain.texts) s.shallow s.own onward) (m + 1));
     }
 
 pub entries_replayed : (es : List Entry) (g : Forest Content) (next from cap : ℕ) (d last : Forest Content) (end : ℕ) → IsForest g → IsBelow g next → next ≤ from → document_of g ≡ d → LeadOnward from d es last end → end ≤ cap → Each IsPlainEntry es → Replayed (lines_of es) g next cap last
@@ -209,15 +214,17 @@ entries_replayed (e ∷ es) g next from cap d last end is low le same lead room 
 
 -- ---- the log of an editor
 
-edits_are : (content : ℕ → Option Content) (xs : List Change) → map edit_step (map (logged_edit content) xs) ≡ map (line_with content) xs
-edits_are content [] = refl
-edits_are content (x ∷ xs) = (let rest = edits_are content xs in λ i. edit_is x i ∷ rest i)
+edits_are : (content : ℕ → Option Content) (xs : List Change) (f : Forest Content) → map edit_step (map (logged_edit content) (wholes xs f)) ≡ map (line_with content) (wholes xs f)
+unfolding wholes
+edits_are content [] f = refl
+edits_are content (x ∷ xs) f = (let rest = edits_are content xs (applied x f) in λ i. edit_is x i ∷ rest i)
   where
-    edit_is : (y : Change) → edit_step (logged_edit content y) ≡ line_with content y
+    edit_is : (y : Change) → edit_step (logged_edit content (whole y f)) ≡ line_with content (whole y f)
     edit_is (Remove n) = refl
     edit_is (Insert n p b) = refl
     edit_is (Move n p b) = refl
     edit_is (SetText n words) = refl
+    edit_is (Splice n at rest taken put) = refl
     edit_is (SetAttributes n list) = refl
 
 makes_are : (ns : List (ℕ × Content)) → flat_map made_steps (map made_node ns) ≡ made_lines ns
@@ -229,7 +236,7 @@ unfolding entry_steps
 entries_are [] = refl
 entries_are (e ∷ es) =
     let makes = makes_are e.made in
-    let edits = edits_are (content_in e) e.edits in
+    let edits = edits_are (content_in e) e.edits (at_begin e) in
     let rest = entries_are es in
     λ i. steps.Entry ∷ ((makes i ++ edits i) ++ rest i)
 

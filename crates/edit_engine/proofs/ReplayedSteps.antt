@@ -1,5 +1,5 @@
 -- The lines of an entry, one after another: none is refused, and they make the nodes and then the changes of the entry.
-use Rattle.std.proofs.Common.{◌≡◌, ℕ, ◌+◌, ◌≤◌, Bool, true, false, true≢false, cond, map, List, [], ◌∷◌, ◌++◌, Option, Some, None, Ok, unwrap_or, refl, sym, ap, subst, ◌∙◌, arith, eqb}
+use Rattle.std.proofs.Common.{◌≡◌, ℕ, ◌+◌, ◌≤◌, Bool, true, false, true≢false, cond, map, List, [], ◌∷◌, ◌++◌, length, Option, Some, None, Ok, unwrap_or, refl, sym, ap, subst, ◌∙◌, arith, eqb}
 use Rattle.std.specs.Option.{option_map, option_map_or, option_and_then}
 use Rattle.dom_model.specs.declared.attributes.Attribute.{Attribute}
 use Rattle.dom_model.specs.declared.Content.{Content}
@@ -14,13 +14,14 @@ use Rattle.dom_model.proofs.Kept.{content_of-link, content_of-unlink}
 use Rattle.dom_model.proofs.Revising.{content_of-revised}
 use Rattle.dom_model.proofs.Pruning.{tree_of-pruned}
 use Rattle.undo_log.specs.Turning.{forth, FitsForth}
-use Rattle.forest_changes.specs.Change.{Change, Remove, Insert, Move, SetText, SetAttributes, IsForest, Fits, applied}
+use Rattle.forest_changes.specs.Change.{Change, Remove, Insert, Move, SetText, Splice, SetAttributes, IsForest, Fits, applied, spliced_at, whole, wholes}
 use Rattle.forest_changes.specs.Down.{Prunes, IsLeft}
 use Rattle.forest_changes.specs.Named.{Each, named}
 use Rattle.forest_changes.proofs.Contents.{here_is}
 use Rattle.forest_changes.proofs.DownChange.{down, up, IsForest-pruned}
 use Rattle.forest_changes.proofs.PrunedChanges.{content_of-pruned}
 use Rattle.forest_changes.proofs.Twice.{given_parent, IsForest-unlink, IsForest-applied}
+use Rattle.forest_changes.proofs.Wholes.{applied_whole}
 use Rattle.edit_doc.proofs.Onwards.{below_past}
 use Rattle.step_text.specs.declared.line.Made.{Made}
 use Rattle.step_text.specs.declared.line.Made.TheVariants as made
@@ -79,6 +80,7 @@ stripped_kept (Move n p b) f h l =
     let loose = IsForest-unlink f q n h.forest child in
     ap (option_map stripped) (content_of-link (unlink f n) p b n l loose.distinct h.here.1.place ∙ content_of-unlink f q n l h.forest.distinct child)
 stripped_kept (SetText n words) f h l = stripped_revised f n (with_chars words) (stripped_chars words) l
+stripped_kept (Splice n at rest taken put) f h l = (let words = spliced_at f n at (length taken) put in stripped_revised f n (with_chars words) (stripped_chars words) l)
 stripped_kept (SetAttributes n list) f h l = stripped_revised f n (with_attributes list) (stripped_attributes list) l
 
 -- each node of a forest has the content that is told, but for characters and attributes
@@ -133,22 +135,51 @@ node_in (Remove n) = n
 node_in (Insert n p b) = n
 node_in (Move n p b) = n
 node_in (SetText n words) = n
+node_in (Splice n at rest taken put) = n
 node_in (SetAttributes n list) = n
 
 -- the line of a change, where each element has the name that its content tells
 abbrev pub line_with : (ℕ → Option Content) → Change → StepLine
 line_with content x = line_of x (element_name (content (node_in x)))
 
+-- ---- changes with whole contents
+
+-- the change isn't one of a part of the characters, and one of all of them is one of a text, where each node has the content that is told
+abbrev pub CanBeSaid : (ℕ → Option Content) → Change → Type 0
+CanBeSaid content (SetText n words) = option_map_or is_text (content n) false ≡ true
+CanBeSaid content (Splice n at rest taken put) = ⊥
+CanBeSaid content _ = Unit {0}
+
+said_whole : (content : ℕ → Option Content) (x : Change) (f : Forest Content) → ChangesText content x → CanBeSaid content (whole x f)
+said_whole content (Remove n) f text = tt
+said_whole content (Insert n p b) f text = tt
+said_whole content (Move n p b) f text = tt
+said_whole content (SetText n words) f text = text
+said_whole content (Splice n at rest taken put) f text = text
+said_whole content (SetAttributes n list) f text = tt
+
+pub said_wholes : (content : ℕ → Option Content) (xs : List Change) (f : Forest Content) → Each (ChangesText content) xs → Each (CanBeSaid content) (wholes xs f)
+unfolding wholes
+said_wholes content [] f texts = tt
+said_wholes content (x ∷ xs) f texts = (said_whole content x f texts.0, said_wholes content xs (applied x f) texts.1)
+
+pub shallow_wholes : (xs : List Change) (f : Forest Content) → StayShallow xs f → StayShallow (wholes xs f) f
+unfolding wholes
+shallow_wholes [] f shallow = tt
+shallow_wholes (x ∷ xs) f shallow =
+    subst (λ (g : Forest Content). (page_depth g ≤ 1000) × StayShallow (wholes xs (applied x f)) g) (sym (applied_whole x f)) (shallow.0, shallow_wholes xs (applied x f) shallow.1)
+
 -- ---- lines of changes, where trees are pruned
 
 module _ (k : ℕ → Bool) (content : ℕ → Option Content) where
-  can_say : (x : Change) (f : Forest Content) → IsForest f → Each (IsLeft k f) (named x) → Fits x (pruned k f) → ChangesText content x → AreContents content (pruned k f) → CanSay x (element_name (content (node_in x))) f
+  can_say : (x : Change) (f : Forest Content) → IsForest f → Each (IsLeft k f) (named x) → Fits x (pruned k f) → CanBeSaid content x → AreContents content (pruned k f) → CanSay x (element_name (content (node_in x))) f
   can_say (Remove n) f is left h text own = tt
   can_say (Insert n p b) f is left h text own = tt
   can_say (Move n p b) f is left h text own = tt
   can_say (SetText n words) f is left h text own =
       ap (λ o. option_map_or is_text o false) (sym (content_of-pruned k f n is left.0))
       ∙ (sym (text_left (content_of (pruned k f) n)) ∙ (ap (λ o. option_map_or is_text o false) (own.are n) ∙ (text_left (content n) ∙ text)))
+  can_say (Splice n at rest taken put) f is left h text own = absurd text
   can_say (SetAttributes n list) f is left h text own =
       ap (option_and_then name_in) (sym (content_of-pruned k f n is left.0)) ∙ named_so (pruned k f) n (content n) h.here (own.are n)
 
@@ -161,7 +192,7 @@ module _ (k : ℕ → Bool) (content : ℕ → Option Content) where
     own : AreContents content g
 
   pub edits_replayed : (xs : List Change) (f : Forest Content) (next cap : ℕ) (rest : List StepLine) (r : Labelled) → Prunes k f → IsForest f
-      → FitsForth applied Fits xs (pruned k f) → Each (ChangesText content) xs → StayShallow xs (pruned k f) → AreContents content (pruned k f)
+      → FitsForth applied Fits xs (pruned k f) → Each (CanBeSaid content) xs → StayShallow xs (pruned k f) → AreContents content (pruned k f)
       → ((m : ℕ) → replayed_from m rest (lab (forth applied xs f) next cap) ≡ Ok r) → (m : ℕ) → replayed_from m (map (line_with content) xs ++ rest) (lab f next cap) ≡ Ok r
   unfolding forth FitsForth
   edits_replayed [] f next cap rest r prunes is fits texts shallow own onward m = onward m

@@ -5,7 +5,7 @@ use Rattle.dom_model.specs.declared.Content.{Content}
 use Rattle.dom_model.specs.declared.Content.TheVariants.{Document, Element, Words, Remark}
 use Rattle.dom_model.specs.Document.{page_depth}
 use Rattle.dom_model.specs.Forest.{Forest}
-use Rattle.forest_changes.specs.Change.{Change, SetText, applied}
+use Rattle.forest_changes.specs.Change.{Change, SetText, Splice, applied}
 use Rattle.forest_changes.specs.Leaves.{IsBelow}
 use Rattle.forest_changes.specs.Named.{Each}
 use Rattle.edit_model.specs.History.{Entry, document_of}
@@ -28,6 +28,7 @@ can_be_made (Remark chars) = false
 -- is told
 abbrev pub ChangesText : (ℕ → Option Content) → Change → Type 0
 ChangesText content (SetText n words) = option_map_or is_text (content n) false ≡ true
+ChangesText content (Splice n at rest taken put) = option_map_or is_text (content n) false ≡ true
 ChangesText content _ = Unit {0}
 
 -- after each of the changes no node of the document is deeper than 1,000

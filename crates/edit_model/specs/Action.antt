@@ -123,7 +123,9 @@ may_extract s from end target =
     && not (is_within s.trees end target)))))))))
 
 -- The steps are one action, since between them nodes of the document stand in loose trees, and
--- islands among them.
+-- islands among them. Wherever insertParagraph extracts a tail, this is what the standard's single
+-- edits do, each left out by itself where it may not be made (`tails_are_single_edits` and
+-- `paragraphs_extract_singly` of crate caret_laws).
 unfoldable pub extracted : Point → ℕ → ℕ → State → State
 extracted from end target s =
     if may_extract s from end target then stepped_all (tail_of s from end target) s else s

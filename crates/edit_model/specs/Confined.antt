@@ -1,6 +1,6 @@
 -- What a running command may change: only what lies inside its affected editing host, and what it
 -- made itself.
-use Rattle.std.specs.Prelude.{ℕ, ◌+◌, ◌^◌, Bool, true, false, ◌||◌, ◌&&◌, not, ◌==◌, nat_le, nat_lt, List, ◌++◌, length, take, drop, Option, Some, None, bytes_eq, is_none}
+use Rattle.std.specs.Prelude.{ℕ, ◌+◌, ◌^◌, Bool, true, false, ◌||◌, ◌&&◌, not, ◌==◌, nat_le, nat_lt, List, length, Option, Some, None, bytes_eq, is_none}
 use Rattle.std.specs.Option.{option_map_or}
 use Rattle.dom_model.specs.declared.Content.{Content}
 use Rattle.dom_model.specs.declared.Content.TheVariants.{Words}
@@ -8,6 +8,7 @@ use Rattle.dom_model.specs.declared.attributes.Attribute.{Attribute}
 use Rattle.dom_model.specs.AttributeList.{value_of}
 use Rattle.dom_model.specs.Contents.{is_parent_at, attributes_of, length_of, is_break}
 use Rattle.dom_model.specs.Editing.{is_editable}
+pub use Rattle.dom_model.specs.Room.{spliced}
 use Rattle.dom_model.specs.Forest.{Forest, is_label, count_of, tree_of, parent_of, next_of, content_of}
 use Rattle.live_range.specs.declared.places.Point.{Point}
 use Rattle.point_order.specs.PointOrder.{is_within, is_in_document, is_placed}
@@ -78,10 +79,6 @@ may_go s n (Some o) p b =
 
 unfoldable pub may_move : State → ℕ → ℕ → Option ℕ → Bool
 may_move s n p b = may_go s n (parent_of s.trees n) p b
-
--- the list with other items in place of some of it
-abbrev pub spliced : List ℕ → ℕ → ℕ → List ℕ → List ℕ
-spliced chars at count put = take at chars ++ (put ++ drop (at + count) chars)
 
 -- the data of a text change, within its length, to other data of at most 4,294,967,295 characters
 abbrev pub may_change : Option Content → ℕ → ℕ → List ℕ → Bool

@@ -1,5 +1,5 @@
 -- The six elementary edits, and what each makes of a state.
-use Rattle.std.specs.Prelude.{ℕ, Bool, List, [], ◌∷◌, ◌++◌, length, Option, Some, None, if◌then◌else◌, unwrap_or}
+use Rattle.std.specs.Prelude.{ℕ, ◌+◌, ◌-◌, Bool, List, [], ◌∷◌, ◌++◌, length, take, drop, Option, Some, None, if◌then◌else◌, unwrap_or}
 use Rattle.dom_model.specs.declared.Content.{Content}
 use Rattle.dom_model.specs.declared.Content.TheVariants.{Element, Words}
 use Rattle.dom_model.specs.AttributeList.{set_in, unset_in}
@@ -99,13 +99,14 @@ is_made_edit (Replace n at count put) s = may_replace s n at count put
 is_made_edit (Set n name value) s = may_set s n name value
 is_made_edit (Unset n name) s = may_unset s n name
 
--- the edit as a change with the whole contents afterwards
+-- the edit as a change
 unfoldable pub change_of : Edit → Forest Content → Change
 change_of (Insert p b n) f = change.Insert n p b
 change_of (Remove n) f = change.Remove n
 change_of (Move n p b) f = change.Move n p b
 change_of (Replace n at count put) f =
-    change.SetText n (spliced (unwrap_or (chars_of f n) []) at count put)
+    let chars : List ℕ = unwrap_or (chars_of f n) [] in
+    change.Splice n at (length chars - (at + count)) (take count (drop at chars)) put
 change_of (Set n name value) f =
     change.SetAttributes n (set_in (unwrap_or (attributes_of f n) []) name value)
 change_of (Unset n name) f =

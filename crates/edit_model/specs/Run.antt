@@ -43,7 +43,7 @@ unfoldable pub edits_on : {s t : State} → Reaches s t → List Edit
 edits_on here = []
 edits_on (onward {t = t} q a) = edits_on q ++ edits_of a t
 
--- the same as changes with whole contents
+-- the same as changes
 abbrev pub changes_in : List Step → State → List forest.Change
 changes_in [] s = []
 changes_in (Copy content ∷ xs) s = changes_in xs (stepped (Copy content) s)

@@ -11,7 +11,7 @@ use Rattle.edit_model.specs.declared.settings.Flags.{Flags}
 -- label of their roots. Then come the live points, the override of each command, and the flags; the
 -- label that is drawn next, the cap, and what the next label was as the running command began; the
 -- affected editing host, and whether the command is a keeping one; and the edits that it has made,
--- in order, each with the whole contents afterwards, and the nodes that it has made, by rising
+-- in order, and the nodes that it has made, by rising
 -- label, each with its content as made.
 pub record State : Type 0 where
   pub trees : Forest Content

@@ -1,6 +1,6 @@
 //! The parts of a document under edits that look at its trees and its live points alone: the
-//! numbers of a tree and what it bears, the contents that edits make of others, how the points
-//! follow an edit, and the overrides, which are unset where the active range changes.
+//! numbers of a tree and what it bears, what edits replace of contents, how the points follow an
+//! edit, and the overrides, which are unset where the active range changes.
 #![tactic(auto)]
 
 mod following;
@@ -16,7 +16,7 @@ pub use overrides::{
     ActiveRange, Watch, copy_overrides, no_overrides, place_of, unset_overrides,
     unset_overrides_if_range_changed, watch_range,
 };
-pub use texts::{fault_of, has_value, replaced, tail_of};
+pub use texts::{TextPart, fault_of, has_value, replaced_part, tail_of};
 pub use trees::{has_no_kept_leaves, is_in_document, tree_counts};
 
 /// How many nodes and characters a tree has; only the characters of texts count. `depth` is its

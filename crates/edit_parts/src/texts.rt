@@ -1,9 +1,8 @@
-//! Contents that edits make of others.
+//! What edits replace of contents.
 
-ghost use Rattle.std.specs.Prelude.{◌≡◌, ◌<◌, ◌≤◌, ◌-◌, ◌^◌, [], length, drop, Some, IfOk, IfSome, is_some, unwrap_or};
+ghost use Rattle.std.specs.Prelude.{◌≡◌, ◌<◌, ◌+◌, ◌-◌, ◌^◌, [], length, take, drop, Some, IfOk, IfSome, is_some, unwrap_or};
 ghost use Rattle.dom_model.specs.Contents.{chars_in};
-ghost use Rattle.edit_model.specs.Confined.{has_value, may_change, spliced};
-ghost use Rattle.edit_model.specs.Edit.{with_replaced};
+ghost use Rattle.edit_model.specs.Confined.{has_value, may_change};
 
 use edit_model::EditFault;
 use node_arena::{Attributes, Chars, Content, MakeFault, Name};
@@ -32,58 +31,50 @@ pub fn fault_of(fault: MakeFault) -> EditFault
     }
 }
 
-// The characters with others in place of those from `at` up to `end`.
-fn spliced(
-    alloc: Global,
-    chars: &[char],
-    at: usize,
-    end: usize,
-    put: &[char],
-) -> Result<Chars, AllocError>
-    requires order { at ≤ end }
-    requires within { end ≤ length chars.now }
-    ensures { IfOk result (λ list. list ≡ spliced chars.now at (end - at) put.now) }
-{
-    let mut list = Vec::with_capacity(alloc, chars.len() - (end - at) + put.len())?;
-    list.extend_from_slice(&chars[..at])?;
-    list.extend_from_slice(put)?;
-    list.extend_from_slice(&chars[end..])?;
-    Ok(Chars::from_vec(list))
+/// Characters of a text that give way to others, and how many stand behind them.
+#[derive(Clone, Copy)]
+pub struct TextPart<'a> {
+    pub taken: &'a [char],
+    pub rest: u32,
 }
 
-/// The characters of a text with others in place of `count` of them; `None` where there are not as
-/// many, where they would stay the same, and where they would be more than 4,294,967,295.
-pub fn replaced(
-    alloc: Global,
-    content: &Content,
+/// The part of a text that others replace: `count` characters from the offset `at` on. `None` where
+/// there are not as many, where they would stay the same, and where the text would have more than
+/// 4,294,967,295.
+pub fn replaced_part<'a>(
+    content: &'a Content,
     at: u32,
     count: u32,
     put: &[char],
-) -> Result<Option<Chars>, AllocError>
-    ensures changes { IfOk result (λ words. is_some words
-        ≡ may_change (Some content.now) at count put.now) }
-    ensures words { IfOk result (λ words. IfSome words (λ list. Content.Words list
-        ≡ with_replaced at count put.now content.now)) }
-    ensures short { IfOk result (λ words. IfSome words (λ list. length list < 2 ^ 32)) }
+) -> Option<TextPart<'a>>
+    ensures changes { is_some result ≡ may_change (Some content.now) at count put.now }
+    ensures taken { IfSome result (λ part. part.taken.now
+        ≡ take count (drop at (unwrap_or (chars_in content.now) []))) }
+    ensures rest { IfSome result (λ part. part.rest
+        ≡ length (unwrap_or (chars_in content.now) []) - (at + count)) }
 {
     let Content::Words(chars) = content else {
-        return Ok(None);
+        return None;
     };
     let chars = chars.as_slice();
     let at = at as usize;
     let count = count as usize;
     let end = at + count;
     if end > chars.len() {
-        return Ok(None);
+        return None;
     }
     let kept = chars.len() - count;
     if kept > MOST_CHARS || put.len() > MOST_CHARS - kept {
-        return Ok(None);
+        return None;
     }
-    if &chars[at..end] == put {
-        return Ok(None);
+    let taken = &chars[at..end];
+    if taken == put {
+        return None;
     }
-    Ok(Some(spliced(alloc, chars, at, end, put)?))
+    Some(TextPart {
+        taken,
+        rest: (chars.len() - end) as u32,
+    })
 }
 
 /// A copy of the characters of a node past an offset, and how many they are.

@@ -22,7 +22,7 @@ pub fn no_reply(alloc: Global, kind: QueryKind) -> Reply
     ensures { result ≡ no_reply kind }
 {
     match kind {
-        QueryKind::Value => Reply::Wording(Chars::from_vec(Vec::new(alloc))),
+        QueryKind::Value => Reply::Wording(Chars::new(alloc)),
         _ => Reply::Flag(false),
     }
 }

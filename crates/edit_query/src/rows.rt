@@ -229,7 +229,7 @@ fn chars_of(alloc: Global, bytes: &[u8]) -> Result<Chars, AllocError>
     ensures { IfOk result (λ chars. chars ≡ bytes.now) }
 {
     let chars: Vec<char> = bytes.iter().map(|b| *b as char).collect(alloc)?;
-    Ok(Chars::from_vec(chars))
+    Chars::from_vec(chars)
 }
 
 // The type of the first leaf; where there is none it is empty.

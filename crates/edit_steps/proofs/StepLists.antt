@@ -23,6 +23,7 @@ named_labels (step.Remove n) = refl
 named_labels (step.Insert n p b) = ap (λ ls. n.label ∷ p.label ∷ ls) (labels_listed b)
 named_labels (step.Move n p b) = ap (λ ls. n.label ∷ p.label ∷ ls) (labels_listed b)
 named_labels (step.SetText n words) = refl
+named_labels (step.Splice s) = refl
 named_labels (step.SetAttributes n list) = refl
 
 -- which nodes are held doesn't depend on the forest

@@ -7,7 +7,7 @@ use Rattle.dom_model.specs.ArenaState.{ArenaState, IsSlotted, slot_of}
 use Rattle.node_arena.specs.declared.NodeRef.{NodeRef}
 use Rattle.node_arena.specs.Held.{Holds, label}
 use Rattle.undo_log.specs.Turning.{back, forth, inverses_back, inverses_forth, FitsBack, FitsForth}
-use Rattle.forest_changes.specs.Change.{Change, Remove, Insert, Move, SetText, SetAttributes, Fits, applied, inverse}
+use Rattle.forest_changes.specs.Change.{Change, Remove, Insert, Move, SetText, Splice, SetAttributes, Fits, applied, inverse}
 use Rattle.forest_changes.specs.Named.{listed, Each}
 use Rattle.edit_steps.specs.declared.step.Step.{Step}
 use Rattle.edit_steps.specs.declared.step.Step.TheVariants as step
@@ -18,6 +18,7 @@ change_of (step.Remove n) = Remove n.label
 change_of (step.Insert n p b) = Insert n.label p.label (label b)
 change_of (step.Move n p b) = Move n.label p.label (label b)
 change_of (step.SetText n words) = SetText n.label words
+change_of (step.Splice s) = Splice s.node.label s.at s.rest s.taken s.put
 change_of (step.SetAttributes n list) = SetAttributes n.label list
 
 abbrev pub changes_of : List Step → List Change
@@ -39,6 +40,7 @@ step_inverse (step.Insert n p b) a = step.Remove n
 step_inverse (step.Move n p b) a = step.Move n (ref_at a (unwrap_or (parent_of a.trees n.label) 0))
     (option_map (ref_at a) (next_of a.trees n.label))
 step_inverse (step.SetText n words) a = step.SetText n (unwrap_or (chars_of a.trees n.label) words)
+step_inverse (step.Splice s) a = step.Splice (record s { taken = s.put; put = s.taken })
 step_inverse (step.SetAttributes n list) a =
     step.SetAttributes n (unwrap_or (attributes_of a.trees n.label) list)
 
@@ -48,6 +50,7 @@ nodes_of (step.Remove n) = n ∷ []
 nodes_of (step.Insert n p b) = n ∷ p ∷ listed b
 nodes_of (step.Move n p b) = n ∷ p ∷ listed b
 nodes_of (step.SetText n words) = n ∷ []
+nodes_of (step.Splice s) = s.node ∷ []
 nodes_of (step.SetAttributes n list) = n ∷ []
 
 abbrev pub nodes_in : List Step → List NodeRef

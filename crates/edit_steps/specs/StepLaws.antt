@@ -27,6 +27,7 @@ change_of-inverse (step.Remove n) a =
     (label-ref a (next_of a.trees n.label))
 change_of-inverse (step.Insert n p b) a = refl
 change_of-inverse (step.SetText n words) a = refl
+change_of-inverse (step.Splice s) a = refl
 change_of-inverse (step.SetAttributes n list) a = refl
 change_of-inverse (step.Move n p b) a =
     ap (Move n.label (unwrap_or (parent_of a.trees n.label) 0))
@@ -72,6 +73,7 @@ held-inverse (step.Remove n) a h =
     )
 held-inverse (step.Insert n p b) a h = (h.held.0, tt)
 held-inverse (step.SetText n words) a h = h.held
+held-inverse (step.Splice s) a h = h.held
 held-inverse (step.SetAttributes n list) a h = h.held
 held-inverse (step.Move n p b) a h =
     let q = unwrap_or (parent_of a.trees n.label) 0 in
@@ -140,5 +142,6 @@ step_step_again (step.Move n p b) a h =
     ∙ refs_are a h.slotted b (each_listed (Holds a) b h.held.1.1)) i)
 step_step_again (step.SetText n words) a h =
     rewrite_parts n.label _ _ (turns (change_of (step.SetText n words)) a.trees h.fits).same n
+step_step_again (step.Splice s) a h = refl
 step_step_again (step.SetAttributes n list) a h =
     redress_parts n.label _ _ (turns (change_of (step.SetAttributes n list)) a.trees h.fits).same n

@@ -6,6 +6,8 @@
 #![tactic(auto)]
 
 pub mod laws;
+mod splice;
 mod step;
 
+pub use splice::Splice;
 pub use step::Step;

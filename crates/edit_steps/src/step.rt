@@ -3,6 +3,7 @@
 ghost use Rattle.std.specs.Prelude.{◌≡◌, ◌<◌};
 ghost use Rattle.edit_steps.specs.Step.{StepFits, step_applied, step_inverse};
 
+use crate::splice::Splice;
 use node_arena::{Arena, Attributes, Chars, NodeRef};
 use std::marker::Brand;
 use std::sync::ledger::{Blank, Ledger};
@@ -10,8 +11,8 @@ use step_count::Steps;
 use undo_log::Invertible;
 
 /// An edit of an arena that takes another one back. Remove becomes Insert and the reverse; Move
-/// exchanges the place of the node with the one that it has, and SetText and SetAttributes exchange
-/// the contents.
+/// exchanges the place of the node with the one that it has, SetText and SetAttributes exchange the
+/// contents, and Splice exchanges what it takes with what it puts.
 #[derive(Drop)]
 pub enum Step {
     /// Makes the tree of a node loose.
@@ -35,6 +36,8 @@ pub enum Step {
         node: NodeRef,
         words: Chars,
     },
+    /// Replaces characters of a Text or Comment node in place.
+    Splice(Splice),
     /// Gives an element another attribute list.
     SetAttributes {
         node: NodeRef,
@@ -72,6 +75,7 @@ impl Invertible<Arena> for Step {
                 before,
             } => *self = moved::<Brand>(arena, *node, *parent, *before, Blank::new(1)),
             Step::SetText { node, words } => arena.swap_words(*node, words),
+            Step::Splice(splice) => splice.apply(arena),
             Step::SetAttributes { node, list } => arena.swap_attributes(*node, list),
         }
     }

@@ -1,9 +1,9 @@
 -- Changes of a forest with one more leaf, whose label is above all others.
-use Rattle.std.proofs.Common.{◌≡◌, ℕ, zero, suc, ◌<◌, true, false, cond, Option, Some, None, IfSome, unwrap_or, refl, sym, ap, subst, ◌∙◌, inl, inr, arith, eqb, nat_lt}
+use Rattle.std.proofs.Common.{◌≡◌, ℕ, zero, suc, ◌<◌, true, false, cond, length, Option, Some, None, IfSome, unwrap_or, refl, sym, ap, subst, ◌∙◌, inl, inr, arith, eqb, nat_lt}
 use Rattle.std.proofs.lemmas.Bool.Decides.{eqb_tells, nat_tests}
-use Rattle.std.specs.Option.{option_map_or}
+use Rattle.std.specs.Option.{option_map_or, option_and_then}
 use Rattle.dom_model.specs.declared.Content.{Content}
-use Rattle.dom_model.specs.Contents.{may_have_children, has_chars, is_element, with_chars, with_attributes}
+use Rattle.dom_model.specs.Contents.{may_have_children, has_chars, is_element, chars_in, chars_of, with_chars, with_attributes}
 use Rattle.dom_model.specs.Forest.{Forest, join, with_leaf, count_of, content_of, parent_of, tree_of, without, put_under, put_rising, link, unlink, CanPut}
 use Rattle.dom_model.specs.Forest.Forest.{Nil, Tree}
 use Rattle.dom_model.specs.Revised.{revised}
@@ -15,9 +15,10 @@ use Rattle.dom_model.proofs.Kept.{content_of-with_leaf_other}
 use Rattle.dom_model.proofs.Links.{total-with_leaf, parent_of-with_leaf, parent_count, tree_is, total-link}
 use Rattle.dom_model.proofs.NodesKept.{nodes-with_leaf}
 use Rattle.dom_model.proofs.Revising.{total-revised}
-use Rattle.forest_changes.specs.Change.{Change, Remove, Insert, Move, SetText, SetAttributes, IsForest, Fits, applied}
+use Rattle.forest_changes.specs.Change.{Change, Remove, Insert, Move, SetText, Splice, SetAttributes, IsForest, Fits, spliced_at, applied}
 use Rattle.forest_changes.specs.Leaves.{IsBelow, IsMade, Beside}
 use Rattle.forest_changes.proofs.Contents.{stands}
+use Rattle.forest_changes.proofs.Splices.{HasPart-same, spliced_at-same, part_chars, words_short}
 use Rattle.forest_changes.proofs.Twice.{given_parent, IsForest-unlink, IsForest-link, IsForest-rewritten, IsForest-redressed}
 
 other : (l n : ℕ) → n < l → eqb l n ≡ false
@@ -161,6 +162,16 @@ module _ (l : ℕ) (c : Content) where
         fits = record { forest = IsForest-with_leaf f h.forest low made; here = (ap (λ o. option_map_or has_chars o false) (same_content f n low lt) ∙ h.here.0, h.here.1) };
         same = revised-with_leaf l c f n (with_chars words) lt;
         forest = IsForest-rewritten f n words h.here.1 h.forest;
+        below = still_below f (revised f n (with_chars words)) low (λ m. total-revised n (with_chars words) (λ j. cond (eqb j m) 1 0) f);
+      }
+  beside (Splice n at rest taken put) f low made h =
+      let lt = low.below n (stands f n has_chars (part_chars f n at rest taken put h.here)) in
+      let e : chars_of (with_leaf f l c) n ≡ chars_of f n = ap (option_and_then chars_in) (same_content f n low lt) in
+      let words = spliced_at f n at (length taken) put in
+      record {
+        fits = record { forest = IsForest-with_leaf f h.forest low made; here = HasPart-same f (with_leaf f l c) n at rest taken put e h.here };
+        same = ap (λ chars. revised (with_leaf f l c) n (with_chars chars)) (spliced_at-same f (with_leaf f l c) n at (length taken) put e) ∙ revised-with_leaf l c f n (with_chars words) lt;
+        forest = IsForest-rewritten f n words (words_short f n at rest taken put h.here) h.forest;
         below = still_below f (revised f n (with_chars words)) low (λ m. total-revised n (with_chars words) (λ j. cond (eqb j m) 1 0) f);
       }
   beside (SetAttributes n list) f low made h =

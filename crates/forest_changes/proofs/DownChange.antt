@@ -1,22 +1,24 @@
 -- A change that names only what is left of a forest is the change of what is left.
-use Rattle.std.proofs.Common.{◌≡◌, ℕ, ◌+◌, ◌<◌, ◌≤◌, Bool, true, false, cond, Option, Some, None, IsSome, IfSome, unwrap_or, refl, sym, ap, subst, ◌∙◌, inl, inr, arith, eqb}
+use Rattle.std.proofs.Common.{◌≡◌, ℕ, ◌+◌, ◌<◌, ◌≤◌, Bool, true, false, cond, length, Option, Some, None, IsSome, IfSome, unwrap_or, refl, sym, ap, subst, ◌∙◌, inl, inr, arith, eqb}
 use Rattle.std.proofs.lemmas.Bool.Decides.{eqb_tells}
 use Rattle.std.specs.Prelude.{◌==◌}
 use Rattle.std.specs.Option.{option_map_or, option_and_then}
 use Rattle.dom_model.specs.declared.Content.{Content}
-use Rattle.dom_model.specs.Contents.{may_have_children, has_chars, is_element, chars_in, attributes_in, with_chars, with_attributes}
+use Rattle.dom_model.specs.Contents.{may_have_children, has_chars, is_element, chars_in, attributes_in, chars_of, with_chars, with_attributes}
 use Rattle.dom_model.specs.Forest.{Forest, tops, times, count_of, IsDistinct, parent_of, children_of, next_of, after_in, without, link, unlink}
 use Rattle.dom_model.specs.Forest.Forest.{Nil, Tree}
+use Rattle.dom_model.specs.Revised.{revised}
 use Rattle.dom_model.specs.Pruned.{pruned, IsWhole}
 use Rattle.dom_model.specs.ArenaState.{CanLink}
 use Rattle.dom_model.proofs.Totals.{total-unlink}
 use Rattle.dom_model.proofs.Stands.{true_or_false, parent_stands, times-tops}
 use Rattle.dom_model.proofs.Links.{seen, found_count, parent_count, next_here}
 use Rattle.dom_model.proofs.Pruning.{count_of-pruned, IsDistinct-pruned, RisesFrom-pruned, seek-pruned, tree_of-pruned, parent_of-pruned, children_of-pruned, whole_out}
-use Rattle.forest_changes.specs.Change.{Change, Remove, Insert, Move, SetText, SetAttributes, IsForest, Fits, applied, inverse}
+use Rattle.forest_changes.specs.Change.{Change, Remove, Insert, Move, SetText, Splice, SetAttributes, IsForest, Fits, spliced_at, applied, inverse}
 use Rattle.forest_changes.specs.Named.{named, listed, Each}
 use Rattle.forest_changes.specs.Down.{Prunes, IsLeft, GoesDown}
 use Rattle.forest_changes.proofs.Contents.{stands}
+use Rattle.forest_changes.proofs.Splices.{HasPart-same, spliced_at-same, part_chars}
 use Rattle.dom_model.proofs.DropTree.{without_absent}
 use Rattle.forest_changes.proofs.Twice.{given_parent, IsForest-unlink, count_of-applied}
 use Rattle.forest_changes.proofs.PrunedChanges.{pruned-unlink, pruned-link, pruned-revised, CanPut-pruned, content_of-pruned}
@@ -149,6 +151,14 @@ module _ (k : ℕ → Bool) where
       let same = pruned-revised k f n (with_chars words) in
       let rest = after (SetText n words) f prunes fits same in
       record { fits = fits; same = same; turns = λ i. SetText n (unwrap_or (option_and_then chars_in (c i)) words); names = (hs.0, tt); prunes = rest.0; stays = rest.1 }
+  down (Splice n at rest taken put) f prunes h hs =
+      let c : chars_of (pruned k f) n ≡ chars_of f n = ap (option_and_then chars_in) (content_of-pruned k f n h.forest hs.0) in
+      let fits : Fits (Splice n at rest taken put) (pruned k f) = record { forest = IsForest-pruned f prunes.document h.forest; here = HasPart-same f (pruned k f) n at rest taken put c h.here } in
+      let words = spliced_at f n at (length taken) put in
+      let same : pruned k (revised f n (with_chars words)) ≡ revised (pruned k f) n (with_chars (spliced_at (pruned k f) n at (length taken) put)) =
+      pruned-revised k f n (with_chars words) ∙ ap (λ chars. revised (pruned k f) n (with_chars chars)) (sym (spliced_at-same f (pruned k f) n at (length taken) put c)) in
+      let left = after (Splice n at rest taken put) f prunes fits same in
+      record { fits = fits; same = same; turns = refl; names = (hs.0, tt); prunes = left.0; stays = left.1 }
   down (SetAttributes n list) f prunes h hs =
       let c = content_of-pruned k f n h.forest hs.0 in
       let fits : Fits (SetAttributes n list) (pruned k f) = record { forest = IsForest-pruned f prunes.document h.forest; here = ap (λ o. option_map_or is_element o false) c ∙ h.here } in
@@ -191,6 +201,9 @@ module _ (k : ℕ → Bool) where
   up (SetText n words) f prunes ok h =
       let here = stands (pruned k f) n has_chars h.here.0 in
       (record { forest = ok; here = (sym (ap (λ o. option_map_or has_chars o false) (content_of-pruned k f n ok here)) ∙ h.here.0, h.here.1) }, (here, tt))
+  up (Splice n at rest taken put) f prunes ok h =
+      let here = stands (pruned k f) n has_chars (part_chars (pruned k f) n at rest taken put h.here) in
+      (record { forest = ok; here = HasPart-same (pruned k f) f n at rest taken put (sym (ap (option_and_then chars_in) (content_of-pruned k f n ok here))) h.here }, (here, tt))
   up (SetAttributes n list) f prunes ok h =
       let here = stands (pruned k f) n is_element h.here in
       (record { forest = ok; here = sym (ap (λ o. option_map_or is_element o false) (content_of-pruned k f n ok here)) ∙ h.here }, (here, tt))

@@ -1,8 +1,10 @@
 pub mod Places
 pub mod Contents
+pub mod Splices
 pub mod Twice
 pub mod BesideLeaf
 pub mod PrunedChanges
 pub mod DownChange
 pub mod ChangeLists
 pub mod ManyLeaves
+pub mod Wholes

@@ -1,5 +1,5 @@
 -- A change made and taken back leaves the forest and the change as they were.
-use Rattle.std.proofs.Common.{◌≡◌, ◌≢◌, ◌^◌, ℕ, zero, suc, ◌<◌, ◌≤◌, true, false, cond, List, length, Option, Some, None, IsSome, IfSome, unwrap_or, refl, sym, ap, subst, ◌∙◌, inl, inr, arith, eqb}
+use Rattle.std.proofs.Common.{◌≡◌, ◌≢◌, ◌^◌, ℕ, zero, suc, ◌<◌, ◌≤◌, true, false, cond, List, ◌++◌, length, Option, Some, None, IsSome, IfSome, unwrap_or, refl, sym, ap, subst, ◌∙◌, inl, inr, arith, eqb}
 use Rattle.std.specs.Option.{option_map, option_map_or, option_and_then}
 use Rattle.dom_model.specs.declared.attributes.Attribute.{Attribute}
 use Rattle.dom_model.specs.declared.Content.{Content}
@@ -18,10 +18,11 @@ use Rattle.dom_model.proofs.Revising.{total-revised, RisesFrom-revised, parent_o
 use Rattle.dom_model.proofs.NodesKept.{nodes-link, nodes-unlink, nodes-revised, chars_node, attributes_node}
 use Rattle.undo_log.specs.Turning.{FitsBack, FitsForth, TurnsBack, TurnsForth}
 use Rattle.undo_log.proofs.Turns.{turns_back, turns_forth}
-use Rattle.forest_changes.specs.Change.{Change, IsForest, Fits, applied, inverse, Turns}
+use Rattle.forest_changes.specs.Change.{Change, IsForest, Fits, spliced_at, applied, inverse, Turns}
 use Rattle.dom_model.specs.Change as change
 use Rattle.forest_changes.proofs.Places.{without-put_under, tree_of-put_under, without-put_rising, put_rising_back, put_under_back}
 use Rattle.forest_changes.proofs.Contents.{revised_back, chars_back, attributes_back, chars_set, attributes_set, chars_there, attributes_there, still_chars, still_element, stands}
+use Rattle.forest_changes.proofs.Splices.{words_short, part_back, words_back}
 
 -- a linked tree made loose again
 pub unlink-link : (f : Forest Content) (p : ℕ) (b : Option ℕ) (n : ℕ) → IsForest f → CanPut f p b n → unlink (link f p b n) n ≡ f
@@ -183,6 +184,15 @@ turns (change.SetText n words) f h =
       back = rw old (revised_back f n (with_chars words) (with_chars there.0) h.forest.distinct (λ s e. chars_back s.content words there.0 (sym (ap (λ o. option_and_then chars_in (option_map (λ (t : Seen Content). t.content) o)) e) ∙ old)));
       same = λ i. change.SetText n (unwrap_or (now i) (unwrap_or (chars_of f n) words));
     }
+turns (change.Splice n at rest taken put) f h =
+    let words = spliced_at f n at (length taken) put in
+    let old = h.here.front ++ (taken ++ h.here.back) in
+    let again : spliced_at (revised f n (with_chars words)) n at (length put) taken ≡ old = words_back f n at rest taken put h.here h.forest in
+    record {
+      fits = record { forest = IsForest-rewritten f n words (words_short f n at rest taken put h.here) h.forest; here = part_back f n at rest taken put h.here h.forest };
+      back = ap (λ chars. revised (revised f n (with_chars words)) n (with_chars chars)) again ∙ revised_back f n (with_chars words) (with_chars old) h.forest.distinct (λ s e. chars_back s.content words old (sym (ap (λ o. option_and_then chars_in (option_map (λ (t : Seen Content). t.content) o)) e) ∙ h.here.chars));
+      same = refl;
+    }
 turns (change.SetAttributes n list) f h =
     let there = attributes_there f n h.here in
     let old : attributes_of f n ≡ Some there.0 = there.1 in
@@ -202,6 +212,7 @@ count_of-applied (change.Move n p b) f h l =
     let g = IsForest-unlink f (unwrap_or (parent_of f n) 0) n h.forest (given_parent f n h.here.0) in
     total-link (unlink f n) p b n g.distinct h.here.1.place (λ m _. cond (eqb m l) 1 0) ∙ total-unlink (λ m _. cond (eqb m l) 1 0) f n
 count_of-applied (change.SetText n words) f h l = total-revised n (with_chars words) (λ m. cond (eqb m l) 1 0) f
+count_of-applied (change.Splice n at rest taken put) f h l = total-revised n (with_chars (spliced_at f n at (length taken) put)) (λ m. cond (eqb m l) 1 0) f
 count_of-applied (change.SetAttributes n list) f h l = total-revised n (with_attributes list) (λ m. cond (eqb m l) 1 0) f
 
 pub IsForest-applied : (x : Change) (f : Forest Content) → Fits x f → IsForest (applied x f)

@@ -6,14 +6,14 @@
 //! nothing.
 #![tactic(auto)]
 
-ghost use Rattle.std.specs.Prelude.{◌≡◌, ◌≢◌, ◌<◌, ◌==◌, ℕ, Bool, false, true, Option, Some, None, IfSome, List};
+ghost use Rattle.std.specs.Prelude.{◌≡◌, ◌≢◌, ◌<◌, ◌==◌, ℕ, Bool, false, true, Option, Some, None, IfSome, List, ◌++◌, length};
 ghost use Rattle.dom_model.specs.declared.Content.{Content};
 ghost use Rattle.dom_model.specs.Contents.{is_parent_at};
 ghost use Rattle.dom_model.specs.Forest.{Forest, count_of, parent_of, without, with_leaf, IsWithin};
 ghost use Rattle.dom_model.specs.Pruned.{pruned, IsWhole};
 ghost use Rattle.dom_model.specs.ArenaState.{ArenaState, IsValid};
-ghost use Rattle.undo_log.specs.Turning.{FitsBack, FitsForth, TurnsBack, TurnsForth};
-ghost use Rattle.forest_changes.specs.Change.{Change, Move, IsForest, Fits, Turns, applied, inverse};
+ghost use Rattle.undo_log.specs.Turning.{forth, FitsBack, FitsForth, TurnsBack, TurnsForth};
+ghost use Rattle.forest_changes.specs.Change.{Change, Move, IsForest, Fits, Turns, applied, inverse, whole, wholes};
 ghost use Rattle.forest_changes.specs.Named.{named, named_in, Each};
 ghost use Rattle.forest_changes.specs.Down.{Prunes, IsLeft, GoesDown, GoBackDown, GoForthDown};
 ghost use Rattle.forest_changes.specs.Leaves.{IsBelow, EachMade, BackBeside, ForthBeside, HasMade};
@@ -43,6 +43,30 @@ pub fn turn_back()
         → TurnsBack applied inverse Fits xs f }
     ensures forth { (xs : List Change) (f : Forest Content) → FitsForth applied Fits xs f
         → TurnsForth applied inverse Fits xs f }
+{}
+
+/// A change with the whole contents afterwards is made where the change is, makes the same of the
+/// forest, names the same labels, and is taken back by the same with whole contents. So it is of
+/// changes one after another. Where trees are pruned that changes don't name, they have the same
+/// whole contents.
+pub fn wholes_are_changes()
+    ensures fits { (x : Change) (f : Forest Content) → Fits x f → Fits (whole x f) f }
+    ensures same { (x : Change) (f : Forest Content) → applied (whole x f) f ≡ applied x f }
+    ensures names { (x : Change) (f : Forest Content) → named (whole x f) ≡ named x }
+    ensures back { (x : Change) (f : Forest Content) → Fits x f → inverse (whole x f) f
+        ≡ whole (inverse x f) (applied x f) }
+    ensures all_fit { (xs : List Change) (f : Forest Content) → FitsForth applied Fits xs f
+        → FitsForth applied Fits (wholes xs f) f }
+    ensures all_same { (xs : List Change) (f : Forest Content) → forth applied (wholes xs f) f
+        ≡ forth applied xs f }
+    ensures all_names { (xs : List Change) (f : Forest Content) → named_in (wholes xs f)
+        ≡ named_in xs }
+    ensures count { (xs : List Change) (f : Forest Content) → length (wholes xs f) ≡ length xs }
+    ensures join { (xs ys : List Change) (f : Forest Content) → wholes (xs ++ ys) f
+        ≡ wholes xs f ++ wholes ys (forth applied xs f) }
+    ensures pruned { (k : ℕ → Bool) (xs : List Change) (f : Forest Content) → Prunes k f
+        → FitsForth applied Fits xs f → Each (IsLeft k f) (named_in xs)
+        → wholes xs (pruned k f) ≡ wholes xs f }
 {}
 
 /// Which labels can be those of trees that are pruned: those of whole trees, or of roots alone,

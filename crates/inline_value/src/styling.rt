@@ -58,7 +58,7 @@ fn write_text(alloc: Global, doc: &mut Doc, node: NodeRef, text: Vec<char>) -> R
     if text.is_empty() {
         doc.unset_attribute(node, &name)?;
     } else {
-        doc.set_attribute(node, &name, &Chars::from_vec(text))?;
+        doc.set_attribute(node, &name, &Chars::from_vec(text)?)?;
     }
     Ok(())
 }

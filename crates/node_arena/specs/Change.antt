@@ -1,7 +1,8 @@
 -- Writes to the links of nodes in their slots. No public clause cites this module.
-use Rattle.std.specs.Prelude.{ℕ, zero, suc, List, [], ◌∷◌, Option, Some, None, slice_index_or}
+use Rattle.std.specs.Prelude.{ℕ, zero, suc, List, [], ◌∷◌, Option, Some, None, unwrap_or, slice_index_or}
 use Rattle.std.specs.Option.{option_map, option_and_then}
 use Rattle.dom_model.specs.declared.Content.{Content}
+use Rattle.dom_model.specs.Contents.{chars_in}
 use Rattle.node_arena.specs.declared.Node.{Node}
 use Rattle.node_arena.specs.declared.NodeRef.{NodeRef}
 
@@ -29,6 +30,10 @@ with_next to n = record n { next = to }
 -- the node with its content changed
 abbrev pub with_content : (Content → Content) → Node → Node
 with_content g n = record n { content = g n.content }
+
+-- the characters of the node in a slot
+abbrev pub chars_stored : Option Node → List ℕ
+chars_stored o = unwrap_or (option_and_then (λ n. chars_in n.content) o) []
 
 -- the node before the place, as its later neighbour or its parent says
 abbrev pub prior_link : List (Option Node) → NodeRef → Option NodeRef → Option NodeRef

@@ -1,14 +1,15 @@
 //! Changes of the tree that make no node.
 
-ghost use Rattle.std.specs.Prelude.{◌≡◌, ◌≢◌, ℕ, ◌+◌, ◌≤◌, ◌<◌, ◌^◌, Some, None, true, false, length, IsSome, IfSome, nat_le, OnOk, OnErr};
+ghost use Rattle.std.specs.Prelude.{◌≡◌, ◌≢◌, ℕ, ◌+◌, ◌≤◌, ◌<◌, ◌^◌, Some, None, true, false, length, [], unwrap_or, IsSome, IfSome, nat_le, OnOk, OnErr};
 ghost use Rattle.std.specs.Option.{option_map_or, option_and_then};
 ghost use Rattle.slab.specs.Slab.{get};
 ghost use Rattle.dom_model.specs.Forest.{count_of, parent_of, first_of, link, unlink};
 ghost use Rattle.dom_model.specs.Contents.{is_element, has_chars, chars_in, attributes_in, chars_of, attributes_of, is_element_at, has_chars_at, with_chars, with_attributes};
 ghost use Rattle.dom_model.specs.Revised.{revised};
+ghost use Rattle.dom_model.specs.Room.{spliced, CanSplice};
 ghost use Rattle.dom_model.specs.Pruned.{IsWhole};
 ghost use Rattle.dom_model.specs.ArenaState.{CanLink};
-ghost use Rattle.node_arena.specs.Change.{change, with_content};
+ghost use Rattle.node_arena.specs.Change.{change, with_content, chars_stored};
 ghost use Rattle.node_arena.specs.Held.{Holds, Drops, DropsTree, DropsMade, label};
 ghost use Rattle.node_arena.specs.Made.{has_label, kept_but, kept_below};
 ghost use Rattle.node_arena.specs.Sound.{IsIndexed};
@@ -70,6 +71,20 @@ impl Arena {
         ensures words { chars_of self.old.trees node.label ≡ Some words.new }
     {
         swap_chars_at(&mut self.nodes, node.slot, words);
+    }
+
+    /// Replaces `count` characters of Words or a Remark from the offset `at` on, in place.
+    pub fn splice_words(&mut self, node: NodeRef, at: usize, count: usize, put: &[char])
+        requires held { Holds self.old node }
+        requires chars { has_chars_at self.old.trees node.label ≡ true }
+        requires can { CanSplice (unwrap_or (chars_of self.old.trees node.label) []) at count
+            put.now }
+        ensures { self.new ≡ record self.old {
+          trees = revised self.old.trees node.label (with_chars
+              (spliced (unwrap_or (chars_of self.old.trees node.label) []) at count put.now));
+        } }
+    {
+        splice_chars_at(&mut self.nodes, node.slot, at, count, put);
     }
 
     /// Exchanges the attributes of an element.
@@ -236,6 +251,30 @@ fn swap_chars_at(nodes: &mut Slab<Node>, slot: u32, words: &mut Chars)
         ≡ Some words.new }
 {
     swap_chars(&mut nodes[slot as usize].content, words);
+}
+
+fn splice_chars(content: &mut Content, at: usize, count: usize, put: &[char])
+    requires chars { has_chars content.old ≡ true }
+    requires can { CanSplice (unwrap_or (chars_in content.old) []) at count put.now }
+    ensures { content.new ≡ with_chars
+        (spliced (unwrap_or (chars_in content.old) []) at count put.now) content.old }
+{
+    match content {
+        Content::Words(chars) => chars.splice(at, count, put),
+        Content::Remark(chars) => chars.splice(at, count, put),
+        _ => unreachable!(),
+    }
+}
+
+fn splice_chars_at(nodes: &mut Slab<Node>, slot: u32, at: usize, count: usize, put: &[char])
+    requires chars { option_map_or (λ n. has_chars n.content) (get nodes.old slot) false ≡ true }
+    requires can { CanSplice (chars_stored (get nodes.old slot)) at count put.now }
+    ensures { nodes.new ≡ record nodes.old {
+      slots = change nodes.old.slots slot (with_content (with_chars
+          (spliced (chars_stored (get nodes.old slot)) at count put.now)));
+    } }
+{
+    splice_chars(&mut nodes[slot as usize].content, at, count, put);
 }
 
 fn swap_list(content: &mut Content, list: &mut Attributes)

@@ -209,5 +209,5 @@ pub fn resolved<N: Nodes>(
         Property::TextDecoration => print_text_decoration(alloc, nodes, node),
         Property::TextAlign => text_align(nodes, node).print(alloc),
     };
-    Ok(Chars::from_vec(text?))
+    Chars::from_vec(text?)
 }

@@ -117,7 +117,7 @@ unfolding selected changed
 next_selected anchor focus s = let P : State → Type 0 = λ u. u.next ≡ s.next in either_way P (may_select s anchor && may_select s focus) refl refl
 
 module _ (page : Forest Content) (start cap : ℕ) where
-  abbrev Keeps : Editing → Type 0
+  abbrev pub Keeps : Editing → Type 0
   Keeps e = e.history.dropped ≡ false → IsTracked page start cap e
 
   keeps_selecting : (e : Editing) (pair : Pair) → Keeps e → Keeps (selecting e pair)
@@ -162,7 +162,7 @@ module _ (page : Forest Content) (start cap : ℕ) where
 
   -- ---- through the history
 
-  dropped_undone : (e : Editing) → (undone e).history.dropped ≡ e.history.dropped
+  pub dropped_undone : (e : Editing) → (undone e).history.dropped ≡ e.history.dropped
   unfolding undone_history
   dropped_undone e = by_entries e.history.undo
     where
@@ -170,7 +170,7 @@ module _ (page : Forest Content) (start cap : ℕ) where
       by_entries [] = refl
       by_entries (x ∷ xs) = refl
 
-  dropped_redone : (e : Editing) → (redone e).history.dropped ≡ e.history.dropped
+  pub dropped_redone : (e : Editing) → (redone e).history.dropped ≡ e.history.dropped
   unfolding redone_history
   dropped_redone e = by_entries e.history.redo
     where
@@ -286,7 +286,7 @@ module _ (page : Forest Content) (start cap : ℕ) where
   keeps_read denied e (Known None) keeps = keeps
   keeps_read denied e (Known (Some act)) keeps = keeps_act denied e act keeps
 
-  keeps_line : (denied : List (List ℕ)) (e : Editing) (line : List ℕ) → Keeps e → Keeps (line_reply denied e line).after
+  pub keeps_line : (denied : List (List ℕ)) (e : Editing) (line : List ℕ) → Keeps e → Keeps (line_reply denied e line).after
   unfolding line_reply
   keeps_line denied e line keeps = by_test (bytes_eq line [])
     where
@@ -312,7 +312,7 @@ alone_first f next is h =
     none Nil e = refl
     none (Tree m c ks rest) e = absurd (omega (arith, e))
 
-tracked_first : (page : Arena) → IsArena page → HasNoLoose page → (depth : ℕ) → 0 < depth → IsTracked page.trees page.next page.cap (new_editing page depth)
+pub tracked_first : (page : Arena) → IsArena page → HasNoLoose page → (depth : ℕ) → 0 < depth → IsTracked page.trees page.next page.cap (new_editing page depth)
 unfolding first_state
 tracked_first page law loose depth some =
     let is = arena_forest page law in

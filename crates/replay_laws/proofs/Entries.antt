@@ -2,7 +2,7 @@
 use Rattle.std.proofs.Common.{◌≡◌, ℕ, ◌+◌, ◌<◌, ◌≤◌, List, ◌++◌, Some, sym, subst, ◌∙◌, inl, inr, arith}
 use Rattle.dom_model.specs.declared.Content.{Content}
 use Rattle.dom_model.specs.Forest.{Forest, count_of}
-use Rattle.forest_changes.specs.Change.{Change, Remove, Insert, Move, SetText, SetAttributes}
+use Rattle.forest_changes.specs.Change.{Change, Remove, Insert, Move, SetText, Splice, SetAttributes}
 use Rattle.forest_changes.specs.Named.{Each}
 use Rattle.forest_changes.proofs.ChangeLists.{each_join, each_of}
 use Rattle.edit_model.specs.State.{State}
@@ -13,11 +13,12 @@ use Rattle.edit_laws.specs.Kinds.{Text, Comment, kind_of, SameKinds}
 use Rattle.edit_laws.proofs.Resting.{document_again}
 use Rattle.edit_laws.proofs.StayingKinds.{kind_there}
 use Rattle.edit_doc.proofs.MadeApart.{each_used}
-use Rattle.replay_laws.proofs.Leaving.{CanBeMade, IsFrom, NamesTexts, Leaves}
+use Rattle.replay_laws.proofs.Leaving.{CanBeMade, IsFrom, IsTextOrNew, NamesTexts, Leaves}
 
 -- a change of characters is one of no comment of the forest
 abbrev pub SparesComments : Forest Content → Change → Type 0
 SparesComments f (SetText n words) = kind_of f n ≡ Some Comment → ⊥
+SparesComments f (Splice n at rest taken put) = kind_of f n ≡ Some Comment → ⊥
 SparesComments f _ = Unit {0}
 
 -- labels from `first` on were new to it, and `first` isn't below `start`; those of its documents are below `next`
@@ -55,9 +56,13 @@ same_self : (f : Forest Content) → SameKinds f f
 same_self f l k m first last = let e : Some k ≡ Some m = sym first ∙ last in cc
 
 -- what is a text of one forest, or new, is no comment of another one, whose labels have the same kinds
+text_apart : (f g : Forest Content) (low : ℕ) → SameKinds f g → ((l : ℕ) → 0 < count_of f l → l < low) → (n : ℕ) → IsTextOrNew g low n → kind_of f n ≡ Some Comment → ⊥
+text_apart f g low same below n (inl text) comment = (let e : Text ≡ Comment = same n Comment Text comment text in cc)
+text_apart f g low same below n (inr high) comment = (let lt = below n (kind_there f n Comment comment) in omega (arith, lt, high))
+
 spares_by : (f g : Forest Content) (low : ℕ) → SameKinds f g → ((l : ℕ) → 0 < count_of f l → l < low) → (x : Change) → NamesTexts g low x → SparesComments f x
-spares_by f g low same below (SetText n words) (inl text) = λ comment. (let e : Text ≡ Comment = same n Comment Text comment text in cc)
-spares_by f g low same below (SetText n words) (inr high) = λ comment. (let lt = below n (kind_there f n Comment comment) in omega (arith, lt, high))
+spares_by f g low same below (SetText n words) h = text_apart f g low same below n h
+spares_by f g low same below (Splice n at rest taken put) h = text_apart f g low same below n h
 spares_by f g low same below (Remove n) h = tt
 spares_by f g low same below (Insert n p b) h = tt
 spares_by f g low same below (Move n p b) h = tt

@@ -1,6 +1,7 @@
 -- The labels of lines that are replayed are those of nodes, or below the cap.
 use Rattle.std.proofs.Common.{◌≡◌, ◌⊎◌, ℕ, zero, suc, ◌+◌, ◌<◌, ◌≤◌, ◌^◌, Bool, true, false, cond, eqb, List, [], ◌∷◌, Option, Some, None, IfSome, Ok, refl, subst, ◌∙◌, inl, inr, arith}
 use Rattle.std.specs.Prelude.{◌&&◌, nat_lt, nat_le}
+use Rattle.std.specs.Str.{all_scalars}
 use Rattle.std.proofs.lemmas.Bool.{and_parts, ltb-true, ne_eqb}
 use Rattle.std.proofs.lemmas.Bool.Decides.{eqb_tells}
 use Rattle.dom_model.specs.declared.Content.{Content}
@@ -13,11 +14,17 @@ use Rattle.forest_changes.specs.Change.{applied}
 use Rattle.forest_changes.specs.Named.{Each}
 use Rattle.edit_model.specs.Confined.{is_there}
 use Rattle.step_text.specs.Applying.{Labelled, is_there_or_end, has_labels, fault_of, made_content, trees_after, line_applied, replayed_from}
-use Rattle.step_text.specs.StepLine.{IsLabel, IsStepLine}
+use Rattle.step_text.specs.StepLine.{IsLabel, IsMade, IsTag, IsStepLine}
 use Rattle.step_text.specs.declared.line.StepLine.{StepLine}
 use Rattle.step_text.specs.declared.line.StepLine.TheVariants.{Entry, Make, Insert, Remove, Move, Words, Tag}
-use Rattle.replay_laws.specs.Texts.{IsInGrammar}
 use Rattle.replay_laws.proofs.Firsts.{line_fits, first_applied}
+
+-- the names of elements and attributes are those of the grammar of pages, in lower case; characters are scalar values; and no element has two attributes of a name
+abbrev pub IsInGrammar : StepLine → Type 0
+IsInGrammar (Make label new) = IsMade new
+IsInGrammar (Words label words) = all_scalars words ≡ true
+IsInGrammar (Tag label name attributes) = IsTag name attributes
+IsInGrammar _ = Unit {0}
 
 abbrev is_at : ℕ → ℕ → Content → ℕ
 is_at l m c = cond (eqb m l) 1 0

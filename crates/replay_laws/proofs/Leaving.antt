@@ -6,7 +6,7 @@ use Rattle.dom_model.specs.declared.Content.{Content}
 use Rattle.dom_model.specs.declared.Content.TheVariants as content
 use Rattle.dom_model.specs.Forest.{Forest, content_of}
 use Rattle.dom_model.proofs.Stands.{true_or_false}
-use Rattle.forest_changes.specs.Change.{Change, Remove, Insert, Move, SetText, SetAttributes}
+use Rattle.forest_changes.specs.Change.{Change, Remove, Insert, Move, SetText, Splice, SetAttributes}
 use Rattle.forest_changes.specs.Named.{Each}
 use Rattle.forest_changes.proofs.ChangeLists.{each_join, each_of}
 use Rattle.edit_model.specs.State.{State}
@@ -35,9 +35,14 @@ CanBeMade n = can_be_made n.1 ≡ true
 abbrev pub IsFrom : ℕ → ℕ × Content → Type 0
 IsFrom low n = low ≤ n.0
 
--- a change of characters is one of a text of the forest, or of a node whose label is from `low` on
+-- a node is a text of the forest, or its label is from `low` on
+abbrev pub IsTextOrNew : Forest Content → ℕ → ℕ → Type 0
+IsTextOrNew f low n = (kind_of f n ≡ Some Text) ⊎ (low ≤ n)
+
+-- a change of characters is one of such a node
 abbrev pub NamesTexts : Forest Content → ℕ → Change → Type 0
-NamesTexts f low (SetText n words) = (kind_of f n ≡ Some Text) ⊎ (low ≤ n)
+NamesTexts f low (SetText n words) = IsTextOrNew f low n
+NamesTexts f low (Splice n at rest taken put) = IsTextOrNew f low n
 NamesTexts f low _ = Unit {0}
 
 -- ---- texts
@@ -50,11 +55,15 @@ text_kind (Some (content.Words chars)) t = refl
 text_kind (Some (content.Remark chars)) t = absurd (true≢false (sym t))
 
 -- what is a text on the way was one, or its label was drawn since
-names_one : (s t : State) → Reaches s t → IsValid s → (x : Change) → ChangesText (content_of t.trees) x → NamesTexts s.trees s.next x
-names_one s t r is (SetText n words) text = elim (cases_lt n s.next) [
+text_or_new : (s t : State) → Reaches s t → IsValid s → (n : ℕ) → option_map_or is_text (content_of t.trees n) false ≡ true → IsTextOrNew s.trees s.next n
+text_or_new s t r is n text = elim (cases_lt n s.next) [
   | inl low ↦ inl (sym (kind_along n r is low) ∙ text_kind (content_of t.trees n) text)
   | inr high ↦ inr high
 ]
+
+names_one : (s t : State) → Reaches s t → IsValid s → (x : Change) → ChangesText (content_of t.trees) x → NamesTexts s.trees s.next x
+names_one s t r is (SetText n words) text = text_or_new s t r is n text
+names_one s t r is (Splice n at rest taken put) text = text_or_new s t r is n text
 names_one s t r is (Remove n) text = tt
 names_one s t r is (Insert n p b) text = tt
 names_one s t r is (Move n p b) text = tt

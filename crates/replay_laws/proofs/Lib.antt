@@ -8,4 +8,8 @@ pub mod Replaying
 pub mod LogLines
 pub mod Firsts
 pub mod Labels
+pub mod PageNodes
+pub mod ProperCommands
+pub mod ProperEntries
+pub mod ProperSessions
 pub mod Texts

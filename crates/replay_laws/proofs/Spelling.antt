@@ -1,22 +1,23 @@
 -- Entries that lead on, and change the characters of no comment, change those of texts alone.
-use Rattle.std.proofs.Common.{◌≡◌, ◌≢◌, ◌⊎◌, ℕ, ◌+◌, ◌≤◌, Bool, true, false, true≢false, cond, eqb, List, [], ◌∷◌, ◌++◌, reverse, Option, Some, None, unwrap_or, refl, sym, ap, subst, ◌∙◌, inl, inr, arith}
+use Rattle.std.proofs.Common.{◌≡◌, ◌≢◌, ◌⊎◌, ℕ, ◌+◌, ◌≤◌, Bool, true, false, true≢false, cond, eqb, List, [], ◌∷◌, ◌++◌, length, reverse, Option, Some, None, unwrap_or, refl, sym, ap, subst, ◌∙◌, inl, inr, arith}
 use Rattle.std.specs.Option.{option_map, option_map_or}
 use Rattle.std.proofs.lemmas.Bool.Decides.{eqb_tells, nat_tests}
 use Rattle.std.proofs.lemmas.List.{reverse-append}
 use Rattle.dom_model.specs.declared.Content.{Content}
 use Rattle.dom_model.specs.declared.Content.TheVariants as content
-use Rattle.dom_model.specs.Contents.{has_chars, with_chars, with_attributes}
+use Rattle.dom_model.specs.Contents.{has_chars, has_chars_at, with_chars, with_attributes}
 use Rattle.dom_model.specs.Forest.{Forest, Seen, either, count_of, content_of, parent_of, unlink, with_leaf}
 use Rattle.dom_model.proofs.Kept.{content_of-link, content_of-unlink, content_of-with_leaf_new, content_of-with_leaf_other}
 use Rattle.dom_model.proofs.Links.{total-with_leaf}
 use Rattle.dom_model.proofs.Stands.{seek_absent}
 use Rattle.dom_model.specs.declared.attributes.Attribute.{Attribute}
 use Rattle.undo_log.specs.Turning.{FitsForth}
-use Rattle.forest_changes.specs.Change.{Change, Remove, Insert, Move, SetText, SetAttributes, Fits, applied}
+use Rattle.forest_changes.specs.Change.{Change, Remove, Insert, Move, SetText, Splice, SetAttributes, Fits, applied, spliced_at}
 use Rattle.forest_changes.specs.Leaves.{IsBelow}
 use Rattle.forest_changes.specs.Named.{Each}
 use Rattle.forest_changes.proofs.BesideLeaf.{fresh}
 use Rattle.forest_changes.proofs.ChangeLists.{each_first, each_rest, each_of}
+use Rattle.forest_changes.proofs.Splices.{part_chars}
 use Rattle.forest_changes.proofs.Twice.{IsForest-unlink, given_parent}
 use Rattle.edit_model.specs.History.{Entry}
 use Rattle.edit_laws.specs.Kinds.{Text, Comment, kind_in, kind_of}
@@ -89,7 +90,7 @@ kind_attributes list (content.Element name own) = refl
 kind_attributes list (content.Words chars) = refl
 kind_attributes list (content.Remark chars) = refl
 
-kind_applied : (x : Change) (f : Forest Content) → Fits x f → (l : ℕ) → kind_of (applied x f) l ≡ kind_of f l
+pub kind_applied : (x : Change) (f : Forest Content) → Fits x f → (l : ℕ) → kind_of (applied x f) l ≡ kind_of f l
 unfolding applied
 kind_applied (Remove n) f h l = ap (option_map kind_in) (content_of-unlink f (unwrap_or (parent_of f n) 0) n l h.forest.distinct (given_parent f n h.here))
 kind_applied (Insert n p b) f h l = ap (option_map kind_in) (content_of-link f p b n l h.forest.distinct h.here.place)
@@ -99,6 +100,7 @@ kind_applied (Move n p b) f h l =
     let g = IsForest-unlink f q n h.forest child in
     ap (option_map kind_in) (content_of-link (unlink f n) p b n l g.distinct h.here.1.place ∙ content_of-unlink f q n l h.forest.distinct child)
 kind_applied (SetText n words) f h l = kind_of-revised f n l (with_chars words) (kind_chars words)
+kind_applied (Splice n at rest taken put) f h l = (let words = spliced_at f n at (length taken) put in kind_of-revised f n l (with_chars words) (kind_chars words))
 kind_applied (SetAttributes n list) f h l = kind_of-revised f n l (with_attributes list) (kind_attributes list)
 
 chars_kind : (o : Option Content) → option_map_or has_chars o false ≡ true → (option_map kind_in o ≡ Some Text) ⊎ (option_map kind_in o ≡ Some Comment)
@@ -117,12 +119,17 @@ kind_text (Some (content.Remark chars)) e = absurd (let t : Some Comment ≡ Som
 
 -- ---- changes
 
--- a change of characters is one of no comment, where each node has the content that is told
+-- a node is no comment, where each has the content that is told
+abbrev IsNoComment : (ℕ → Option Content) → ℕ → Type 0
+IsNoComment told n = option_map kind_in (told n) ≡ Some Comment → ⊥
+
+-- a change of characters is one of no comment
 abbrev NoComment : (ℕ → Option Content) → Change → Type 0
-NoComment told (SetText n words) = option_map kind_in (told n) ≡ Some Comment → ⊥
+NoComment told (SetText n words) = IsNoComment told n
+NoComment told (Splice n at rest taken put) = IsNoComment told n
 NoComment told _ = Unit {0}
 
-made_no_comment : (ns : List (ℕ × Content)) → Each CanBeMade ns → (l : ℕ) → option_map kind_in (content_made ns l) ≡ Some Comment → ⊥
+made_no_comment : (ns : List (ℕ × Content)) → Each CanBeMade ns → (l : ℕ) → IsNoComment (content_made ns) l
 made_no_comment [] can l e = (let t : None ≡ Some Comment = e in cc)
 made_no_comment (n ∷ ns) can l e = by_test (eqb n.0 l) (made_no_comment ns can.1 l) e
   where
@@ -136,25 +143,33 @@ made_no_comment (n ∷ ns) can l e = by_test (eqb n.0 l) (made_no_comment ns can
     by_test true more e = own n.1 can.0 e
     by_test false more e = more e
 
-no_comment : (f : Forest Content) (ns : List (ℕ × Content)) → Each CanBeMade ns → (x : Change) → SparesComments f x → NoComment (λ l. either (content_of f l) (content_made ns l)) x
-no_comment f ns can (SetText n words) spares = λ e. by_content (content_of f n) refl e
+told_no_comment : (f : Forest Content) (ns : List (ℕ × Content)) → Each CanBeMade ns → (n : ℕ) → (kind_of f n ≡ Some Comment → ⊥) → IsNoComment (λ l. either (content_of f l) (content_made ns l)) n
+told_no_comment f ns can n spares e = by_content (content_of f n) refl e
   where
     by_content : (o : Option Content) → content_of f n ≡ o → option_map kind_in (either o (content_made ns n)) ≡ Some Comment → ⊥
     by_content None is e = made_no_comment ns can n e
     by_content (Some c) is e = spares (ap (option_map kind_in) is ∙ e)
+
+no_comment : (f : Forest Content) (ns : List (ℕ × Content)) → Each CanBeMade ns → (x : Change) → SparesComments f x → NoComment (λ l. either (content_of f l) (content_made ns l)) x
+no_comment f ns can (SetText n words) spares = told_no_comment f ns can n spares
+no_comment f ns can (Splice n at rest taken put) spares = told_no_comment f ns can n spares
 no_comment f ns can (Remove n) spares = tt
 no_comment f ns can (Insert n p b) spares = tt
 no_comment f ns can (Move n p b) spares = tt
 no_comment f ns can (SetAttributes n list) spares = tt
 
-abbrev AreKinds : (ℕ → Option Content) → Forest Content → Type 0
+abbrev pub AreKinds : (ℕ → Option Content) → Forest Content → Type 0
 AreKinds told f = (l : ℕ) → option_map kind_in (told l) ≡ kind_of f l
 
-text_one : (told : ℕ → Option Content) (x : Change) (f : Forest Content) → Fits x f → AreKinds told f → NoComment told x → ChangesText told x
-text_one told (SetText n words) f h are spares = elim (chars_kind (content_of f n) h.here.0) [
+text_at : (told : ℕ → Option Content) (n : ℕ) (f : Forest Content) → has_chars_at f n ≡ true → AreKinds told f → IsNoComment told n → option_map_or is_text (told n) false ≡ true
+text_at told n f chars are spares = elim (chars_kind (content_of f n) chars) [
   | inl text ↦ kind_text (told n) (are n ∙ text)
   | inr comment ↦ absurd (spares (are n ∙ comment))
 ]
+
+text_one : (told : ℕ → Option Content) (x : Change) (f : Forest Content) → Fits x f → AreKinds told f → NoComment told x → ChangesText told x
+text_one told (SetText n words) f h are spares = text_at told n f h.here.0 are spares
+text_one told (Splice n at rest taken put) f h are spares = text_at told n f (part_chars f n at rest taken put h.here) are spares
 text_one told (Remove n) f h are spares = tt
 text_one told (Insert n p b) f h are spares = tt
 text_one told (Move n p b) f h are spares = tt
@@ -168,27 +183,31 @@ texts_of told (x ∷ xs) f fits are spares =
 
 -- ---- entries
 
-spelled : (start next from : ℕ) (d : Forest Content) (x : Entry) → IsKnown start next x → LeadsOnward from d x → IsSpelled x
-spelled start next from d x k leads =
+-- what is told of the nodes before an entry has the kinds that they have with those that were made
+pub told_kinds : (start next from : ℕ) (d : Forest Content) (x : Entry) → IsKnown start next x → LeadsOnward from d x → AreKinds (content_in x) (at_begin x)
+told_kinds start next from d x k leads l =
     let f = x.before.document in
     let below : (n : ℕ × Content) → IsFrom k.first n → IsBelow f n.0 = λ n high. record { below = λ m here. (let lt = k.old m here in omega (arith, lt, high)) } in
     let new : Each (IsNew f) x.made = each_of (IsFrom k.first) (IsNew f) x.made (λ n high. fresh n.0 n.1 f (below n high)) k.drawn in
-    record {
-      made = k.made;
-      texts = texts_of (content_in x) x.edits (at_begin x) leads.fits (λ l. sym (ap (option_map kind_in) (content_with x.made f from l leads.rise new)))
-          (each_of (SparesComments f) (NoComment (content_in x)) x.edits (no_comment f x.made k.made) k.texts);
-    }
+    sym (ap (option_map kind_in) (content_with x.made f from l leads.rise new))
 
-record Leads (x : Entry) : Type 0 where
-  from : ℕ
-  document : Forest Content
-  is : LeadsOnward from document x
+spelled : (start next from : ℕ) (d : Forest Content) (x : Entry) → IsKnown start next x → LeadsOnward from d x → IsSpelled x
+spelled start next from d x k leads = record {
+  made = k.made;
+  texts = texts_of (content_in x) x.edits (at_begin x) leads.fits (told_kinds start next from d x k leads)
+      (each_of (SparesComments x.before.document) (NoComment (content_in x)) x.edits (no_comment x.before.document x.made k.made) k.texts);
+}
 
-each_leads : (es : List Entry) (next : ℕ) (d last : Forest Content) (end : ℕ) → LeadOnward next d es last end → Each Leads es
+pub record Leads (x : Entry) : Type 0 where
+  pub from : ℕ
+  pub document : Forest Content
+  pub is : LeadsOnward from document x
+
+pub each_leads : (es : List Entry) (next : ℕ) (d last : Forest Content) (end : ℕ) → LeadOnward next d es last end → Each Leads es
 each_leads [] next d last end lead = tt
 each_leads (x ∷ es) next d last end lead = (record { from = next; document = d; is = lead.0 }, each_leads es (next_past next x.made) x.after.document last end lead.1)
 
-each_back : (P : Entry → Type 0) (es : List Entry) → Each P (reverse es) → Each P es
+pub each_back : (P : Entry → Type 0) (es : List Entry) → Each P (reverse es) → Each P es
 each_back P [] h = tt
 each_back P (x ∷ es) h =
     let g : Each P (reverse es ++ x ∷ []) = subst (λ (w : List Entry). Each P w) (reverse-append (x ∷ []) es) h in

@@ -1,11 +1,12 @@
 -- The text of a log after a page block, replayed.
-use Rattle.std.proofs.Common.{◌≡◌, ℕ, suc, pred, ◌+◌, ◌<◌, ◌≤◌, Bool, true, false, cond, ◌==◌, map, List, [], ◌∷◌, ◌++◌, length, codes, Option, Some, Ok, refl, ap, subst, ◌∙◌, arith, append_assoc}
+use Rattle.std.proofs.Common.{◌≡◌, ℕ, suc, pred, ◌+◌, ◌<◌, ◌≤◌, Bool, true, false, cond, ◌==◌, map, List, [], ◌∷◌, ◌++◌, length, codes, Option, Some, Ok, refl, sym, ap, subst, ◌∙◌, arith, append_assoc}
 use Rattle.std.specs.Prelude.{nat_lt}
 use Rattle.std.specs.Bool.{MatchBool}
 use Rattle.std.specs.Option.{option_map_or}
 use Rattle.std.proofs.lemmas.Bool.Decides.{nat_tests}
 use Rattle.dom_model.specs.declared.Content.TheVariants.{Document}
 use Rattle.dom_model.specs.ArenaState.{ArenaState as Arena, IsValid as IsArena}
+use Rattle.dom_model.specs.Forest.{Forest}
 use Rattle.dom_model.specs.Forest.Forest.{Nil as NoTrees}
 use Rattle.forest_changes.specs.Named.{Each}
 use Rattle.page_grammar.specs.Names.{is_void}
@@ -22,12 +23,17 @@ use Rattle.edit_session.specs.Transcript.{input_limit, depth_limit, transcript_o
 use Rattle.edit_session.specs.Words.{Order, Replay, order_of, greatest_cap}
 use Rattle.edit_session.specs.declared.session.Status.TheVariants.{Done, Usage}
 use Rattle.edit_session.proofs.Grammars.{rests}
+use Rattle.grammar_laws.specs.Proper.{AllNodes, IsProper}
 use Rattle.replay_laws.specs.Lines.{tallied_all}
 use Rattle.replay_laws.specs.Steps.{on_page, StepsReplay, SessionReplays}
-use Rattle.replay_laws.specs.Texts.{IsInGrammar, IsReadAs, TextReplays, SessionTextReplays}
+use Rattle.replay_laws.specs.Texts.{IsReadAs, TextReplays, SessionTextReplays}
 use Rattle.replay_laws.proofs.Firsts.{HasFirst, first_stays, text_same}
-use Rattle.replay_laws.proofs.Labels.{HasLabels, lines_are}
+use Rattle.replay_laws.proofs.Acts.{session_tracked}
+use Rattle.replay_laws.proofs.Labels.{IsInGrammar, HasLabels, lines_are}
 use Rattle.replay_laws.proofs.LogLines.{steps_are_lines, lines_replay}
+use Rattle.replay_laws.proofs.PageNodes.{page_proper}
+use Rattle.replay_laws.proofs.ProperSessions.{session_proper, log_proper}
+use Rattle.replay_laws.proofs.Replaying.{HasLed}
 
 -- ---- a page within a greater cap
 
@@ -152,6 +158,13 @@ module _ (front bytes : List ℕ) (page : Arena) (e : Editing) (block : block_of
             ∙ ap (transcript_of Done) (text_same t d.trees e.state.trees d.next first steps.document)))));
       }
 
-pub session_text_replays : (page : Arena) (e : Editing) → IsArena page → SessionReplays page e → SessionTextReplays page e
-session_text_replays page e law replays front bytes block r s off shallow spelled fits =
+page_nodes : (bytes : List ℕ) (page : Arena) → IsReadAs bytes page → AllNodes IsProper page.trees
+page_nodes bytes page r =
+    (let is = (rests.pages page.cap bytes (Children r.children)).0 r.reading in subst (λ (f : Forest _). AllNodes IsProper f) (sym r.trees) (page_proper depth_limit page.cap bytes r.children is.0))
+
+pub session_text_replays : (page : Arena) (e : Editing) → IsArena page → HasLed e.state e.history → SessionReplays page e → SessionTextReplays page e
+session_text_replays page e law led replays front bytes block r s off shallow fits =
+    let tr = session_tracked page e law s off in
+    let proper = session_proper page e law (page_nodes bytes page r) s off in
+    let spelled = log_proper page.trees page.next page.cap e led.0 led.1 tr led.2 proper in
     text_replays front bytes page e block r law spelled fits (replays greatest_cap r.capped s off shallow)

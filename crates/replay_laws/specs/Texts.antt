@@ -1,14 +1,9 @@
 -- The text of the log of a session after its page block, as `replay` answers it.
-use Rattle.std.specs.Prelude.{◌≡◌, ℕ, suc, ◌≤◌, true, false, List, [], ◌∷◌, ◌++◌, length, codes}
-use Rattle.std.specs.Str.{all_scalars}
+use Rattle.std.specs.Prelude.{◌≡◌, ℕ, suc, ◌≤◌, false, List, [], ◌∷◌, ◌++◌, length, codes}
 use Rattle.dom_model.specs.ArenaState.{ArenaState as Arena}
-use Rattle.forest_changes.specs.Named.{Each}
 use Rattle.page_grammar.specs.Nodes.{document_of}
 use Rattle.page_grammar.specs.Page.{Siblings, size}
 use Rattle.page_grammar.specs.Reading.{Children, page_reading}
-use Rattle.step_text.specs.StepLine.{IsMade, IsTag}
-use Rattle.step_text.specs.declared.line.StepLine.{StepLine}
-use Rattle.step_text.specs.declared.line.StepLine.TheVariants.{Make, Words, Tag}
 use Rattle.edit_engine.specs.Editing.{Editing}
 use Rattle.edit_engine.specs.Logs.{log_steps, log_text}
 use Rattle.edit_session.specs.Block.{Whole, block_of}
@@ -28,14 +23,6 @@ pub record IsReadAs (bytes : List ℕ) (page : Arena) : Type 0 where
   pub next : page.next ≡ suc (size children)
   pub capped : page.cap ≤ greatest_cap
 
--- the names of elements and attributes are those of the grammar of pages, in lower case; characters
--- are scalar values; and no element has two attributes of a name
-abbrev pub IsInGrammar : StepLine → Type 0
-IsInGrammar (Make label new) = IsMade new
-IsInGrammar (Words label words) = all_scalars words ≡ true
-IsInGrammar (Tag label name attributes) = IsTag name attributes
-IsInGrammar _ = Unit {0}
-
 -- `replay` refuses no line of the log, and prints the HTML and the numbers of the document of the
 -- editor; the next label that it prints may be another one
 pub record TextReplays (front : List ℕ) (e : Editing) : Type 0 where
@@ -44,12 +31,10 @@ pub record TextReplays (front : List ℕ) (e : Editing) : Type 0 where
       ≡ transcript_of Done
       (replayed_text (tallied_all (log_steps e.history) none_yet) e.state.trees next)
 
--- So it is at the end of a session as `SessionReplays` has it, where the names and characters in the
--- log are those of the grammar. The session began with a text that is a page block and a line feed,
--- and with the log after that it isn't too long.
+-- So it is at the end of a session as `SessionReplays` has it, which began with a text that is a page
+-- block and a line feed, where with the log after that it isn't too long.
 abbrev pub SessionTextReplays : Arena → Editing → Type 0
 SessionTextReplays page e =
     (front bytes : List ℕ) → block_of (front ++ 10 ∷ []) ≡ Whole bytes [] → IsReadAs bytes page
     → IsOfSession page e → e.history.dropped ≡ false → StaysShallow e
-    → Each IsInGrammar (log_steps e.history)
     → length (front ++ 10 ∷ log_text e.history) ≤ input_limit → TextReplays front e

@@ -38,12 +38,12 @@ pub fn logs_replay(page: &Arena, editor: &Editor)
     editor.log_replays();
 }
 
-/// And so does the text of the log after the page block, where its names and characters are those of
-/// the grammar of pages: `replay` prints the HTML and the numbers of the document that the editor
-/// has.
+/// And so does the text of the log after the page block: `replay` prints the HTML and the numbers of
+/// the document that the editor has.
 pub fn log_texts_replay(page: &Arena, editor: &Editor)
     ensures { SessionTextReplays page.now editor.now.editing }
 {
     page.valid();
+    editor.document().led_onward();
     logs_replay(page, editor);
 }

@@ -71,7 +71,7 @@ fn read_exec(alloc: Global, text: &[u8]) -> Result<Act, LineFault>
             let name = read_name(alloc, text)?;
             Ok(Act::Exec {
                 name,
-                value: Chars::from_vec(Vec::new(alloc)),
+                value: Chars::new(alloc),
             })
         }
     }

@@ -115,7 +115,7 @@ fn read_escapes(alloc: Global, printed: bool, text: &str) -> Result<Chars, LineF
         state = next;
     }
     match state {
-        Escape::Outside => Ok(Chars::from_vec(value)),
+        Escape::Outside => Ok(Chars::from_vec(value)?),
         _ => Err(LineFault::Syntax),
     }
 }

@@ -3,8 +3,10 @@
 #![tactic(auto)]
 
 mod recorder;
+mod splicing;
 mod telling;
 mod trees;
 
 pub use recorder::EditRecorder;
+pub use splicing::spliced_words;
 pub use trees::copy_content;

@@ -5,13 +5,16 @@ ghost use Rattle.dom_model.specs.Change.{listed};
 ghost use Rattle.dom_model.specs.Change as change;
 ghost use Rattle.dom_model.specs.Contents.{has_chars_at};
 ghost use Rattle.node_arena.specs.Held.{Holds, label};
+ghost use Rattle.forest_changes.specs.Change.{HasPart};
 ghost use Rattle.edit_steps.specs.Step.{StepFits, change_of};
+ghost use Rattle.edit_steps.specs.declared.step.Step.TheVariants as step;
 ghost use Rattle.document_edits.specs.Told.{told, told_tree};
 
+use crate::splicing::spliced_words;
 use crate::trees::tree_nodes;
 use document_edits::{DocumentEdit, replaced};
 use dom_model::{Attributes, Chars};
-use edit_steps::Step;
+use edit_steps::{Splice, Step};
 use node_arena::{Arena, NodeRef};
 use point_order::is_in_document;
 use std::alloc::{AllocError, Global};
@@ -124,6 +127,29 @@ fn tell_words(
     replaced(alloc, node.label, old.as_slice(), words.as_slice())
 }
 
+// Characters of a node give way to others.
+#[tactic(auto, unfolding(document_edits::specs::Told::told))]
+fn tell_splice(
+    alloc: Global,
+    arena: &Arena,
+    splice: &Splice,
+) -> Result<Option<DocumentEdit>, AllocError>
+    requires held { Holds arena.now splice.now.node }
+    requires part { HasPart arena.now.trees splice.now.node.label splice.now.at splice.now.rest
+        splice.now.taken splice.now.put }
+    ensures { IfOk result (λ edit. listed edit
+        ≡ told (change_of (step.Splice splice.now)) arena.now.trees) }
+{
+    arena.valid();
+    let node = splice.node();
+    if !is_in_document(arena, node.label) {
+        return Ok(None);
+    }
+    let old = arena.words(node).as_slice();
+    let new = spliced_words(alloc, old, splice)?;
+    replaced(alloc, node.label, old, new.as_slice())
+}
+
 // An element is given another attribute list.
 #[tactic(auto, unfolding(document_edits::specs::Told::told))]
 fn tell_attributes(
@@ -162,6 +188,7 @@ fn tell_step(alloc: Global, arena: &Arena, step: &Step) -> Result<Option<Documen
             before,
         } => tell_move(alloc, arena, *node, *parent, *before),
         Step::SetText { node, words } => tell_words(alloc, arena, *node, words),
+        Step::Splice(splice) => tell_splice(alloc, arena, splice),
         Step::SetAttributes { node, list } => tell_attributes(arena, *node, list),
     }
 }

@@ -197,6 +197,7 @@ change_led (change.Move n p b) name d h say low =
     }
 change_led (change.SetText n words) name d h say low =
     record { fine = fine (Words n words) d (there d.trees n (there_by d.trees n _ say)) say refl; applied = refl }
+change_led (change.Splice n at rest taken put) name d h say low = absurd say
 change_led (change.SetAttributes n list) name d h say low =
     record { fine = fine (Tag n name list) d (there d.trees n (there_by d.trees n _ h.here)) (named d.trees n name say) refl; applied = refl }
 

@@ -68,7 +68,7 @@ fn host(alloc: Global, arena: &mut Arena, tag: &str, value: &[char]) -> Result<N
 }
 
 fn remark(arena: &mut Arena, alloc: Global) -> Result<NodeRef, Fail> {
-    Ok(arena.make_remark(Chars::from_vec(Vec::new(alloc)))?)
+    Ok(arena.make_remark(Chars::new(alloc))?)
 }
 
 // Exchanges the characters of a Text node.

@@ -70,7 +70,7 @@ impl Invertible<Numbers> for Edit {
 // A state and the log of its edits, as a caller keeps them: the log follows the state at every
 // moment.
 #[derive(Drop)]
-struct Session<T: Invertible<S> + Drop, S: Drop, L: Ledger> {
+pub(crate) struct Session<T: Invertible<S> + Drop, S: Drop, L: Ledger> {
     log: UndoLog<T>,
     state: S,
     steps: Steps<L>,
@@ -92,7 +92,12 @@ impl<T: Invertible<S> + Drop, S: Drop, L: Ledger> Model for Session<T, S, L> {
 }
 
 impl<T: Invertible<S> + Drop, S: Drop, L: Ledger> Session<T, S, L> {
-    fn new(alloc: Global, depth: usize, state: S, steps: Steps<L>) -> Result<Self, AllocError>
+    pub(crate) fn new(
+        alloc: Global,
+        depth: usize,
+        state: S,
+        steps: Steps<L>,
+    ) -> Result<Self, AllocError>
         requires { 0 < depth }
     {
         laws::starts::<T, S>();
@@ -105,7 +110,22 @@ impl<T: Invertible<S> + Drop, S: Drop, L: Ledger> Session<T, S, L> {
         })
     }
 
-    fn begin(&mut self) {
+    pub(crate) fn state(&self) -> &S
+        ensures { result.now ≡ self.now }
+    {
+        &self.state
+    }
+
+    // What `undo_len`, `redo_len` and `entry_len` answer.
+    pub(crate) fn lens(&self) -> [usize; 3] {
+        [
+            self.log.undo_len(),
+            self.log.redo_len(),
+            self.log.entry_len(),
+        ]
+    }
+
+    pub(crate) fn begin(&mut self) {
         if !self.busy {
             laws::opens::<T, S>();
             self.log.begin();
@@ -113,7 +133,7 @@ impl<T: Invertible<S> + Drop, S: Drop, L: Ledger> Session<T, S, L> {
         }
     }
 
-    fn resume(&mut self) -> bool {
+    pub(crate) fn resume(&mut self) -> bool {
         if self.busy {
             return false;
         }
@@ -123,7 +143,7 @@ impl<T: Invertible<S> + Drop, S: Drop, L: Ledger> Session<T, S, L> {
         resumed
     }
 
-    fn edit(&mut self, step: T) -> Result<(), AllocError>
+    pub(crate) fn edit(&mut self, step: T) -> Result<(), AllocError>
         requires { T.fits step self.old }
     {
         if !self.busy {
@@ -141,7 +161,7 @@ impl<T: Invertible<S> + Drop, S: Drop, L: Ledger> Session<T, S, L> {
         }
     }
 
-    fn commit(&mut self) -> Committed {
+    pub(crate) fn commit(&mut self) -> Committed {
         if !self.busy {
             return Committed::Nothing;
         }
@@ -151,7 +171,7 @@ impl<T: Invertible<S> + Drop, S: Drop, L: Ledger> Session<T, S, L> {
         self.log.commit()
     }
 
-    fn abandon(&mut self) {
+    pub(crate) fn abandon(&mut self) {
         if self.busy {
             laws::allows::<T, S>();
             self.log.abandon(&mut self.state);
@@ -159,7 +179,7 @@ impl<T: Invertible<S> + Drop, S: Drop, L: Ledger> Session<T, S, L> {
         }
     }
 
-    fn undo(&mut self) -> bool {
+    pub(crate) fn undo(&mut self) -> bool {
         if self.busy {
             return false;
         }
@@ -167,7 +187,7 @@ impl<T: Invertible<S> + Drop, S: Drop, L: Ledger> Session<T, S, L> {
         self.log.undo(&mut self.state, &mut self.steps)
     }
 
-    fn redo(&mut self) -> bool {
+    pub(crate) fn redo(&mut self) -> bool {
         if self.busy {
             return false;
         }

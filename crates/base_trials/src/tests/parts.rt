@@ -1,5 +1,5 @@
-//! The parts of a document under edits: the numbers of trees, what texts become, points and
-//! overrides.
+//! The parts of a document under edits: the numbers of trees, what edits replace of texts, points
+//! and overrides.
 
 ghost use Rattle.std.specs.Prelude.{◌≡◌, ◌<◌, IsTrue, IfSome};
 ghost use Rattle.edit_model.specs.Valid.{IsPlacedPair};
@@ -9,7 +9,7 @@ use edit_model::{EditFault, Setting};
 use edit_parts::{
     Counts, add_counts, adjust_inserted, adjust_moved, copy_overrides, fault_of,
     has_no_kept_leaves, has_value, is_in_document, moving_from, no_overrides, place_of, removal_of,
-    replaced, stands_at, tail_of, take_counts, tree_counts, unset_overrides_if_range_changed,
+    replaced_part, stands_at, tail_of, take_counts, tree_counts, unset_overrides_if_range_changed,
     watch_range,
 };
 use html_names::Command;
@@ -66,22 +66,14 @@ fn trees_right(arena: &Arena, nodes: [NodeRef; 4]) -> bool {
         && shown(arena, blank_text) == Some((1, 2, true, false, 4))
 }
 
-fn after_replacement(
-    alloc: Global,
-    at: u32,
-    count: u32,
-    put: &[char],
-) -> Result<Option<Chars>, AllocError> {
-    let content = Content::Words(Chars::from_slice(alloc, &['a', 'b', 'c'])?);
-    replaced(alloc, &content, at, count, put)
-}
-
-// Where characters are replaced, how many, by which, and what the text then has.
-static REPLACEMENTS: [(u32, u32, &[char], Option<&[char]>); 4] = [
-    (1, 1, &['x', 'y'], Some(&['a', 'x', 'y', 'c'])),
+// Where characters are replaced, how many, by which, and which of a text's go and how many stand
+// behind them.
+static REPLACEMENTS: [(u32, u32, &[char], Option<(&[char], u32)>); 5] = [
+    (1, 1, &['x', 'y'], Some((&['b'], 1))),
+    (0, 2, &[], Some((&['a', 'b'], 1))),
     (1, 1, &['b'], None),
     (3, 1, &['x'], None),
-    (3, 0, &['x'], Some(&['a', 'b', 'c', 'x'])),
+    (3, 0, &['x'], Some((&[], 0))),
 ];
 
 fn is_replaced(
@@ -89,10 +81,11 @@ fn is_replaced(
     at: u32,
     count: u32,
     put: &[char],
-    want: Option<&[char]>,
+    want: Option<(&[char], u32)>,
 ) -> Result<bool, AllocError> {
-    match (after_replacement(alloc, at, count, put)?, want) {
-        (Some(text), Some(want)) => Ok(text.as_slice() == want),
+    let content = Content::Words(Chars::from_slice(alloc, &['a', 'b', 'c'])?);
+    match (replaced_part(&content, at, count, put), want) {
+        (Some(part), Some((taken, rest))) => Ok(part.taken == taken && part.rest == rest),
         (None, None) => Ok(true),
         _ => Ok(false),
     }

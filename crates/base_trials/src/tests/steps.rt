@@ -12,7 +12,7 @@ use std::test::Fail;
 use undo_log::Invertible;
 
 // Applies a step, through the bound alone.
-fn once<T: Invertible<S>, S>(step: &mut T, state: &mut S)
+pub(crate) fn once<T: Invertible<S>, S>(step: &mut T, state: &mut S)
     requires { T.fits step.old state.old }
     ensures again { T.fits step.new state.new }
 {

@@ -45,7 +45,7 @@ fn keeps_the_order(alloc: Global, list: &mut Attributes) -> Result<bool, Fail> {
         && set(list, alloc, b"a", '2')
         && set(list, alloc, b"b", '3');
     let name = Name::from_vec(b"c".to_vec(alloc)?);
-    let value = Chars::from_vec(['4'].to_vec(alloc)?);
+    let value = Chars::from_vec(['4'].to_vec(alloc)?)?;
     let made = name.as_slice() == b"c".as_slice() && value.len() == 1;
     list.insert(name, value)?;
     Ok(set && made && is_list(list, &[(b"b", '3'), (b"a", '2'), (b"c", '4')]))

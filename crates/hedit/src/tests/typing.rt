@@ -7,7 +7,7 @@ const FOOBAR: &str = "<div contenteditable=\"true\"><p>foobar</p></div>";
 
 const X: &str = "<div contenteditable=\"true\"><p>x</p></div>";
 
-static TYPED: [Row; 13] = [
+static TYPED: [Row; 17] = [
     // an override at a caret holds for what is typed there
     Row(
         "run",
@@ -95,6 +95,34 @@ static TYPED: [Row; 13] = [
         "<div contenteditable=\"true\"><h1>ab</h1></div>",
         "select 0/0/0:2 0/0/0:2\nexec insertParagraph\nhtml\npoints\nstat\nexec defaultParagraphSeparator p\nundo 1\nexec insertParagraph\nhtml\n",
         "ok\ntrue\n<div contenteditable=\"true\"><h1>ab</h1><div><br></div></div>\nanchor 0/1:0\nfocus 0/1:0\nnodes 6 chars 2 next 6 edits 2 undo 1 redo 0\ntrue\nundo 1\ntrue\n<div contenteditable=\"true\"><h1>ab</h1><p><br></p></div>\n",
+    ),
+    // a command that is refused amid a run of typing leaves the run as it is
+    Row(
+        "run --cap 4",
+        FOOBAR,
+        "select 0/0/0:3 0/0/0:3\nexec insertText x\nexec insertText y\nexec insertParagraph\nexec insertText z\nlog\nundo 1\nhtml\nredo 1\nhtml\npoints\nstat\n",
+        "ok\ntrue\ntrue\n! 6 full\ntrue\nentry\nwords 3 \"fooxbar\"\nwords 3 \"fooxybar\"\nwords 3 \"fooxyzbar\"\nundo 1\n<div contenteditable=\"true\"><p>foobar</p></div>\nredo 1\n<div contenteditable=\"true\"><p>fooxyzbar</p></div>\nanchor 0/0/0:6\nfocus 0/0/0:6\nnodes 4 chars 9 next 4 edits 3 undo 1 redo 0\n",
+    ),
+    // texts with other rooms, and back: typed at the end, amid and at the start, and over a part
+    Row(
+        "run",
+        FOOBAR,
+        "select 0/0/0:6 0/0/0:6\nexec insertText a\nselect 0/0/0:3 0/0/0:3\nexec insertText b\nselect 0/0/0:0 0/0/0:0\nexec insertText c\nhtml\nundo 2\nhtml\nredo 1\nhtml\nundo 2\nhtml\nredo 3\nhtml\nselect 0/0/0:2 0/0/0:7\nexec insertText d\nhtml\nundo 1\nhtml\nundo 3\nhtml\n",
+        "ok\ntrue\nok\ntrue\nok\ntrue\n<div contenteditable=\"true\"><p>cfoobbara</p></div>\nundo 2\n<div contenteditable=\"true\"><p>foobara</p></div>\nredo 1\n<div contenteditable=\"true\"><p>foobbara</p></div>\nundo 2\n<div contenteditable=\"true\"><p>foobar</p></div>\nredo 3\n<div contenteditable=\"true\"><p>cfoobbara</p></div>\nok\ntrue\n<div contenteditable=\"true\"><p>cfdra</p></div>\nundo 1\n<div contenteditable=\"true\"><p>cfoobbara</p></div>\nundo 3\n<div contenteditable=\"true\"><p>foobar</p></div>\n",
+    ),
+    // typed into both parts of a text that was split, and where they were joined
+    Row(
+        "run",
+        FOOBAR,
+        "select 0/0/0:3 0/0/0:3\nexec insertText x\nexec insertParagraph\nexec insertText y\nselect 0/1/0:0 0/1/0:0\nexec delete\nexec insertText z\nhtml\nundo 1\nhtml\nundo 1\nhtml\nundo 1\nhtml\nundo 1\nhtml\nundo 1\nhtml\nredo 5\nhtml\nlog\n",
+        "ok\ntrue\ntrue\ntrue\nok\ntrue\ntrue\n<div contenteditable=\"true\"><p>fooxzybar</p></div>\nundo 1\n<div contenteditable=\"true\"><p>fooxybar</p></div>\nundo 1\n<div contenteditable=\"true\"><p>foox</p><p>ybar</p></div>\nundo 1\n<div contenteditable=\"true\"><p>foox</p><p>bar</p></div>\nundo 1\n<div contenteditable=\"true\"><p>fooxbar</p></div>\nundo 1\n<div contenteditable=\"true\"><p>foobar</p></div>\nredo 5\n<div contenteditable=\"true\"><p>fooxzybar</p></div>\nentry\nwords 3 \"fooxbar\"\nentry\nmake 4 \"bar\"\nmake 5 <p>\ninsert 4 2 -\nwords 3 \"foox\"\ninsert 5 1 -\nremove 4\ninsert 4 5 -\nentry\nwords 4 \"ybar\"\nentry\nmove 4 2 -\nremove 5\nentry\nwords 3 \"fooxz\"\n",
+    ),
+    // the oldest run of typing is dropped amid another
+    Row(
+        "run --undo 2",
+        X,
+        "select 0/0/0:1 0/0/0:1\nexec insertText a\nexec insertText b\nselect 0/0/0:2 0/0/0:2\nexec insertText c\nexec insertText d\nselect 0/0/0:0 0/0/0:0\nexec insertText e\nhtml\nlog\nundo 3\nhtml\nredo 3\nhtml\n",
+        "ok\ntrue\ntrue\nok\ntrue\ntrue\nok\ntrue\n<div contenteditable=\"true\"><p>exacdb</p></div>\n! 8 log cut\nundo 2\n<div contenteditable=\"true\"><p>xab</p></div>\nredo 2\n<div contenteditable=\"true\"><p>exacdb</p></div>\n",
     ),
 ];
 

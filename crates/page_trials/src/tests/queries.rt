@@ -557,9 +557,9 @@ impl Trial for Overrides {
 
 fn set_each(alloc: Global, doc: &mut Doc) -> Result<(), AllocError> {
     doc.set_setting(Command::Bold, Setting::On);
-    let value = Chars::from_vec(chars(alloc, "xx-large")?);
+    let value = Chars::from_vec(chars(alloc, "xx-large")?)?;
     doc.set_setting(Command::FontSize, Setting::Text { value });
-    let value = Chars::from_vec(chars(alloc, "#f00")?);
+    let value = Chars::from_vec(chars(alloc, "#f00")?)?;
     doc.set_setting(Command::ForeColor, Setting::Text { value });
     Ok(())
 }

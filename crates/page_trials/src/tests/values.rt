@@ -368,7 +368,7 @@ fn values_that_are_the_same(rt: HostRuntime) -> Result<(), Fail> {
 
 fn optional(alloc: Global, text: Option<&str>) -> Result<Option<Chars>, AllocError> {
     match text {
-        Some(text) => Ok(Some(Chars::from_vec(chars(alloc, text)?))),
+        Some(text) => Ok(Some(Chars::from_vec(chars(alloc, text)?)?)),
         None => Ok(None),
     }
 }

@@ -9,11 +9,11 @@ use Rattle.edit_doc.proofs.Doc.redo_and_read.Goals.{in-Ok, in-Err}
 pub loop-done-init : goal.loop-done-init
 loop-done-init g c = (subst (λ us. HasMoved c.args.self.now c.args.self.now us c.args.self.now.history.redo) c.requires.all (moved_none c.args.self.now), c.new.ensures.items)
 
-pub push_next-requires-clause-closed : goal.push_next-requires-clause-closed
-push_next-requires-clause-closed g c = still_closed _ _ _ _ c.loop-done.invariant.0 c.requires.closed
+pub redo_next-requires-clause-closed : goal.redo_next-requires-clause-closed
+redo_next-requires-clause-closed g c = still_closed _ _ _ _ c.loop-done.invariant.0 c.requires.closed
 
-pub push_next-requires-clause-more : goal.push_next-requires-clause-more
-push_next-requires-clause-more g c =
+pub redo_next-requires-clause-more : goal.redo_next-requires-clause-more
+redo_next-requires-clause-more g c =
     let rs = c.args.self.now.history.redo in
     let more : c.loop-done._done < length rs = (let all = c.requires.within in let lt = c.loop-done-test.true in omega (arith, all, lt)) in
     some_detached rs c.loop-done.self.history.redo c.loop-done._done more c.loop-done.invariant.0.redo
@@ -26,15 +26,16 @@ loop-done-preserved g c =
     let was = c.args.self.now in
     let rs = was.history.redo in
     let more : c.loop-done._done < length rs = (let all = c.requires.within in let lt = c.loop-done-test.true in omega (arith, all, lt)) in
-    let h = c.loop-done.invariant.0 in (
-      redone_one was c.loop-done.self c.redo.new.self rs c.loop-done._done more h c.redo.ensures.doc,
-      elim c.match-entries.branch [
-        | in-Ok w ↦ (
-            let listed = IfOk-at_ok (λ es. es.items ≡ map logged_entry (take c.loop-done._done rs)) w.in-Ok.is c.loop-done.invariant.1 in
-            rw w.entries-is (IfOk-weaker w.push_next.result _ _ (λ es e. listed_more rs c.loop-done.self.history.redo c.loop-done._done more h.redo w.in-Ok.before.items listed es.items e) w.push_next.ensures))
-        | in-Err w ↦ rw w.entries-is tt
-      ],
-    )
+    let h = c.loop-done.invariant.0 in
+    elim c.match-entries.branch [
+      | in-Ok w ↦ (
+          let listed = IfOk-at_ok (λ es. es.items ≡ map logged_entry (take c.loop-done._done rs)) w.in-Ok.is c.loop-done.invariant.1 in
+          rw (w.entries-is, w.self-is) (
+            redone_one was c.loop-done.self w.redo_next.new.self rs c.loop-done._done more h w.redo_next.ensures.redone,
+            IfOk-weaker w.redo_next.result _ _ (λ es e. listed_more rs c.loop-done.self.history.redo c.loop-done._done more h.redo w.in-Ok.before.items listed es.items e) w.redo_next.ensures.read,
+          ))
+      | in-Err w ↦ rw (w.entries-is, w.self-is) (redone_one was c.loop-done.self w.redo.new.self rs c.loop-done._done more h w.redo.ensures.doc, tt)
+    ]
 
 pub returns-clause-moved : goal.returns-clause-moved
 returns-clause-moved g c =

@@ -382,7 +382,7 @@ fn set(alloc: Global, doc: &mut Doc, kept: Override) -> Result<(), AllocError>
         On(command) => doc.set_setting(command, Setting::On),
         Off(command) => doc.set_setting(command, Setting::Off),
         Wording(command, text) => {
-            let value = Chars::from_vec(chars(alloc, text)?);
+            let value = Chars::from_vec(chars(alloc, text)?)?;
             doc.set_setting(command, Setting::Text { value });
         }
     }

@@ -22,11 +22,11 @@ loop-c-preserved c =
           (chars_past_char _ _ _ before.1 spelled) c.in-Some-step.ensures.step before.2),
     )
 
-pub returns-in-Outside : goal.returns-in-Outside
-returns-in-Outside c =
+pub returns-in_ok-from_vec-in-Outside : goal.returns-in_ok-from_vec-in-Outside
+returns-in_ok-from_vec-in-Outside c =
     let none = ap chars (nil_from_length _ c.in-None.ensures.steps.0.0) ∙ chars-nil in
     Follows-end c.args.printed c.loop-c.value.items c.loop-c.state (chars (chars_rest c.loop-c.c-iterator)) _ none c.in-Outside.is c.loop-c.invariant.2
-    ∙ ap Some (sym c.from_vec.ensures)
+    ∙ ap Some (sym c.in_ok-from_vec-in-Outside.ensures)
 
 pub returns-in_default-state : goal.returns-in_default-state
 returns-in_default-state c =

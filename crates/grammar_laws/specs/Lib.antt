@@ -1,0 +1,3 @@
+pub mod Proper
+pub mod Runs
+pub mod Laws

@@ -1,0 +1,58 @@
+-- What the grammar of pages asks of the nodes of a document, and of what edits put into it: the names
+-- of elements and attributes are its names in lower case, characters are scalar values, and no
+-- element has two attributes of a name. Comments may have any characters of these.
+use Rattle.std.specs.Prelude.{◌≡◌, ℕ, List, true}
+use Rattle.std.specs.Str.{all_scalars}
+use Rattle.dom_model.specs.declared.attributes.Attribute.{Attribute}
+use Rattle.dom_model.specs.declared.Content.{Content}
+use Rattle.dom_model.specs.declared.Content.TheVariants.{Document, Element, Words, Remark}
+use Rattle.dom_model.specs.AttributeList.{IsDistinctNames}
+use Rattle.dom_model.specs.Change.{Change, SetText, Splice, SetAttributes}
+use Rattle.dom_model.specs.Forest.{Forest}
+use Rattle.dom_model.specs.Forest.Forest.{Nil, Tree}
+use Rattle.forest_changes.specs.Named.{Each}
+use Rattle.edit_model.specs.State.{State}
+use Rattle.edit_model.specs.declared.settings.Setting.{Setting}
+use Rattle.edit_model.specs.declared.settings.Setting.TheVariants.{Text}
+use Rattle.step_text.specs.StepLine.{AreAttributes, IsTag}
+
+-- each content of a forest has the property
+abbrev pub AllNodes : {C : Type 0} → (C → Type 0) → Forest C → Type 0
+AllNodes P Nil = Unit {0}
+AllNodes P (Tree l c ks rest) = P c × AllNodes P ks × AllNodes P rest
+
+abbrev pub IsText : List ℕ → Type 0
+IsText chars = all_scalars chars ≡ true
+
+-- an attribute list that a tag may have
+abbrev pub IsList : List Attribute → Type 0
+IsList list = AreAttributes list × IsDistinctNames list
+
+abbrev pub IsProper : Content → Type 0
+IsProper Document = Unit {0}
+IsProper (Element name attributes) = IsTag name attributes
+IsProper (Words chars) = IsText chars
+IsProper (Remark chars) = IsText chars
+
+-- what a change puts
+abbrev pub IsProperChange : Change → Type 0
+IsProperChange (SetText n words) = IsText words
+IsProperChange (Splice n at rest taken put) = IsText put
+IsProperChange (SetAttributes n list) = IsList list
+IsProperChange _ = Unit {0}
+
+-- a value override
+abbrev pub IsProperSetting : Setting → Type 0
+IsProperSetting (Text value) = IsText value
+IsProperSetting _ = Unit {0}
+
+-- a node that was made, by its content
+abbrev pub IsProperNode : ℕ × Content → Type 0
+IsProperNode node = IsProper node.1
+
+-- the nodes of a state, its overrides, and what the running command has made and changed
+pub record IsProperState (s : State) : Type 0 where
+  pub nodes : AllNodes IsProper s.trees
+  pub settings : Each IsProperSetting s.overrides
+  pub made : Each IsProperNode s.made
+  pub edits : Each IsProperChange s.edits
