@@ -19,6 +19,8 @@ use Rattle.edit_query.specs.declared.reply.Reply.{Reply}
 use Rattle.edit_query.specs.declared.reply.Reply.TheVariants as reply
 use Rattle.edit_engine.specs.declared.answers.Answer.{Answer}
 use Rattle.edit_engine.specs.declared.answers.Answer.TheVariants as answer
+use Rattle.edit_engine.specs.declared.answers.ExecFault.{ExecFault}
+use Rattle.edit_engine.specs.declared.answers.ExecFault.TheVariants as exec_fault
 use Rattle.edit_engine.specs.declared.answers.ReplaceFault.{ReplaceFault}
 use Rattle.edit_engine.specs.declared.answers.ReplaceFault.TheVariants as replace_fault
 use Rattle.edit_engine.specs.declared.answers.PlaceFault.{PlaceFault}
@@ -109,7 +111,7 @@ IsOpened e page limit depth =
 abbrev pub NotOpened : Status → Refusal → (page : List ℕ) → (limit depth : ℕ) → Type 0
 NotOpened PageRefused refusal page limit depth =
     (0 < limit) × (0 < depth) × IsRefusedAt refusal page limit
-NotOpened Memory refusal page limit depth = ⊤
+NotOpened Memory refusal page limit depth = (0 < limit) × (0 < depth)
 NotOpened BadArgument refusal page limit depth = (limit ≡ 0) ⊎ (depth ≡ 0)
 NotOpened status refusal page limit depth = ⊥
 
@@ -128,6 +130,14 @@ ExecAnswers Full old new o = (o ≡ exec.Full) × (new ≡ old)
 ExecAnswers Deep old new o = (o ≡ exec.Deep) × (new ≡ old)
 ExecAnswers Memory old new o = new ≡ old
 ExecAnswers status old new o = ⊥
+
+-- the status of what a command answers
+abbrev pub answered_status : Result Answer ExecFault → Status
+answered_status (Ok answer.Yes) = Done
+answered_status (Ok answer.No) = No
+answered_status (Err exec_fault.Full) = Full
+answered_status (Err exec_fault.Deep) = Deep
+answered_status (Err exec_fault.Memory) = Memory
 
 -- of a joined command or not
 abbrev pub ExecTells : (joined : Bool) → Status → Editing → Editing → (name value : List ℕ)
@@ -174,6 +184,11 @@ SelectTells Done old new found = (pair : Pair) × (found ≡ Some pair) × (new 
 SelectTells BadPlace old new found = (found ≡ None) × (new ≡ old)
 SelectTells Memory old new found = new ≡ old
 SelectTells status old new found = ⊥
+
+-- the same of two points, for which no memory is asked
+abbrev pub SelectPointsTell : Status → Editing → Editing → Option Pair → Type 0
+SelectPointsTell Memory old new found = ⊥
+SelectPointsTell status old new found = SelectTells status old new found
 
 abbrev pub MarkTells : Status → Editing → Editing → (name : List ℕ) → Option Pair → Type 0
 MarkTells Done old new name found =

@@ -3,6 +3,7 @@ use Rattle.std.specs.Prelude.{◌≡◌, ℕ, ◌<◌, List, Option, Some, None}
 use Rattle.packed_edits.specs.Packed.{packed}
 use Rattle.edit_engine.specs.Changes.{CanFollow, changes_of}
 use Rattle.edit_engine.specs.Editing.{EditorValue, document}
+use Rattle.edit_engine.specs.Following.{first_following}
 use Rattle.edit_engine.specs.KeptLabels.{IsKept, IsGone}
 use Rattle.hedit_c.specs.declared.editor.status.Status.{Status}
 use Rattle.hedit_c.specs.declared.editor.status.Status.TheVariants.{Done, No}
@@ -21,6 +22,10 @@ StaysFollowed old new = Between old new CanFollow
 -- the call changes nothing that a host could follow
 abbrev pub KeepsFollowing : EditorValue → EditorValue → Type 0
 KeepsFollowing old new = new.following ≡ old.following
+
+-- a new editor has changed nothing yet
+abbrev pub BeginsFollowing : EditorValue → Type 0
+BeginsFollowing v = v.following ≡ first_following
 
 -- what the last call that changed something changed, packed, in a buffer
 abbrev pub ChangesTell : Status → EditorValue → (old new : List ℕ) → (n : ℕ) → Type 0

@@ -1,5 +1,5 @@
 -- What C is told of the nodes of an editor's document, of its selection, and of its numbers.
-use Rattle.std.specs.Prelude.{◌≡◌, ℕ, ◌<◌, List, [], length, encode_utf8_all, slice_get, Option, Some, None, unwrap_or}
+use Rattle.std.specs.Prelude.{◌≡◌, ℕ, ◌<◌, List, [], length, encode_utf8_all, slice_get, Option, Some, None, IsSome, unwrap_or}
 use Rattle.std.specs.Option.{option_map_or, option_and_then, IsSomeAnd}
 use Rattle.dom_model.specs.declared.Content.{Content}
 use Rattle.dom_model.specs.declared.Content.TheVariants.{Document, Element, Words, Remark}
@@ -57,7 +57,7 @@ LabelTells status e path old new = ⊥
 -- the path of the node, in a buffer
 abbrev pub PathTells : Status → Editing → (label : ℕ) → (old new : List ℕ) → (n : ℕ) → Type 0
 PathTells BadPlace e label old new n = (count_of e.state.trees label ≡ 0) × (new ≡ old)
-PathTells Memory e label old new n = new ≡ old
+PathTells Memory e label old new n = (0 < count_of e.state.trees label) × (new ≡ old)
 PathTells status e label old new n =
     (path : List ℕ) × (label_at e.state.trees path ≡ Some label) × Puts status path old new n
 
@@ -76,9 +76,14 @@ value_text content = []
 abbrev pub TextTells : (Content → List ℕ) → Status → Editing → (label : ℕ) → (old new : List ℕ)
     → (n : ℕ) → Type 0
 TextTells text BadPlace e label old new n = (count_of e.state.trees label ≡ 0) × (new ≡ old)
-TextTells text Memory e label old new n = new ≡ old
+TextTells text Memory e label old new n = (0 < count_of e.state.trees label) × (new ≡ old)
 TextTells text status e label old new n =
     IsSomeAnd (content_of e.state.trees label) (λ c. Puts status (text c) old new n)
+
+-- the name, for which no memory is asked
+abbrev pub NameTells : Status → Editing → (label : ℕ) → (old new : List ℕ) → (n : ℕ) → Type 0
+NameTells Memory e label old new n = ⊥
+NameTells status e label old new n = TextTells name_text status e label old new n
 
 -- ---- the attributes of a node, in their order
 
@@ -97,13 +102,22 @@ abbrev pub AttributeTells : (Attribute → List ℕ) → Status → Editing → 
     → (old new : List ℕ) → (n : ℕ) → Type 0
 AttributeTells text BadPlace e label place old new n =
     (count_of e.state.trees label ≡ 0) × (new ≡ old)
-AttributeTells text Memory e label place old new n = new ≡ old
+AttributeTells text Memory e label place old new n =
+    IsSomeAnd (content_of e.state.trees label) (λ c. IsSome (slice_get (attributes_in c) place))
+    × (new ≡ old)
 AttributeTells text No e label place old new n =
     IsSomeAnd (content_of e.state.trees label) (λ c. slice_get (attributes_in c) place ≡ None)
     × (new ≡ old)
 AttributeTells text status e label place old new n =
     IsSomeAnd (content_of e.state.trees label) (λ c.
     IsSomeAnd (slice_get (attributes_in c) place) (λ a. Puts status (text a) old new n))
+
+-- its name, for which no memory is asked
+abbrev pub AttributeNameTells : Status → Editing → (label place : ℕ) → (old new : List ℕ) → (n : ℕ)
+    → Type 0
+AttributeNameTells Memory e label place old new n = ⊥
+AttributeNameTells status e label place old new n =
+    AttributeTells attribute_name status e label place old new n
 
 -- ---- the selection, the marks, and the numbers of the document and the history
 

@@ -19,7 +19,7 @@ abbrev pub SubtreeTells : (Forest Content → ℕ → List ℕ) → Status → E
     → (old new : List ℕ) → (n : ℕ) → Type 0
 SubtreeTells text BadPlace e label old new n =
     (count_of e.state.trees label ≡ 0) × (new ≡ old)
-SubtreeTells text Memory e label old new n = new ≡ old
+SubtreeTells text Memory e label old new n = (0 < count_of e.state.trees label) × (new ≡ old)
 SubtreeTells text status e label old new n =
     (0 < count_of e.state.trees label) × Puts status (text e.state.trees label) old new n
 

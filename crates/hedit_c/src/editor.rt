@@ -3,14 +3,14 @@
 //! C may pass what it likes, so no export requires anything but what its types say: an argument
 //! without a meaning has a status of its own, and so has a handle without an editor.
 
-ghost use Rattle.std.specs.Prelude.{◌≡◌, None, true, false};
+ghost use Rattle.std.specs.Prelude.{◌≡◌, None, IfSome, true, false};
 ghost use Rattle.std.specs.Option.{option_map};
 ghost use Rattle.edit_engine.specs.Editing.{undone, redone};
 ghost use Rattle.edit_engine.specs.Places.{unselecting};
-ghost use Rattle.hedit_c.specs.Calls.{editing_of, Leaves, Asks, Answers, Opens, ExecTells, GatedTells, QueryTells, ViewTells, SelectTells, MarkTells, UnmarkTells, ReplaceTells, pair_there, pair_of_points, place, point, taken_status, unselect_status};
-ghost use Rattle.hedit_c.specs.Following.{Between, StaysFollowed, KeepsFollowing, ChangesTell, KeptTells, RevisionTells};
+ghost use Rattle.hedit_c.specs.Calls.{editing_of, Leaves, Asks, Answers, Opens, ExecTells, GatedTells, QueryTells, ViewTells, SelectTells, SelectPointsTell, MarkTells, UnmarkTells, ReplaceTells, pair_there, pair_of_points, place, point, taken_status, unselect_status};
+ghost use Rattle.hedit_c.specs.Following.{Between, StaysFollowed, BeginsFollowing, KeepsFollowing, ChangesTell, KeptTells, RevisionTells};
 ghost use Rattle.node_texts.specs.NodeHtml.{node_html};
-ghost use Rattle.hedit_c.specs.Nodes.{NodeTells, LabelTells, PathTells, name_text, value_text, TextTells, attribute_name, attribute_value, AttributeTells, SelectionTells, MarkNameTells, MarkRangeTells, NumbersTell};
+ghost use Rattle.hedit_c.specs.Nodes.{NodeTells, LabelTells, PathTells, value_text, NameTells, TextTells, attribute_value, AttributeNameTells, AttributeTells, SelectionTells, MarkNameTells, MarkRangeTells, NumbersTell};
 ghost use Rattle.hedit_c.specs.Statuses.{number_of};
 ghost use Rattle.hedit_c.specs.Subtrees.{SubtreeTells, FindTells, SelectedTells, plain_bytes, html_selected, text_selected};
 
@@ -54,7 +54,9 @@ pub extern "C" fn hedit_open(
     undo_depth: usize,
     refusal: &mut Refusal,
 ) -> u32
-    ensures { Opens result (editing_of editor.new.value) refusal.new page.now label_cap undo_depth }
+    ensures opens { Opens result (editing_of editor.new.value) refusal.new page.now label_cap
+        undo_depth }
+    ensures begins { IfSome editor.new.value BeginsFollowing }
 {
     *editor = Handle::closed(alloc);
     match open(alloc, page, label_cap, undo_depth, refusal) {
@@ -238,7 +240,7 @@ pub extern "C" fn hedit_select_points(
     focus_offset: u32,
 ) -> u32
     ensures told { Leaves result (editing_of editor.old.value) (editing_of editor.new.value)
-        (λ status old new. SelectTells status old new (pair_of_points old
+        (λ status old new. SelectPointsTell status old new (pair_of_points old
         (point anchor anchor_offset) (point focus focus_offset))) }
     ensures following { Between editor.old.value editor.new.value KeepsFollowing }
 {
@@ -515,7 +517,7 @@ pub extern "C" fn hedit_node_name(
 ) -> u32
     ensures stays { editor.new.value ≡ editor.old.value }
     ensures told { Asks result (editing_of editor.old.value) buffer.old buffer.new
-        (λ status e. TextTells name_text status e label buffer.old buffer.new length.new) }
+        (λ status e. NameTells status e label buffer.old buffer.new length.new) }
 {
     let Some(held) = editor.take(alloc) else {
         return Status::Closed.number();
@@ -559,7 +561,7 @@ pub extern "C" fn hedit_attribute_name(
 ) -> u32
     ensures stays { editor.new.value ≡ editor.old.value }
     ensures told { Asks result (editing_of editor.old.value) buffer.old buffer.new
-        (λ status e. AttributeTells attribute_name status e label place
+        (λ status e. AttributeNameTells status e label place
         buffer.old buffer.new length.new) }
 {
     let Some(held) = editor.take(alloc) else {

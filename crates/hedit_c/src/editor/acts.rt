@@ -6,7 +6,7 @@ ghost use Rattle.edit_engine.specs.Editing.{Editing, undone, redone};
 ghost use Rattle.edit_engine.specs.Execution.{Outcome, Tells, outcome_by, gated_outcome};
 ghost use Rattle.hedit_c.specs.Following.{KeepsFollowing};
 ghost use Rattle.std.specs.Str.{chars};
-ghost use Rattle.hedit_c.specs.Calls.{ExecAnswers, ExecTells, GatedTells, SelectTells, MarkTells, UnmarkTells, ReplaceAnswers, ReplaceTells, pair_there, pair_of_points, place, replaced_status, selected_status};
+ghost use Rattle.hedit_c.specs.Calls.{ExecAnswers, ExecTells, SelectPointsTell, answered_status, GatedTells, SelectTells, MarkTells, UnmarkTells, ReplaceAnswers, ReplaceTells, pair_there, pair_of_points, place, replaced_status, selected_status};
 
 use super::status::Status;
 use super::texts::place_of;
@@ -20,7 +20,8 @@ use std::alloc::Global;
 
 // The status of a command's answer.
 fn answered(answer: Result<Answer, ExecFault>) -> Status
-    ensures { (old new : Editing) (o : Outcome) → Tells answer old new o
+    ensures status { result ≡ answered_status answer }
+    ensures told { (old new : Editing) (o : Outcome) → Tells answer old new o
         → ExecAnswers result old new o }
 {
     match answer {
@@ -246,7 +247,7 @@ pub(crate) fn select(
 
 /// Selects from one point to another.
 pub(crate) fn select_points(editor: &mut Editor, anchor: Point, focus: Point) -> Status
-    ensures told { SelectTells result editor.old.editing editor.new.editing
+    ensures told { SelectPointsTell result editor.old.editing editor.new.editing
         (pair_of_points editor.old.editing anchor focus) }
     ensures following { KeepsFollowing editor.old editor.new }
 {

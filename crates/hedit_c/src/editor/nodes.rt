@@ -4,7 +4,7 @@ ghost use Rattle.std.specs.Prelude.{◌≡◌, [], MatchOption, encode_utf8_all,
 ghost use Rattle.std.specs.Option.{option_map};
 ghost use Rattle.edit_doc.specs.Held.{Holds};
 ghost use Rattle.edit_model.specs.Gives.{label_of};
-ghost use Rattle.hedit_c.specs.Nodes.{label_number, node_type, facts_of, NodeTells, LabelTells, PathTells, name_text, value_text, TextTells, attributes_in, attribute_name, attribute_value, AttributeTells, selection_of, SelectionTells, MarkNameTells, MarkRangeTells, numbers_of, NumbersTell};
+ghost use Rattle.hedit_c.specs.Nodes.{label_number, node_type, facts_of, NodeTells, LabelTells, PathTells, name_text, value_text, TextTells, NameTells, attributes_in, attribute_name, attribute_value, AttributeTells, AttributeNameTells, selection_of, SelectionTells, MarkNameTells, MarkRangeTells, numbers_of, NumbersTell};
 
 use super::status::Status;
 use super::texts::{put, put_chars};
@@ -148,7 +148,7 @@ pub(crate) fn node_name(
     buffer: &mut [u8],
     length: &mut usize,
 ) -> Status
-    ensures { TextTells name_text result editor.now.editing label buffer.old buffer.new length.new }
+    ensures { NameTells result editor.now.editing label buffer.old buffer.new length.new }
 {
     let doc = editor.document();
     match doc.find(label) {
@@ -216,8 +216,8 @@ pub(crate) fn attribute_name(
     buffer: &mut [u8],
     length: &mut usize,
 ) -> Status
-    ensures { AttributeTells attribute_name result editor.now.editing label place
-        buffer.old buffer.new length.new }
+    ensures { AttributeNameTells result editor.now.editing label place buffer.old buffer.new
+        length.new }
 {
     let doc = editor.document();
     let Some(node) = doc.find(label) else {

@@ -1,10 +1,11 @@
 //! Opening a page.
 
-ghost use Rattle.std.specs.Prelude.{◌≡◌, ◌<◌, IfSome, MatchResult, Err, List, ℕ};
+ghost use Rattle.std.specs.Prelude.{◌≡◌, ◌<◌, IfOk, IfSome, MatchResult, Err, List, ℕ};
 ghost use Rattle.edit_doc.specs.Whole.{HasNoLoose};
 ghost use Rattle.edit_engine.specs.Editing.{new_editing};
 ghost use Rattle.page_read.specs.Answer.{IsAnswer};
 ghost use Rattle.hedit_c.specs.Calls.{IsOpened, NotOpened};
+ghost use Rattle.hedit_c.specs.Following.{BeginsFollowing};
 
 use super::status::Status;
 use edit_engine::Editor;
@@ -22,7 +23,8 @@ pub struct Refusal {
 
 // The status of a page that is refused, or for which there is no memory.
 fn refuse(fault: PageFault, refusal: &mut Refusal) -> Status
-    ensures { (page : List ℕ) (limit depth : ℕ) → 0 < limit → 0 < depth
+    ensures memory { result ≡ Status.Memory → fault.kind ≡ PageKind.Memory }
+    ensures told { (page : List ℕ) (limit depth : ℕ) → 0 < limit → 0 < depth
         → IsAnswer limit page (Err fault)
         → NotOpened result refusal.new page limit depth }
 {
@@ -42,7 +44,8 @@ fn refuse(fault: PageFault, refusal: &mut Refusal) -> Status
 fn editor_of(alloc: Global, arena: Arena, undo_depth: usize) -> Option<Box<Editor>>
     requires depth { 0 < undo_depth }
     requires loose { HasNoLoose arena }
-    ensures { IfSome result (λ editor. editor.value.editing ≡ new_editing arena undo_depth) }
+    ensures opened { IfSome result (λ editor. editor.value.editing ≡ new_editing arena undo_depth) }
+    ensures begins { IfSome result (λ editor. BeginsFollowing editor.value) }
 {
     let editor = Editor::new(alloc, arena, undo_depth).ok()?;
     Box::new(alloc, editor).ok()
@@ -56,7 +59,8 @@ pub(crate) fn open(
     undo_depth: usize,
     refusal: &mut Refusal,
 ) -> Result<Box<Editor>, Status>
-    ensures { MatchResult result
+    ensures begins { IfOk result (λ editor. BeginsFollowing editor.value) }
+    ensures opened { MatchResult result
         (λ editor. IsOpened editor.value.editing page.now label_cap undo_depth)
         (λ status. NotOpened status refusal.new page.now label_cap undo_depth) }
 {
