@@ -14,7 +14,7 @@ or those alone that the options name. The parts:
   nothing   a key amid empty spans, blank spans, inputs and hidden spans
   styles    each command and each question on an element whose style has 10,000 declarations, in seconds of processor
   stack     all commands and questions on the deepest pages, in a stack of 128 kB
-  typing    many characters that are typed into one text
+  typing    many characters that are typed into one text, with their memory, and a key before a long text
   log       the act `log`, and `replay` of what it prints
   moves     a line of `replay` that moves a tree, or takes it out and puts it back
   bulk      `bulk 5000`, and its memory
@@ -475,11 +475,28 @@ def stack():
 # ---- many keys
 
 def typing():
-    page = SHAPES["paragraphs"].page(10)
-    nothing, few, many = (counted(session_of(page, ["select 0/3/0:1 0/3/0:1"] + ["exec insertText x"] * count), "run")[1]
-                          for count in (0, 2500, 10000))
+    """Many keys in one text, and a key before so many characters of one."""
+    page, caret = SHAPES["paragraphs"].page(10), select("0/3/0:1")
+
+    def session(count, act):
+        return session_of(page, [caret] + [act] * count)
+
+    nothing, few, many = (counted(session(count, TYPED[0]), "run")[1] for count in (0, 2500, 10000))
     print(f"typing in one text: {few - nothing:,} instructions for 2,500 characters, {many - nothing:,} for 10,000")
-    told("typing: growth at four times as many characters", (many - nothing) / (few - nothing), 4.5)
+    told("typing: growth at four times as many characters", (many - nothing) / (few - nothing), 4.2)
+    # A session is read whole before its acts, and so beside one of as many questions.
+    asked, typed = (used(session(10000, act), "run").kilobytes for act in ("query state bold", TYPED[0]))
+    print(f"  peak of memory: {asked:,} kB with 10,000 questions, {typed:,} kB with 10,000 characters")
+    told("typing: bytes for each of 10,000 characters", (typed - asked) * 1024 / 10000, 100)
+    for length in (10000, 100000):
+        few, many = (key_at_front(length, count) for count in (100, 300))
+        print(f"  a key before {length:,} characters: {(many - few) / 200:,.0f} instructions")
+
+
+def key_at_front(length, count):
+    """The instructions of a session that types so many characters before a long text."""
+    page = host(f"<p>{'some words ' * (length // 11)}</p>")
+    return counted(session_of(page, [select("0/0/0:0")] + TYPED[:1] * count), "run")[1]
 
 
 def log():
