@@ -1,8 +1,8 @@
 -- Words joined by a space, from the front on.
-use Rattle.std.proofs.Common.{◌≡◌, ℕ, Bool, true, false, not, cond, List, [], ◌∷◌, ◌++◌, refl, sym, ap, ◌∙◌, filter, bytes_eq}
+use Rattle.std.proofs.Common.{◌≡◌, ℕ, Bool, true, false, true≢false, not, cond, List, [], ◌∷◌, ◌++◌, refl, sym, ap, ◌∙◌, filter, bytes_eq}
 use Rattle.std.specs.List.{AllByRecursion, join_with_byte, slice_split, onto_first}
 use Rattle.std.proofs.lemmas.List.{append-nil}
-use Rattle.css_value.specs.StyleText.{is_space, is_empty}
+use Rattle.css_value.specs.StyleText.{is_space, is_empty, trim_start, trim_end, before_trimmed, trimmed}
 use Rattle.css_value.specs.TextDecoration.{words, line_word, without_line}
 use Rattle.css_value.specs.declared.decoration.DecorationLine.{DecorationLine}
 
@@ -94,3 +94,52 @@ words-all-joined text left line more none joined =
     nothing : (b : Bool) → further b [] ≡ []
     nothing true = refl
     nothing false = refl
+
+-- ---- joined words have no space at an end
+
+before-some : (c : ℕ) (text : List ℕ) → is_empty text ≡ false → before_trimmed c text ≡ c ∷ text
+before-some c [] some = absurd (true≢false some)
+before-some c (d ∷ text) some = refl
+
+append-some : (word text : List ℕ) → is_empty text ≡ false → is_empty (word ++ text) ≡ false
+append-some [] text some = some
+append-some (c ∷ word) text some = refl
+
+join-some : (list : List (List ℕ)) (word : List ℕ) → is_empty word ≡ false → is_empty (join_with_byte 32 (word ∷ list)) ≡ false
+join-some list [] some = absurd (true≢false some)
+join-some [] (c ∷ word) some = refl
+join-some (next ∷ list) (c ∷ word) some = refl
+
+trim_end-word : (word : List ℕ) → Spaceless word → trim_end word ≡ word
+trim_end-word [] all = refl
+trim_end-word (c ∷ []) all = ap (λ b. cond b [] (c ∷ [])) all.0
+trim_end-word (c ∷ d ∷ word) all = ap (before_trimmed c) (trim_end-word (d ∷ word) all.1)
+
+trim_end-behind : (word text : List ℕ) → is_empty text ≡ false → trim_end text ≡ text → trim_end (word ++ text) ≡ word ++ text
+trim_end-behind [] text some same = same
+trim_end-behind (c ∷ word) text some same =
+    ap (before_trimmed c) (trim_end-behind word text some same) ∙ before-some c (word ++ text) (append-some word text some)
+
+trim_end-join : (list : List (List ℕ)) → AreWords list → trim_end (join_with_byte 32 list) ≡ join_with_byte 32 list
+trim_end-join [] all = refl
+trim_end-join (word ∷ []) all = trim_end-word word all.0.1
+trim_end-join (word ∷ next ∷ list) all =
+    let more : List ℕ = join_with_byte 32 (next ∷ list) in
+    trim_end-behind word (32 ∷ more) refl (ap (before_trimmed 32) (trim_end-join (next ∷ list) all.1) ∙ before-some 32 more (join-some list next all.1.0.0))
+
+trim_start-join : (list : List (List ℕ)) → AreWords list → trim_start (join_with_byte 32 list) ≡ join_with_byte 32 list
+trim_start-join [] all = refl
+trim_start-join ([] ∷ list) all = absurd (true≢false all.0.0)
+trim_start-join ((c ∷ word) ∷ []) all = ap (λ b. cond b (trim_start word) (c ∷ word)) all.0.1.0
+trim_start-join ((c ∷ word) ∷ next ∷ list) all =
+    let more : List ℕ = word ++ 32 ∷ join_with_byte 32 (next ∷ list) in
+    ap (λ b. cond b (trim_start more) (c ∷ more)) all.0.1.0
+
+trimmed-join : (list : List (List ℕ)) → AreWords list → trimmed (join_with_byte 32 list) ≡ join_with_byte 32 list
+unfolding trimmed
+trimmed-join list all = ap trim_end (trim_start-join list all) ∙ trim_end-join list all
+
+pub trimmed-without_line : (text : List ℕ) (line : DecorationLine) → trimmed (without_line text line) ≡ without_line text line
+unfolding without_line
+trimmed-without_line text line =
+    trimmed-join (filter (λ word. not (bytes_eq (line_word line) word)) (words text)) (AreWords-filter (λ word. not (bytes_eq (line_word line) word)) (words text) (words-are text))

@@ -10,6 +10,8 @@ pub mod Printing
 pub mod Decimals
 pub mod Words
 pub mod Joining
+pub mod Dropping
+pub mod Revised
 pub mod PrintedNumbers
 pub mod PrintedColours
 pub mod Numerals

@@ -8,7 +8,7 @@ use Rattle.css_value.proofs.Names.{name-is}
 use Rattle.css_value.proofs.Passing.{run, then_run, run-append, run-fold, run-pieces, run-lowered, run-trimmed, plain-run, IsPlain, AreUncut, pieces-uncut}
 use Rattle.css_value.proofs.Trimming.{trimmed-trimmed, trimmed-space, trimmed-lowered, lowered-lowered, before_colon-none, none-trimmed, none-lowered, before_colon-at, after_colon-at, around_colon-is}
 
-colon-plain : IsPlain 58
+pub colon-plain : IsPlain 58
 colon-plain = record { no_quote = refl; no_opening = refl; no_closing = refl; no_cut = refl }
 
 space-plain : IsPlain 32
@@ -31,7 +31,7 @@ not-empty : (a b : Bool) → (a || b) ≡ false → (a ≡ false) × (b ≡ fals
 not-empty true b h = absurd (true≢false h)
 not-empty false b h = (refl, h)
 
-named-is : (name value : List ℕ) → is_empty name ≡ false → is_empty value ≡ false → named name value ≡ Some (record { name = name; value = value })
+pub named-is : (name value : List ℕ) → is_empty name ≡ false → is_empty value ≡ false → named name value ≡ Some (record { name = name; value = value })
 unfolding named
 named-is name value h k = ap (λ b. cond (b || is_empty value) None (Some (record { name = name; value = value }))) h ∙ ap (λ b. cond b None (Some (record { name = name; value = value }))) k
 
