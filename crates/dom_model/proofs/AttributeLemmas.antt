@@ -1,8 +1,8 @@
 -- Rows in order, the numbers of their names, and the list of attributes that they stand for change
 -- together.
 use Rattle.std.proofs.Common.{◌≡◌, ℕ, Bool, true, false, true≢false, cond, zero, suc, ◌+◌, ◌<◌, List, [], ◌∷◌, ◌++◌, Option, Some, None, is_some, option_map, refl, sym, ap, ap₂, subst, ◌∙◌, arith, drop, take, remove, nat_eq, nat_cmp, is_eq, Ordering, Less, Equal, Greater, Decides, Box, BTreeMap}
-use Rattle.std.specs.Prelude.{bytes_eq, slice_get}
-use Rattle.std.specs.List.{AllZip, IsDistinct, AllByRecursion}
+use Rattle.std.specs.Prelude.{bytes_eq, slice_get, ◌||◌, ◌&&◌, not}
+use Rattle.std.specs.List.{AllZip, IsDistinct, AllByRecursion, list_any}
 use Rattle.std.specs.Map.{lookup, remove_entry, keys_of, values_of}
 use Rattle.std.specs.Ordering.{match_ordering}
 use Rattle.std.specs.Cmp.Lexicographic.{slice_cmp}
@@ -14,7 +14,7 @@ use Rattle.std.proofs.lemmas.Map.Text.{is_eq-slice_cmp}
 use Rattle.indexmap.specs.IndexMap as map
 use Rattle.indexmap.specs.Layout.{set_value_at}
 use Rattle.dom_model.specs.declared.attributes.Attribute.{Attribute}
-use Rattle.dom_model.specs.AttributeList.{value_of, set_in, unset_in, names_of, IsDistinctNames}
+use Rattle.dom_model.specs.AttributeList.{value_of, set_in, unset_in, names_of, IsDistinctNames, are_distinct}
 use Rattle.dom_model.specs.AttributeMap.{is_named, number_of, IsNumbered, IsKnown, IsAbove, IsListing}
 
 same-name : (a b : List ℕ) → bytes_eq a b ≡ true → a ≡ b
@@ -75,7 +75,7 @@ module _ (P : List ℕ → Type 0) where
       (subst (λ (e : ℕ × Attribute). P e.1.name) (sym same) own, tt)
   all-next (r ∷ rows) (suc i) n a is all own = (all.0, all-next rows i n a is all.1 own)
 
-distinct-set : (list : List Attribute) (name value : List ℕ) → IsDistinctNames list → IsDistinctNames (set_in list name value)
+pub distinct-set : (list : List Attribute) (name value : List ℕ) → IsDistinctNames list → IsDistinctNames (set_in list name value)
 unfolding IsDistinct
 distinct-set [] name value distinct = (tt, tt)
 distinct-set (a ∷ list) name value distinct = by_test (bytes_eq name a.name) refl (distinct-set list name value distinct.1)
@@ -84,7 +84,7 @@ distinct-set (a ∷ list) name value distinct = by_test (bytes_eq name a.name) r
     by_test true is more = distinct
     by_test false is more = (all-set (λ other. bytes_eq a.name other ≡ false) list name value distinct.0 (turned name a.name is), more)
 
-distinct-unset : (list : List Attribute) (name : List ℕ) → IsDistinctNames list → IsDistinctNames (unset_in list name)
+pub distinct-unset : (list : List Attribute) (name : List ℕ) → IsDistinctNames list → IsDistinctNames (unset_in list name)
 unfolding IsDistinct
 distinct-unset [] name distinct = tt
 distinct-unset (a ∷ list) name distinct = by_test (bytes_eq name a.name) (distinct-unset list name distinct.1)
@@ -92,6 +92,39 @@ distinct-unset (a ∷ list) name distinct = by_test (bytes_eq name a.name) (dist
     by_test : (b : Bool) → IsDistinctNames (unset_in list name) → IsDistinctNames (cond b list (a ∷ unset_in list name))
     by_test true more = distinct.1
     by_test false more = (all-unset (λ other. bytes_eq a.name other ≡ false) list name distinct.0, more)
+
+-- ---- the test
+
+has_name : List ℕ → List Attribute → Bool
+has_name name list = list_any (λ b. bytes_eq name b.name) list
+
+others_told : (name : List ℕ) (list : List Attribute) → has_name name list ≡ false → AllByRecursion (λ n. bytes_eq name n ≡ false) (names_of list)
+unfolding has_name
+others_told name [] none = tt
+others_told name (a ∷ list) none = by_test (bytes_eq name a.name) refl (others_told name list) none
+  where
+    by_test : (b : Bool) → bytes_eq name a.name ≡ b → (has_name name list ≡ false → AllByRecursion (λ n. bytes_eq name n ≡ false) (names_of list)) → (b || has_name name list) ≡ false → AllByRecursion (λ n. bytes_eq name n ≡ false) (names_of (a ∷ list))
+    by_test true is more none = absurd (true≢false none)
+    by_test false is more none = (is, more none)
+
+told_others : (name : List ℕ) (list : List Attribute) → AllByRecursion (λ n. bytes_eq name n ≡ false) (names_of list) → has_name name list ≡ false
+unfolding has_name
+told_others name [] all = refl
+told_others name (a ∷ list) all = rw all.0 (told_others name list all.1)
+
+pub told_distinct : (list : List Attribute) → are_distinct list ≡ true → IsDistinctNames list
+unfolding IsDistinct has_name
+told_distinct [] told = tt
+told_distinct (a ∷ list) told = by_test (has_name a.name list) refl (told_distinct list) told
+  where
+    by_test : (b : Bool) → has_name a.name list ≡ b → (are_distinct list ≡ true → IsDistinctNames list) → (not b && are_distinct list) ≡ true → IsDistinctNames (a ∷ list)
+    by_test true is more told = absurd (true≢false (sym told))
+    by_test false is more told = (others_told a.name list is, more told)
+
+pub distinct_told : (list : List Attribute) → IsDistinctNames list → are_distinct list ≡ true
+unfolding IsDistinct has_name
+distinct_told [] distinct = refl
+distinct_told (a ∷ list) distinct = rw (told_others a.name list distinct.0) (distinct_told list distinct.1)
 
 -- what is left has other names
 left-apart : (list : List Attribute) (name : List ℕ) → IsDistinctNames list → AllByRecursion (λ n. bytes_eq name n ≡ false) (names_of (unset_in list name))
@@ -102,6 +135,22 @@ left-apart (a ∷ list) name distinct = by_test (bytes_eq name a.name) refl (lef
     by_test : (b : Bool) → bytes_eq name a.name ≡ b → AllByRecursion (λ n. bytes_eq name n ≡ false) (names_of (unset_in list name)) → AllByRecursion (λ n. bytes_eq name n ≡ false) (names_of (cond b list (a ∷ unset_in list name)))
     by_test true is more = subst (λ own. AllByRecursion (λ n. bytes_eq own n ≡ false) (names_of list)) (sym (same-name name a.name is)) distinct.0
     by_test false is more = (is, more)
+
+apart-value : (list : List Attribute) (name : List ℕ) → AllByRecursion (λ n. bytes_eq name n ≡ false) (names_of list) → value_of list name ≡ None
+apart-value [] name apart = refl
+apart-value (a ∷ list) name apart = ap (λ b. cond b (Some a.value) (value_of list name)) apart.0 ∙ apart-value list name apart.1
+
+-- a name that is unset has no value, and one that is set has this one
+pub value-unset : (list : List Attribute) (name : List ℕ) → IsDistinctNames list → value_of (unset_in list name) name ≡ None
+value-unset list name distinct = apart-value (unset_in list name) name (left-apart list name distinct)
+
+pub value-set : (list : List Attribute) (name value : List ℕ) → value_of (set_in list name value) name ≡ Some value
+value-set [] name value = ap (λ b. cond b (Some value) None) (name-is name)
+value-set (a ∷ list) name value = by_test (bytes_eq name a.name) refl (value-set list name value)
+  where
+    by_test : (b : Bool) → bytes_eq name a.name ≡ b → value_of (set_in list name value) name ≡ Some value → value_of (cond b (record { name = a.name; value = value } ∷ list) (a ∷ set_in list name value)) name ≡ Some value
+    by_test true is more = ap (λ b. cond b (Some value) (value_of list name)) is
+    by_test false is more = ap (λ b. cond b (Some a.value) (value_of (set_in list name value) name)) is ∙ more
 
 -- an attribute before that of a name has another
 apart-at : (a : Attribute) (list : List Attribute) (i : ℕ) (name : List ℕ) → AllByRecursion (λ n. bytes_eq a.name n ≡ false) (names_of list) → is_named name (slice_get list i) ≡ true → bytes_eq name a.name ≡ false

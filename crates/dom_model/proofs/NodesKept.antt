@@ -1,11 +1,12 @@
 -- Each node stays one that may be, whatever edit is made.
-use Rattle.std.proofs.Common.{◌≡◌, ◌↔◌, ◌^◌, ℕ, ◌<◌, true, false, cond, List, [], length, Option, Some, None, refl, sym, ap, subst, ◌∙◌, inl, inr, true≢false, arith, eqb}
+use Rattle.std.proofs.Common.{◌≡◌, ◌↔◌, ◌^◌, ℕ, ◌<◌, true, false, cond, List, [], length, Option, Some, None, IfSome, refl, sym, ap, subst, ◌∙◌, inl, inr, true≢false, arith, eqb}
 use Rattle.std.proofs.lemmas.Bool.Decides.{eqb_tells}
 use Rattle.std.specs.Option.{option_map, option_map_or}
 use Rattle.dom_model.specs.declared.Content.{Content}
 use Rattle.dom_model.specs.declared.attributes.Attribute.{Attribute}
 use Rattle.dom_model.specs.declared.Content.TheVariants.{Document, Element, Words, Remark}
-use Rattle.dom_model.specs.Contents.{IsNode, may_have_children, char_length, is_parent_at, with_chars, with_attributes}
+use Rattle.dom_model.specs.AttributeList.{IsDistinctNames}
+use Rattle.dom_model.specs.Contents.{IsNode, may_have_children, attributes_in, char_length, is_parent_at, with_chars, with_attributes}
 use Rattle.dom_model.specs.Forest.{Forest, Seen, count_of, IsDistinct, seek, parent_of, taken_from, tree_of, without, with_leaf, link, unlink, CanPut, relinked, unlinked}
 use Rattle.dom_model.specs.Revised.{revised, revised_seen}
 use Rattle.dom_model.proofs.Totals.{total-without}
@@ -23,6 +24,7 @@ same_kids l o s node same kids = record {
   document = subst (λ c. (c ≡ Document) ↔ (l ≡ 0)) (sym same) node.document;
   leaf = λ h. kids (ap may_have_children (sym same) ∙ h);
   short = subst (λ c. char_length c < 2 ^ 32) (sym same) node.short;
+  names = subst (λ c. IfSome (attributes_in c) IsDistinctNames) (sym same) node.names;
 }
 
 pub nodes-link : (f : Forest Content) (p : ℕ) (b : Option ℕ) (n : ℕ) → IsDistinct f → CanPut f p b n → is_parent_at f p ≡ true → AreNodes f → AreNodes (link f p b n)
@@ -87,16 +89,16 @@ pub chars_node : (l : ℕ) (chars : List ℕ) (o : Seen Content) → length char
 chars_node l chars o short node = by_content o.content refl
   where
     by_content : (c : Content) → o.content ≡ c → IsNode l (record { parent = o.parent; content = with_chars chars c; children = o.children })
-    by_content Document e = record { document = subst (λ c. (c ≡ Document) ↔ (l ≡ 0)) e node.document; leaf = λ h. node.leaf (ap may_have_children e ∙ h); short = omega arith }
-    by_content (Element name attributes) e = record { document = subst (λ c. (c ≡ Document) ↔ (l ≡ 0)) e node.document; leaf = λ h. node.leaf (ap may_have_children e ∙ h); short = omega arith }
-    by_content (Words w) e = record { document = (λ h. absurd (let h' = h in cc), λ h. absurd (let k : Words w ≡ Document = sym e ∙ node.document.1 h in cc)); leaf = λ h. node.leaf (ap may_have_children e ∙ h); short = short }
-    by_content (Remark w) e = record { document = (λ h. absurd (let h' = h in cc), λ h. absurd (let k : Remark w ≡ Document = sym e ∙ node.document.1 h in cc)); leaf = λ h. node.leaf (ap may_have_children e ∙ h); short = short }
+    by_content Document e = record { document = subst (λ c. (c ≡ Document) ↔ (l ≡ 0)) e node.document; leaf = λ h. node.leaf (ap may_have_children e ∙ h); short = omega arith; names = tt }
+    by_content (Element name attributes) e = record { document = subst (λ c. (c ≡ Document) ↔ (l ≡ 0)) e node.document; leaf = λ h. node.leaf (ap may_have_children e ∙ h); short = omega arith; names = subst (λ c. IfSome (attributes_in c) IsDistinctNames) e node.names }
+    by_content (Words w) e = record { document = (λ h. absurd (let h' = h in cc), λ h. absurd (let k : Words w ≡ Document = sym e ∙ node.document.1 h in cc)); leaf = λ h. node.leaf (ap may_have_children e ∙ h); short = short; names = tt }
+    by_content (Remark w) e = record { document = (λ h. absurd (let h' = h in cc), λ h. absurd (let k : Remark w ≡ Document = sym e ∙ node.document.1 h in cc)); leaf = λ h. node.leaf (ap may_have_children e ∙ h); short = short; names = tt }
 
-pub attributes_node : (l : ℕ) (list : List Attribute) (o : Seen Content) → IsNode l o → IsNode l (record { parent = o.parent; content = with_attributes list o.content; children = o.children })
-attributes_node l list o node = by_content o.content refl
+pub attributes_node : (l : ℕ) (list : List Attribute) (o : Seen Content) → IsDistinctNames list → IsNode l o → IsNode l (record { parent = o.parent; content = with_attributes list o.content; children = o.children })
+attributes_node l list o distinct node = by_content o.content refl
   where
     by_content : (c : Content) → o.content ≡ c → IsNode l (record { parent = o.parent; content = with_attributes list c; children = o.children })
-    by_content Document e = record { document = subst (λ c. (c ≡ Document) ↔ (l ≡ 0)) e node.document; leaf = λ h. node.leaf (ap may_have_children e ∙ h); short = omega arith }
-    by_content (Element name attributes) e = record { document = (λ h. absurd (let h' = h in cc), λ h. absurd (let k : Element name attributes ≡ Document = sym e ∙ node.document.1 h in cc)); leaf = λ h. node.leaf (ap may_have_children e ∙ h); short = omega arith }
-    by_content (Words w) e = record { document = subst (λ c. (c ≡ Document) ↔ (l ≡ 0)) e node.document; leaf = λ h. node.leaf (ap may_have_children e ∙ h); short = subst (λ c. char_length c < 2 ^ 32) e node.short }
-    by_content (Remark w) e = record { document = subst (λ c. (c ≡ Document) ↔ (l ≡ 0)) e node.document; leaf = λ h. node.leaf (ap may_have_children e ∙ h); short = subst (λ c. char_length c < 2 ^ 32) e node.short }
+    by_content Document e = record { document = subst (λ c. (c ≡ Document) ↔ (l ≡ 0)) e node.document; leaf = λ h. node.leaf (ap may_have_children e ∙ h); short = omega arith; names = tt }
+    by_content (Element name attributes) e = record { document = (λ h. absurd (let h' = h in cc), λ h. absurd (let k : Element name attributes ≡ Document = sym e ∙ node.document.1 h in cc)); leaf = λ h. node.leaf (ap may_have_children e ∙ h); short = omega arith; names = distinct }
+    by_content (Words w) e = record { document = subst (λ c. (c ≡ Document) ↔ (l ≡ 0)) e node.document; leaf = λ h. node.leaf (ap may_have_children e ∙ h); short = subst (λ c. char_length c < 2 ^ 32) e node.short; names = tt }
+    by_content (Remark w) e = record { document = subst (λ c. (c ≡ Document) ↔ (l ≡ 0)) e node.document; leaf = λ h. node.leaf (ap may_have_children e ∙ h); short = subst (λ c. char_length c < 2 ^ 32) e node.short; names = tt }

@@ -1,7 +1,7 @@
 -- Ordered lists of attributes: the value of a name, and the lists after an attribute is set or
 -- unset.
-use Rattle.std.specs.Prelude.{ℕ, List, [], ◌∷◌, Option, Some, None, if◌then◌else◌, bytes_eq, map}
-use Rattle.std.specs.List.{IsDistinct}
+use Rattle.std.specs.Prelude.{ℕ, Bool, true, ◌&&◌, not, List, [], ◌∷◌, Option, Some, None, if◌then◌else◌, bytes_eq, map}
+use Rattle.std.specs.List.{IsDistinct, list_any}
 use Rattle.dom_model.specs.declared.attributes.Attribute.{Attribute}
 
 -- the names, in order
@@ -11,6 +11,11 @@ names_of list = map (λ a. a.name) list
 -- no two attributes have the same name
 abbrev pub IsDistinctNames : List Attribute → Type 0
 IsDistinctNames list = IsDistinct bytes_eq (names_of list)
+
+-- the same, told
+abbrev pub are_distinct : List Attribute → Bool
+are_distinct [] = true
+are_distinct (a ∷ list) = not (list_any (λ b. bytes_eq a.name b.name) list) && are_distinct list
 
 -- the value of the attribute of this name
 abbrev pub value_of : List Attribute → List ℕ → Option (List ℕ)

@@ -1,9 +1,10 @@
 -- What the content of a node tells.
-use Rattle.std.specs.Prelude.{◌≡◌, ◌↔◌, ◌^◌, ℕ, ◌<◌, List, [], length, Bool, true, false, Option, Some, None, bytes_eq, codes}
+use Rattle.std.specs.Prelude.{◌≡◌, ◌↔◌, ◌^◌, ℕ, ◌<◌, List, [], length, Bool, true, false, Option, Some, None, IfSome, bytes_eq, codes}
 use Rattle.std.specs.Option.{option_map_or, option_and_then}
 use Rattle.dom_model.specs.declared.attributes.Attribute.{Attribute}
 use Rattle.dom_model.specs.declared.Content.{Content}
 use Rattle.dom_model.specs.declared.Content.TheVariants.{Document, Element, Words, Remark}
+use Rattle.dom_model.specs.AttributeList.{IsDistinctNames}
 use Rattle.dom_model.specs.Forest.{Forest, Seen, content_of, children_of}
 
 abbrev pub is_element : Content → Bool
@@ -104,9 +105,10 @@ length_in (Remark chars) kids = length chars
 abbrev pub length_of : Forest Content → ℕ → ℕ
 length_of f l = option_map_or (λ c. length_in c (children_of f l)) (content_of f l) 0
 
--- what holds of each node: label 0 alone is the Document, Words and Remarks have no children, and
--- their characters can be counted in 32 bits
+-- what holds of each node: label 0 alone is the Document, Words and Remarks have no children, their
+-- characters can be counted in 32 bits, and no two attributes of an element have the same name
 pub record IsNode (l : ℕ) (s : Seen Content) : Type 0 where
   pub document : (s.content ≡ Document) ↔ (l ≡ 0)
   pub leaf : may_have_children s.content ≡ false → s.children ≡ []
   pub short : char_length s.content < 2 ^ 32
+  pub names : IfSome (attributes_in s.content) IsDistinctNames

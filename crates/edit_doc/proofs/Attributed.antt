@@ -8,7 +8,7 @@ use Rattle.std.proofs.lemmas.List.{append-nil}
 use Rattle.dom_model.specs.declared.Content.{Content}
 use Rattle.dom_model.specs.declared.Content.TheVariants.{Document, Element, Words, Remark}
 use Rattle.dom_model.specs.declared.attributes.Attribute.{Attribute}
-use Rattle.dom_model.specs.AttributeList.{set_in, unset_in, value_of}
+use Rattle.dom_model.specs.AttributeList.{set_in, unset_in, value_of, IsDistinctNames}
 use Rattle.dom_model.specs.Contents.{is_element, attributes_in, attributes_of, with_attributes, words_length}
 use Rattle.dom_model.specs.Document.{node_count, char_count}
 use Rattle.dom_model.specs.Forest.{Forest, Seen, tops, total, content_of, tree_of, IsDistinct}
@@ -16,6 +16,7 @@ use Rattle.dom_model.specs.Forest.Forest.{Nil, Tree}
 use Rattle.dom_model.specs.Revised.{revised}
 use Rattle.dom_model.specs.Pruned.{pruned}
 use Rattle.dom_model.specs.ArenaState.{ArenaState as Arena, IsValid as IsArena, IsSlotted}
+use Rattle.dom_model.proofs.AttributeLemmas.{distinct-set, distinct-unset}
 use Rattle.dom_model.proofs.Revising.{total-revised}
 use Rattle.dom_model.proofs.Stands.{Stands, seek_Stands}
 use Rattle.dom_model.proofs.Pruning.{IsDistinct-pruned}
@@ -32,6 +33,7 @@ use Rattle.edit_steps.specs.Step.{StepFits, change_of, step_applied, step_invers
 use Rattle.edit_model.specs.State.{State}
 use Rattle.edit_model.specs.Edit.{Edit, Set, Unset, is_made_edit, change_of as edit_change, trees_after, points_after, overrides_after, with_set, with_unset}
 use Rattle.edit_model.specs.Confined.{is_own, may_set, may_unset, has_value}
+use Rattle.edit_model.proofs.TailPlan.{attributes_distinct}
 use Rattle.edit_doc.specs.declared.Doc.TheInside.{Inside}
 use Rattle.edit_doc.specs.declared.command.Command.{Command}
 use Rattle.edit_doc.specs.Whole.{Whole, IsOpen}
@@ -139,12 +141,21 @@ follows c d n list f m = record {
 
 module _ (d : Inside) (law : IsArena d.tree.nodes.arena) (slotted : IsSlotted d.tree.nodes.arena) (ok : Ok d) (node : NodeRef) (held : RefIn d.tree.nodes.arena.held node) (here : IsSeen d node.label)
     (tag : List ℕ) (own list : List Attribute) (content : content_of d.tree.nodes.arena.trees node.label ≡ Some (Element tag own)) where
-  pub redress_fits : StepFits (step.SetAttributes node list) d.tree.nodes.arena
-  redress_fits = record {
-    fits = record { forest = forest_of d.tree.nodes.arena law; here = ap (λ o. option_map_or is_element o false) content };
+  own_distinct : IsDistinctNames own
+  own_distinct = subst IsDistinctNames (ap (λ o. unwrap_or (option_and_then attributes_in o) []) content) (attributes_distinct d.tree.nodes.arena.trees law.nodes node.label)
+
+  redress_fits : IsDistinctNames list → StepFits (step.SetAttributes node list) d.tree.nodes.arena
+  redress_fits distinct = record {
+    fits = record { forest = forest_of d.tree.nodes.arena law; here = (ap (λ o. option_map_or is_element o false) content, distinct) };
     slotted = slotted;
     held = (held, tt);
   }
+
+  pub set_fits : (name value : List ℕ) → list ≡ set_in own name value → StepFits (step.SetAttributes node list) d.tree.nodes.arena
+  set_fits name value is = redress_fits (subst IsDistinctNames (sym is) (distinct-set own name value own_distinct))
+
+  pub unset_fits : (name : List ℕ) → list ≡ unset_in own name → StepFits (step.SetAttributes node list) d.tree.nodes.arena
+  unset_fits name is = redress_fits (subst IsDistinctNames (sym is) (distinct-unset own name own_distinct))
 
   pub counted_redressed : IsCounted (step_applied (step.SetAttributes node list) d.tree.nodes.arena).trees d.tree.nodes.counts
   unfolding step_applied applied
@@ -167,15 +178,15 @@ module _ (d : Inside) (law : IsArena d.tree.nodes.arena) (slotted : IsSlotted d.
   trees_same h same = revised_same g node.label (with_attributes list) h (Element tag own) (IsDistinct-pruned (out_of d) d.tree.nodes.arena.trees law.distinct) content_here same
 
   module _ (c : Command) (m : Marks (node.label ∷ []) d.command c) where
-    redresses : (e : Edit) (h : Content → Content) →
+    redresses : StepFits (step.SetAttributes node list) d.tree.nodes.arena → (e : Edit) (h : Content → Content) →
         change_of (step.SetAttributes node list) ≡ edit_change e g →
         revised g node.label (with_attributes list) ≡ trees_after e g →
         d.tree.points ≡ points_after e g d.tree.points →
         d.tree.overrides ≡ overrides_after (seen d).state (trees_after e g) (points_after e g d.tree.points) →
         Makes d e (step.SetAttributes node list) d.tree.points d.tree.overrides c
     unfolding applied
-    redresses e h change trees points overrides = record {
-      fits = redress_fits;
+    redresses fits e h change trees points overrides = record {
+      fits = fits;
       seen = (here, tt);
       follows = follows d.command c node.label list d.tree.nodes.arena.trees m;
       names = refl;
@@ -187,11 +198,11 @@ module _ (d : Inside) (law : IsArena d.tree.nodes.arena) (slotted : IsSlotted d.
 
     pub sets : (name value : List ℕ) → list ≡ set_in own name value → Makes d (Set node.label name value) (step.SetAttributes node list) d.tree.points d.tree.overrides c
     unfolding trees_after points_after edit_change
-    sets name value is = redresses (Set node.label name value) (with_set name value) (ap (SetAttributes node.label) (is ∙ ap (λ o. set_in (unwrap_or o []) name value) own_here)) (trees_same (with_set name value) (ap (Element tag) is)) refl (sym (overrides-revised (seen d).state node.label (with_set name value)))
+    sets name value is = redresses (set_fits name value is) (Set node.label name value) (with_set name value) (ap (SetAttributes node.label) (is ∙ ap (λ o. set_in (unwrap_or o []) name value) own_here)) (trees_same (with_set name value) (ap (Element tag) is)) refl (sym (overrides-revised (seen d).state node.label (with_set name value)))
 
     pub unsets : (name : List ℕ) → list ≡ unset_in own name → Makes d (Unset node.label name) (step.SetAttributes node list) d.tree.points d.tree.overrides c
     unfolding trees_after points_after edit_change
-    unsets name is = redresses (Unset node.label name) (with_unset name) (ap (SetAttributes node.label) (is ∙ ap (λ o. unset_in (unwrap_or o []) name) own_here)) (trees_same (with_unset name) (ap (Element tag) is)) refl (sym (overrides-revised (seen d).state node.label (with_unset name)))
+    unsets name is = redresses (unset_fits name is) (Unset node.label name) (with_unset name) (ap (SetAttributes node.label) (is ∙ ap (λ o. unset_in (unwrap_or o []) name) own_here)) (trees_same (with_unset name) (ap (Element tag) is)) refl (sym (overrides-revised (seen d).state node.label (with_unset name)))
 
 -- ---- for the value that a contract sees
 

@@ -82,7 +82,7 @@ roots_made first some (Tree m c ks rest) nodes =
     ]
   where
     own : first ≤ m → IsNode m (record { parent = None; content = c; children = tops ks }) → IsMade c
-    own from node = record { plain = λ e. (let z : m ≡ 0 = node.document.0 e in omega (arith, z, from, some)); short = node.short }
+    own from node = record { plain = λ e. (let z : m ≡ 0 = node.document.0 e in omega (arith, z, from, some)); short = node.short; names = node.names }
 
 no_trees : (f : Forest Content) → tops f ≡ [] → f ≡ Nil
 no_trees Nil e = refl

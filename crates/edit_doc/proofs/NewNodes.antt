@@ -7,6 +7,7 @@ use Rattle.std.proofs.lemmas.Bool.Decides.{eqb_tells, nat_tests}
 use Rattle.dom_model.specs.declared.Content.{Content}
 use Rattle.dom_model.specs.declared.attributes.Attribute.{Attribute}
 use Rattle.dom_model.specs.declared.Content.TheVariants.{Element, Words}
+use Rattle.dom_model.specs.AttributeList.{IsDistinctNames}
 use Rattle.dom_model.specs.Document.{node_count, char_count, page_depth}
 use Rattle.dom_model.specs.Forest.{Forest, Seen, total, tops, times, count_of, tree_of, parent_of, first_of, first_in, with_leaf}
 use Rattle.dom_model.specs.Forest.Forest.{Nil, Tree}
@@ -458,7 +459,7 @@ module _ (tree : Live) (c d : Command) (trail : Trail)
     valid_made : IsValid (made x s)
     unfolding made
     valid_made = record {
-      forest = forest-with_leaf s.trees s.next ok.valid.forest x made_of.plain made_of.short;
+      forest = forest-with_leaf s.trees s.next ok.valid.forest x made_of.plain made_of.short made_of.names;
       placed = points_left s.trees (with_leaf s.trees s.next x) (leaves-with_leaf s.trees s.next ok.valid.forest x) tree.points ok.valid.placed;
       started = (let h = started in omega (arith, h));
       settings = ok.valid.settings;
@@ -671,11 +672,11 @@ module _ (d : Inside) (v : Whole) (sees : seen d ≡ v) (law : IsArena d.tree.no
 
 -- ---- what a node is made with
 
-pub element_made : (name : List ℕ) (attributes : List Attribute) → IsMade (Element name attributes)
-element_made name attributes = record { plain = λ e. cc; short = omega arith }
+pub element_made : (name : List ℕ) (attributes : List Attribute) → IsDistinctNames attributes → IsMade (Element name attributes)
+element_made name attributes distinct = record { plain = λ e. cc; short = omega arith; names = distinct }
 
 pub words_made : (chars : List ℕ) → length chars < 2 ^ 32 → IsMade (Words chars)
-words_made chars short = record { plain = λ e. cc; short = short }
+words_made chars short = record { plain = λ e. cc; short = short; names = tt }
 
 pub words_content_is : (chars : List ℕ) → length chars < 2 ^ 32 → words_content chars ≡ Words chars
 words_content_is chars short = (let t : nat_lt (length chars) (2 ^ 32) ≡ true = true_lt (length chars) (2 ^ 32) short in rw t refl)

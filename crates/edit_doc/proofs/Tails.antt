@@ -9,7 +9,7 @@ use Rattle.std.proofs.lemmas.Bool.Decides.{eqb_tells}
 use Rattle.dom_model.specs.declared.Content.{Content}
 use Rattle.dom_model.specs.declared.Content.TheVariants.{Document, Element, Words, Remark}
 use Rattle.dom_model.specs.declared.attributes.Attribute.{Attribute}
-use Rattle.dom_model.specs.AttributeList.{unset_in}
+use Rattle.dom_model.specs.AttributeList.{unset_in, IsDistinctNames}
 use Rattle.dom_model.specs.Contents.{may_have_children, is_element, is_element_at, is_parent_at, name_of, attributes_of, name_in, attributes_in}
 use Rattle.dom_model.specs.Forest.{Forest, Seen, tops, times, total, count_of, tree_of, parent_of, children_of, content_of, with_leaf, IsDistinct}
 use Rattle.dom_model.specs.Forest.Forest.{Nil, Tree}
@@ -32,7 +32,8 @@ use Rattle.edit_model.specs.Run.{extract_tail, make_element, final}
 use Rattle.edit_model.specs.Gives.{labels_of, Fails, Gives, GivesNode}
 use Rattle.edit_model.specs.Possible.{freed, is_possible, are_possible}
 use Rattle.edit_model.specs.Valid.{IsValid}
-use Rattle.edit_model.proofs.Steps.{labels_of_drop, labels_of_end, final-perform, final-make_element, value-make_element}
+use Rattle.edit_model.proofs.Giving.{final_distinct_element}
+use Rattle.edit_model.proofs.Steps.{labels_of_drop, labels_of_end, final-perform, value-make_element}
 use Rattle.edit_model.proofs.Tests.{parent_there}
 use Rattle.edit_model.proofs.TailEnds.{size_at, size_child, same_steps}
 use Rattle.edit_model.proofs.TailPlan.{find_some, parent_among}
@@ -92,12 +93,12 @@ extract_test s from end target n same =
 
 -- ---- a copy
 
-pub copy_steps : (r : Result NodeRef EditFault) (s t : State) (n : ℕ) (name : List ℕ) (list : List Attribute) → name_of s.trees n ≡ Some name → attributes_of s.trees n ≡ Some list → GivesNode r s t (make_element name (unset_in list (codes "id"))) → MakesSteps r s t (Copy (copy_of s.trees n) ∷ [])
+pub copy_steps : (r : Result NodeRef EditFault) (s t : State) (n : ℕ) (name : List ℕ) (list : List Attribute) → name_of s.trees n ≡ Some name → attributes_of s.trees n ≡ Some list → IsDistinctNames (unset_in list (codes "id")) → GivesNode r s t (make_element name (unset_in list (codes "id"))) → MakesSteps r s t (Copy (copy_of s.trees n) ∷ [])
 unfolding copy_of stepped_all stepped
-copy_steps r s t n name list named listed gives = by r gives
+copy_steps r s t n name list named listed distinct gives = by r gives
   where
     same : final (make_element name (unset_in list (codes "id"))) s ≡ made (Element (unwrap_or (name_of s.trees n) []) (unset_in (unwrap_or (attributes_of s.trees n) []) (codes "id"))) s
-    same = final-make_element name (unset_in list (codes "id")) s ∙ (λ i. made (Element (unwrap_or (sym named i) []) (unset_in (unwrap_or (sym listed i) []) (codes "id"))) s)
+    same = final_distinct_element name (unset_in list (codes "id")) s distinct ∙ (λ i. made (Element (unwrap_or (sym named i) []) (unset_in (unwrap_or (sym listed i) []) (codes "id"))) s)
 
     by : (q : Result NodeRef EditFault) → GivesNode q s t (make_element name (unset_in list (codes "id"))) → MakesSteps q s t (Copy (copy_of s.trees n) ∷ [])
     by (Ok v) g = sym g.0 ∙ same

@@ -165,6 +165,7 @@ impl Doc {
         let name = self.name(node).clone()?;
         let mut attributes = self.attributes(node).copy()?;
         attributes.unset(b"id");
+        attributes.valid();
         self.make_owned_element(name, attributes)
     }
 

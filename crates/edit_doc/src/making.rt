@@ -55,6 +55,7 @@ impl Doc {
         ensures err { OnErr result (self.new ≡ self.old) }
     {
         self.tree.nodes.arena.valid();
+        attributes.valid();
         self.command.detached.reserve(1)?;
         self.command.named.reserve(1)?;
         match self.tree.nodes.arena.make_element(name, attributes) {

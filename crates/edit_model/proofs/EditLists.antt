@@ -1,7 +1,6 @@
 -- The edits that a run makes, in order, and their count.
 use Rattle.std.proofs.Common.{◌≡◌, ℕ, ◌+◌, Bool, true, false, ◌&&◌, if◌then◌else◌, List, [], ◌∷◌, ◌++◌, length, Option, Some, None, refl, sym, ap, ◌∙◌, arith, append_assoc, length-append}
 use Rattle.dom_model.specs.declared.Content.{Content}
-use Rattle.dom_model.specs.declared.Content.TheVariants.{Element}
 use Rattle.dom_model.specs.Change.{Change}
 use Rattle.dom_model.specs.declared.attributes.Attribute.{Attribute}
 use Rattle.live_range.specs.declared.places.Point.{Point}
@@ -11,7 +10,7 @@ use Rattle.edit_model.specs.Confined.{may_select, may_grow, may_send}
 use Rattle.edit_model.specs.Edit.{Edit, is_made_edit, trees_after, points_after, changed, change_of, with_change, edited}
 use Rattle.edit_model.specs.Action as action
 use Rattle.edit_model.specs.Tail.{Step, Copy, Do}
-use Rattle.edit_model.specs.Action.{Action, made, applied, stepped, stepped_all, tail_of, may_extract, extracted, with_selection, selected, extended_from, extended, grown, sent, scratched, words_content, acted}
+use Rattle.edit_model.specs.Action.{Action, made, applied, stepped, stepped_all, tail_of, may_extract, extracted, with_selection, selected, extended_from, extended, grown, sent, scratched, words_content, element_content, acted}
 use Rattle.edit_model.specs.Run.{Reaches, here, onward, reaches_trans, edits_in, edits_of, edits_on, changes_in, changes_of, changes_on, nodes_in, nodes_of, nodes_on, Run, final, value, edit_list, ◌>>=◌, act, answer, look, edit, make_element, make_words, perform}
 use Rattle.edit_model.proofs.Steps.{either_way}
 
@@ -133,7 +132,7 @@ adds-extracted from end target s = by (may_extract s from end target)
 pub adds_acted : (a : Action) (s : State) → Adds s (changes_of a s) (nodes_of a s) (acted a s)
 unfolding acted extended changed
 adds_acted (action.Change e) s = adds_edit e s
-adds_acted (action.MakeElement name attributes) s = adds-made (Element name attributes) s
+adds_acted (action.MakeElement name attributes) s = adds-made (element_content name attributes) s
 adds_acted (action.MakeWords chars) s = adds-made (words_content chars) s
 adds_acted (action.Select anchor focus) s = adds-selected anchor focus s
 adds_acted (action.Extend focus) s = adds-extended s.points.selection focus s

@@ -3,7 +3,8 @@ use Rattle.std.proofs.Common.{◌≡◌, ◌≢◌, ◌↔◌, ℕ, zero, suc, �
 use Rattle.std.proofs.lemmas.Bool.Decides.{eqb_tells}
 use Rattle.dom_model.specs.declared.Content.{Content}
 use Rattle.dom_model.specs.declared.Content.TheVariants.{Document}
-use Rattle.dom_model.specs.Contents.{is_parent_at, may_have_children, char_length}
+use Rattle.dom_model.specs.AttributeList.{IsDistinctNames}
+use Rattle.dom_model.specs.Contents.{is_parent_at, may_have_children, attributes_in, char_length}
 use Rattle.dom_model.specs.Forest.{Forest, Seen, total, times, tops, count_of, tree_of, parent_of, content_of, without, put_rising, link, unlink, with_leaf, RisesFrom, CanPut}
 use Rattle.dom_model.specs.Revised.{revised}
 use Rattle.std.specs.Option.{option_map, option_map_or}
@@ -73,7 +74,7 @@ module _ (f : Forest Content) (next : ℕ) (is : IsForest f next) where
 
   -- ---- other contents
 
-  pub forest-revised : (n : ℕ) (g : Content → Content) → ((c : Content) → content_of f n ≡ Some c → char_length c < 2 ^ 32 → ((g c ≡ Document) ↔ (c ≡ Document)) × (may_have_children (g c) ≡ may_have_children c) × (char_length (g c) < 2 ^ 32)) → IsForest (revised f n g) next
+  pub forest-revised : (n : ℕ) (g : Content → Content) → ((c : Content) → content_of f n ≡ Some c → char_length c < 2 ^ 32 → IfSome (attributes_in c) IsDistinctNames → ((g c ≡ Document) ↔ (c ≡ Document)) × (may_have_children (g c) ≡ may_have_children c) × (char_length (g c) < 2 ^ 32) × IfSome (attributes_in (g c)) IsDistinctNames) → IsForest (revised f n g) next
   forest-revised n g keeps = record {
     distinct = λ l. omega (arith, counts l, is.distinct l);
     rising = RisesFrom-revised n g f 0 is.rising;
@@ -81,11 +82,12 @@ module _ (f : Forest Content) (next : ℕ) (is : IsForest f next) where
     document = omega (arith, is.document, counts 0);
     root = parent_of-revised n g f 0 ∙ is.root;
     nodes = nodes-revised f n g (λ o e node. (
-        let k = keeps o.content (ap (option_map (λ (x : Seen Content). x.content)) e) node.short in
+        let k = keeps o.content (ap (option_map (λ (x : Seen Content). x.content)) e) node.short node.names in
         record {
           document = ((λ h. node.document.0 (k.0.0 h)), λ h. k.0.1 (node.document.1 h));
           leaf = λ h. node.leaf (sym k.1 ∙ h);
           short = k.2;
+          names = k.3;
         })) is.nodes;
   }
     where
@@ -101,8 +103,8 @@ module _ (f : Forest Content) (next : ℕ) (is : IsForest f next) where
       by_count zero e = refl
       by_count (suc k) e = absurd (let b = is.below next (omega (arith, e)) in omega arith)
 
-  pub forest-with_leaf : (c : Content) → c ≢ Document → char_length c < 2 ^ 32 → IsForest (with_leaf f next c) (next + 1)
-  forest-with_leaf c other short = record {
+  pub forest-with_leaf : (c : Content) → c ≢ Document → char_length c < 2 ^ 32 → IfSome (attributes_in c) IsDistinctNames → IsForest (with_leaf f next c) (next + 1)
+  forest-with_leaf c other short names = record {
     distinct = λ l. distinct l;
     rising = RisesFrom-with_leaf f 0 next c is.rising (omega arith) (λ k some. is.below k (omega (arith, some, times-tops f k)));
     below = λ l h. below l h;
@@ -112,6 +114,7 @@ module _ (f : Forest Content) (next : ℕ) (is : IsForest f next) where
       document = ((λ h. absurd (other h)), λ h. absurd (let d = is.below 0 is.document in omega (arith, d, h)));
       leaf = λ _. refl;
       short = short;
+      names = names;
     }) is.nodes;
   }
     where

@@ -1,15 +1,21 @@
 -- What a call of one action gives of its run, where the action is made and where it is left out.
-use Rattle.std.proofs.Common.{◌≡◌, ℕ, ◌≤◌, true, false, List, Ok, Err, refl, sym, ◌∙◌, arith}
+use Rattle.std.proofs.Common.{◌≡◌, ℕ, ◌≤◌, true, false, List, Ok, Err, refl, sym, ap, ◌∙◌, arith}
 use Rattle.dom_model.specs.declared.Content.{Content}
 use Rattle.dom_model.specs.declared.Content.TheVariants.{Element}
 use Rattle.dom_model.specs.declared.attributes.Attribute.{Attribute}
+use Rattle.dom_model.specs.AttributeList.{IsDistinctNames}
+use Rattle.dom_model.specs.Forest.{Forest}
+use Rattle.dom_model.proofs.AttributeLemmas.{distinct_told}
+use Rattle.dom_model.proofs.NodesKept.{AreNodes}
 use Rattle.node_arena.specs.declared.NodeRef.{NodeRef}
 use Rattle.edit_model.specs.declared.settings.EditFault.TheVariants.{Full}
 use Rattle.edit_model.specs.State.{State, IsPastCap}
 use Rattle.edit_model.specs.Edit.{Edit, is_made_edit, trees_after, points_after, changed, change_of, with_change, edited}
-use Rattle.edit_model.specs.Action.{made, words_content}
-use Rattle.edit_model.specs.Run.{edit, make_element, make_words}
+use Rattle.edit_model.specs.Action.{made, words_content, element_content}
+use Rattle.edit_model.specs.Compositions.{attribute_list_of}
+use Rattle.edit_model.specs.Run.{final, edit, make_element, make_words}
 use Rattle.edit_model.specs.Gives.{Gives, GivesNode}
+use Rattle.edit_model.proofs.TailPlan.{attributes_distinct}
 use Rattle.edit_model.proofs.Steps.{final-edit, value-edit, final-make_element, value-make_element, final-make_words, value-make_words}
 
 -- ---- an edit
@@ -34,8 +40,20 @@ gives_left e s t off is = (final-edit e s ∙ (edited-left e s off ∙ sym is), 
 
 -- ---- making a node
 
-pub gives_element : (name : List ℕ) (attributes : List Attribute) (s t : State) (node : NodeRef) → node.label ≡ s.next → t ≡ made (Element name attributes) s → GivesNode (Ok node) s t (make_element name attributes)
-gives_element name attributes s t node label is = (final-make_element name attributes s ∙ sym is, value-make_element name attributes s ∙ sym label)
+-- names that are distinct are kept as they are
+pub distinct_element : (name : List ℕ) (attributes : List Attribute) → IsDistinctNames attributes → element_content name attributes ≡ Element name attributes
+distinct_element name attributes distinct = rw (distinct_told attributes distinct) refl
+
+-- so in a list of a node
+pub distinct_copy : (f : Forest Content) → AreNodes f → (n : ℕ) (name : List ℕ) → element_content name (attribute_list_of f n) ≡ Element name (attribute_list_of f n)
+distinct_copy f nodes n name = distinct_element name (attribute_list_of f n) (attributes_distinct f nodes n)
+
+-- the run of it, then
+pub final_distinct_element : (name : List ℕ) (attributes : List Attribute) (s : State) → IsDistinctNames attributes → final (make_element name attributes) s ≡ made (Element name attributes) s
+final_distinct_element name attributes s distinct = final-make_element name attributes s ∙ ap (λ c. made c s) (distinct_element name attributes distinct)
+
+pub gives_element : (name : List ℕ) (attributes : List Attribute) (s t : State) (node : NodeRef) → node.label ≡ s.next → IsDistinctNames attributes → t ≡ made (Element name attributes) s → GivesNode (Ok node) s t (make_element name attributes)
+gives_element name attributes s t node label distinct is = (final_distinct_element name attributes s distinct ∙ sym is, value-make_element name attributes s ∙ sym label)
 
 pub gives_words : (chars : List ℕ) (s t : State) (node : NodeRef) → node.label ≡ s.next → t ≡ made (words_content chars) s → GivesNode (Ok node) s t (make_words chars)
 gives_words chars s t node label is = (final-make_words chars s ∙ sym is, value-make_words chars s ∙ sym label)
@@ -46,7 +64,7 @@ unfolding made
 over_made c s full = record { past = omega arith }
 
 pub gives_full_element : (name : List ℕ) (attributes : List Attribute) (s t : State) → s.cap ≤ s.next → GivesNode (Err Full) s t (make_element name attributes)
-gives_full_element name attributes s t full = rw (final-make_element name attributes s) (over_made (Element name attributes) s full)
+gives_full_element name attributes s t full = rw (final-make_element name attributes s) (over_made (element_content name attributes) s full)
 
 pub gives_full_words : (chars : List ℕ) (s t : State) → s.cap ≤ s.next → GivesNode (Err Full) s t (make_words chars)
 gives_full_words chars s t full = rw (final-make_words chars s) (over_made (words_content chars) s full)

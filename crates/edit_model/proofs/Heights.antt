@@ -2,7 +2,6 @@
 use Rattle.std.proofs.Common.{◌≡◌, ℕ, ◌<◌, ◌≤◌, max, zero, suc, true, false, Bool, if◌then◌else◌, List, [], ◌∷◌, Option, Some, None, refl, sym, ap, subst, ◌∙◌, arith}
 use Rattle.std.proofs.lemmas.Bool.{and_parts}
 use Rattle.dom_model.specs.declared.Content.{Content}
-use Rattle.dom_model.specs.declared.Content.TheVariants.{Element}
 use Rattle.dom_model.specs.Document.{page_depth}
 use Rattle.dom_model.specs.Forest.{Forest, parent_of}
 use Rattle.dom_model.specs.Forest.Forest.{Tree}
@@ -14,7 +13,7 @@ use Rattle.edit_model.specs.State.{State}
 use Rattle.edit_model.specs.Edit.{Edit, Insert, Remove, Move, Replace, Set, Unset, is_made_edit, trees_after, edited, changed, with_change, with_replaced, with_set, with_unset}
 use Rattle.edit_model.specs.Action as action
 use Rattle.edit_model.specs.Tail.{Step, Copy, Do}
-use Rattle.edit_model.specs.Action.{Action, made, applied, stepped, stepped_all, tail_of, may_extract, extracted, words_content, with_selection, with_scratch, selected, extended_from, extended, grown, sent, scratched, acted}
+use Rattle.edit_model.specs.Action.{Action, made, applied, stepped, stepped_all, tail_of, may_extract, extracted, words_content, element_content, with_selection, with_scratch, selected, extended_from, extended, grown, sent, scratched, acted}
 use Rattle.edit_model.specs.Possible.{freed, are_possible}
 use Rattle.edit_model.specs.Valid.{IsValid}
 use Rattle.edit_model.specs.Run.{Reaches, here, onward, Run, final}
@@ -107,7 +106,7 @@ depth_extracted from end target s is = by (may_extract s from end target) (λ ma
 pub depth_acted : (a : Action) (s : State) → IsValid s → page_depth (acted a s).trees ≤ max (page_depth s.trees) (reach a s)
 unfolding acted selected extended grown sent scratched changed
 depth_acted (action.Change e) s is = depth_edited e s is
-depth_acted (action.MakeElement name attributes) s is = at_most (made (Element name attributes) s).trees s.trees 0 (depth_made (Element name attributes) s is)
+depth_acted (action.MakeElement name attributes) s is = at_most (made (element_content name attributes) s).trees s.trees 0 (depth_made (element_content name attributes) s is)
 depth_acted (action.MakeWords chars) s is = at_most (made (words_content chars) s).trees s.trees 0 (depth_made (words_content chars) s is)
 depth_acted (action.Select anchor focus) s is = stays _ s.trees 0 (let P : State → Type 0 = λ t. t.trees ≡ s.trees in either_way P _ refl refl)
 depth_acted (action.Extend focus) s is = stays _ s.trees 0 (extended_trees s.points.selection focus s)

@@ -19,7 +19,7 @@ use Rattle.edit_model.specs.State.{State}
 use Rattle.edit_model.specs.Confined.{is_editable_for, is_inside, is_made, is_open, is_own}
 use Rattle.edit_model.specs.Edit.{Edit, Insert, Remove, Move, Replace, Set, Unset, is_made_edit, trees_after, changed, with_change, edited, with_replaced, with_set, with_unset}
 use Rattle.edit_model.specs.Action as action
-use Rattle.edit_model.specs.Action.{Action, made, words_content, with_selection, selected, extended_from, extended, grown, sent, scratched, acted}
+use Rattle.edit_model.specs.Action.{Action, made, words_content, element_content, with_selection, selected, extended_from, extended, grown, sent, scratched, acted}
 use Rattle.edit_model.specs.Run.{Reaches, here, onward}
 use Rattle.edit_model.specs.History.{begun}
 use Rattle.edit_model.specs.Valid.{IsForest, IsValid}
@@ -139,7 +139,7 @@ module _ (T : Forest Content) (l h : ℕ) (s : State) (is : IsValid s) (host : s
   tree_acted : (a : Action) → tree_of (acted a s).trees l ≡ T
   unfolding acted extended changed
   tree_acted (action.Change e) = tree_edited e
-  tree_acted (action.MakeElement name attributes) = tree_made (Element name attributes)
+  tree_acted (action.MakeElement name attributes) = tree_made (element_content name attributes)
   tree_acted (action.MakeWords chars) = tree_made (words_content chars)
   tree_acted (action.Select anchor focus) = ap (λ f. tree_of f l) (trees-selected anchor focus s) ∙ same
   tree_acted (action.Extend focus) = ap (λ f. tree_of f l) (trees-extended s.points.selection focus s) ∙ same
@@ -332,7 +332,7 @@ goes_out (action.Change e) s l is never inside = elim (cases_Bool (is_made_edit 
   ]
   | inr off ↦ inl (subst (λ f. IsWithin f 0 l) (sym (trees_left e s off)) inside)
 ]
-goes_out (action.MakeElement name attributes) s l is never inside = inl (within-with_leaf s.trees s.next is.forest s.next l (Element name attributes) inside)
+goes_out (action.MakeElement name attributes) s l is never inside = inl (within-with_leaf s.trees s.next is.forest s.next l (element_content name attributes) inside)
 goes_out (action.MakeWords chars) s l is never inside = inl (within-with_leaf s.trees s.next is.forest s.next l (words_content chars) inside)
 goes_out (action.Select anchor focus) s l is never inside = inl (subst (λ f. IsWithin f 0 l) (sym (trees-selected anchor focus s)) inside)
 goes_out (action.Extend focus) s l is never inside = inl (subst (λ f. IsWithin f 0 l) (sym (trees-extended s.points.selection focus s)) inside)

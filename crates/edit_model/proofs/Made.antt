@@ -1,12 +1,14 @@
 -- The trees after an edit that is made are valid, and the kept points are placed in them.
-use Rattle.std.proofs.Common.{◌≡◌, ◌↔◌, ℕ, ◌<◌, ◌^◌, true, List, length, Option, Some, refl, sym, ap, subst}
+use Rattle.std.proofs.Common.{◌≡◌, ◌↔◌, ℕ, ◌<◌, ◌^◌, true, List, length, Option, Some, IfSome, refl, sym, ap, subst}
 use Rattle.std.proofs.lemmas.Bool.{ltb-true, lt-ltb}
 use Rattle.dom_model.specs.declared.Content.{Content}
 use Rattle.dom_model.specs.declared.Content.TheVariants.{Document, Element, Words, Remark}
-use Rattle.dom_model.specs.Contents.{may_have_children, char_length, length_in}
+use Rattle.dom_model.specs.AttributeList.{IsDistinctNames}
+use Rattle.dom_model.specs.Contents.{may_have_children, attributes_in, char_length, length_in}
 use Rattle.dom_model.specs.Forest.{Forest, count_of, tree_of, parent_of, content_of, link, unlink, IsWithin, preorder}
 use Rattle.dom_model.specs.Places.{index_of}
 use Rattle.dom_model.specs.Revised.{revised}
+use Rattle.dom_model.proofs.AttributeLemmas.{distinct-set, distinct-unset}
 use Rattle.std.specs.Prelude.{unwrap_or}
 use Rattle.live_range.specs.PointsEdit as range
 use Rattle.live_range.specs.LivePoints.{mapped}
@@ -36,32 +38,32 @@ parent_is f o n child = ap (λ (q : Option ℕ). unwrap_or q 0) child
 pub forest-replaced : (s : State) (n at count : ℕ) (put : List ℕ) → IsValid s → Replaces s n at count put → IsForest (revised s.trees n (with_replaced at count put)) s.next
 forest-replaced s n at count put is t = forest-revised s.trees s.next is.forest n (with_replaced at count put) keeps
   where
-    keeps : (c : Content) → content_of s.trees n ≡ Some c → char_length c < 2 ^ 32 → ((with_replaced at count put c ≡ Document) ↔ (c ≡ Document)) × (may_have_children (with_replaced at count put c) ≡ may_have_children c) × (char_length (with_replaced at count put c) < 2 ^ 32)
-    keeps Document e short = (((λ h. h), λ h. h), refl, short)
-    keeps (Element name attributes) e short = (((λ h. h), λ h. h), refl, short)
-    keeps (Remark chars) e short = (((λ h. h), λ h. h), refl, short)
-    keeps (Words chars) e short =
+    keeps : (c : Content) → content_of s.trees n ≡ Some c → char_length c < 2 ^ 32 → IfSome (attributes_in c) IsDistinctNames → ((with_replaced at count put c ≡ Document) ↔ (c ≡ Document)) × (may_have_children (with_replaced at count put c) ≡ may_have_children c) × (char_length (with_replaced at count put c) < 2 ^ 32) × IfSome (attributes_in (with_replaced at count put c)) IsDistinctNames
+    keeps Document e short names = (((λ h. h), λ h. h), refl, short, names)
+    keeps (Element name attributes) e short names = (((λ h. h), λ h. h), refl, short, names)
+    keeps (Remark chars) e short names = (((λ h. h), λ h. h), refl, short, names)
+    keeps (Words chars) e short names =
         let same : Words t.chars ≡ Words chars = (let a = t.content in cc) in
         let same' : t.chars ≡ chars = (let a = same in cc) in
-        (((λ h. absurd cc), λ h. absurd cc), refl, subst (λ xs. length (spliced xs at count put) < 2 ^ 32) same' t.short)
+        (((λ h. absurd cc), λ h. absurd cc), refl, subst (λ xs. length (spliced xs at count put) < 2 ^ 32) same' t.short, tt)
 
 pub forest-set : (s : State) (n : ℕ) (name value : List ℕ) → IsValid s → IsForest (revised s.trees n (with_set name value)) s.next
-forest-set s n name value is = forest-revised s.trees s.next is.forest n (with_set name value) (λ c _ short. keeps c short)
+forest-set s n name value is = forest-revised s.trees s.next is.forest n (with_set name value) (λ c _ short names. keeps c short names)
   where
-    keeps : (c : Content) → char_length c < 2 ^ 32 → ((with_set name value c ≡ Document) ↔ (c ≡ Document)) × (may_have_children (with_set name value c) ≡ may_have_children c) × (char_length (with_set name value c) < 2 ^ 32)
-    keeps Document short = (((λ h. h), λ h. h), refl, short)
-    keeps (Element tag list) short = (((λ h. absurd cc), λ h. absurd cc), refl, short)
-    keeps (Remark chars) short = (((λ h. h), λ h. h), refl, short)
-    keeps (Words chars) short = (((λ h. h), λ h. h), refl, short)
+    keeps : (c : Content) → char_length c < 2 ^ 32 → IfSome (attributes_in c) IsDistinctNames → ((with_set name value c ≡ Document) ↔ (c ≡ Document)) × (may_have_children (with_set name value c) ≡ may_have_children c) × (char_length (with_set name value c) < 2 ^ 32) × IfSome (attributes_in (with_set name value c)) IsDistinctNames
+    keeps Document short names = (((λ h. h), λ h. h), refl, short, names)
+    keeps (Element tag list) short names = (((λ h. absurd cc), λ h. absurd cc), refl, short, distinct-set list name value names)
+    keeps (Remark chars) short names = (((λ h. h), λ h. h), refl, short, names)
+    keeps (Words chars) short names = (((λ h. h), λ h. h), refl, short, names)
 
 pub forest-unset : (s : State) (n : ℕ) (name : List ℕ) → IsValid s → IsForest (revised s.trees n (with_unset name)) s.next
-forest-unset s n name is = forest-revised s.trees s.next is.forest n (with_unset name) (λ c _ short. keeps c short)
+forest-unset s n name is = forest-revised s.trees s.next is.forest n (with_unset name) (λ c _ short names. keeps c short names)
   where
-    keeps : (c : Content) → char_length c < 2 ^ 32 → ((with_unset name c ≡ Document) ↔ (c ≡ Document)) × (may_have_children (with_unset name c) ≡ may_have_children c) × (char_length (with_unset name c) < 2 ^ 32)
-    keeps Document short = (((λ h. h), λ h. h), refl, short)
-    keeps (Element tag list) short = (((λ h. absurd cc), λ h. absurd cc), refl, short)
-    keeps (Remark chars) short = (((λ h. h), λ h. h), refl, short)
-    keeps (Words chars) short = (((λ h. h), λ h. h), refl, short)
+    keeps : (c : Content) → char_length c < 2 ^ 32 → IfSome (attributes_in c) IsDistinctNames → ((with_unset name c ≡ Document) ↔ (c ≡ Document)) × (may_have_children (with_unset name c) ≡ may_have_children c) × (char_length (with_unset name c) < 2 ^ 32) × IfSome (attributes_in (with_unset name c)) IsDistinctNames
+    keeps Document short names = (((λ h. h), λ h. h), refl, short, names)
+    keeps (Element tag list) short names = (((λ h. absurd cc), λ h. absurd cc), refl, short, distinct-unset list name names)
+    keeps (Remark chars) short names = (((λ h. h), λ h. h), refl, short, names)
+    keeps (Words chars) short names = (((λ h. h), λ h. h), refl, short, names)
 
 length_in-set : (name value : List ℕ) (c : Content) (kids : List ℕ) → length_in (with_set name value c) kids ≡ length_in c kids
 length_in-set name value Document kids = refl

@@ -4,7 +4,6 @@ use Rattle.std.specs.Prelude.{unwrap_or}
 use Rattle.std.specs.Option.{option_map_or}
 use Rattle.std.proofs.lemmas.Bool.{or_cases, leb-true}
 use Rattle.dom_model.specs.declared.Content.{Content}
-use Rattle.dom_model.specs.declared.Content.TheVariants.{Element}
 use Rattle.edit_model.specs.Overrides.{with_setting}
 use Rattle.dom_model.specs.Editing.{editing_host, is_editable}
 use Rattle.dom_model.specs.Forest.{Forest, is_label, count_of, tree_of, unlink, with_leaf}
@@ -15,7 +14,7 @@ use Rattle.edit_model.specs.State.{State}
 use Rattle.edit_model.specs.Confined.{is_editable_for, is_inside, is_made, is_open, is_own, may_select, may_grow, may_send}
 use Rattle.edit_model.specs.Edit.{Edit, Insert, Remove, Move, Replace, Set, Unset, is_made_edit, trees_after, changed, with_change, edited, with_replaced, with_set, with_unset}
 use Rattle.edit_model.specs.Action as action
-use Rattle.edit_model.specs.Action.{Action, made, words_content, with_selection, selected, extended_from, extended, grown, sent, scratched, acted}
+use Rattle.edit_model.specs.Action.{Action, made, words_content, element_content, with_selection, selected, extended_from, extended, grown, sent, scratched, acted}
 use Rattle.edit_model.specs.Run.{Reaches}
 use Rattle.edit_model.specs.Valid.{IsForest, IsValid}
 use Rattle.edit_model.specs.Outside.{hollowed, outside_by, outside, IsConfined}
@@ -173,7 +172,7 @@ trees-scratched pair s = either_way (SameTrees s) (may_select s pair.anchor && m
 pub outside-acted : (a : Action) (s : State) → IsValid s → IsConfined s → outside (acted a s) ≡ outside s
 unfolding acted extended changed
 outside-acted (action.Change e) s is confined = outside_edited s is confined e
-outside-acted (action.MakeElement name attributes) s is confined = outside_made s is confined (Element name attributes)
+outside-acted (action.MakeElement name attributes) s is confined = outside_made s is confined (element_content name attributes)
 outside-acted (action.MakeWords chars) s is confined = outside_made s is confined (words_content chars)
 outside-acted (action.Select anchor focus) s is confined = outside_same s (selected anchor focus s) (trees-selected anchor focus s) (command_acted (action.Select anchor focus) s).host
 outside-acted (action.Extend focus) s is confined = outside_same s (extended_from s.points.selection focus s) (trees-extended s.points.selection focus s) (command_acted (action.Extend focus) s).host

@@ -9,7 +9,7 @@ use Rattle.std.proofs.lemmas.Slice.Eq.{bytes_eq-Decides}
 use Rattle.dom_model.specs.declared.Content.{Content}
 use Rattle.dom_model.specs.declared.Content.TheVariants.{Document, Element, Words, Remark}
 use Rattle.dom_model.specs.declared.attributes.Attribute.{Attribute}
-use Rattle.dom_model.specs.AttributeList.{value_of, set_in, unset_in}
+use Rattle.dom_model.specs.AttributeList.{value_of, set_in, unset_in, are_distinct}
 use Rattle.dom_model.specs.Contents.{name_in, attributes_in}
 use Rattle.dom_model.specs.Editing.{contenteditable, is_true_state, is_false_state, editing_host, is_host}
 use Rattle.dom_model.specs.Forest.{Forest, Seen, count_of, content_of, unlink, with_leaf}
@@ -23,7 +23,7 @@ use Rattle.edit_model.specs.State.{State}
 use Rattle.edit_model.specs.Edit.{Edit, Insert, Remove, Move, Replace, Set, Unset, is_made_edit, trees_after, edited, changed, with_change, with_replaced, with_set, with_unset}
 use Rattle.edit_model.specs.Action as action
 use Rattle.edit_model.specs.Tail.{copy_of, document_size}
-use Rattle.edit_model.specs.Action.{Action, made, applied, tail_of, extracted, words_content, extended, acted}
+use Rattle.edit_model.specs.Action.{Action, made, applied, tail_of, extracted, words_content, element_content, extended, acted}
 use Rattle.edit_model.specs.Run.{Reaches, here, onward}
 use Rattle.edit_model.specs.Valid.{IsValid}
 use Rattle.edit_model.specs.Laws.{LeavesStates, LeavesStatesOn}
@@ -168,6 +168,11 @@ words_stateless : (b : Bool) (chars : List ℕ) → (is_true_state (if b then Wo
 words_stateless true chars = refl
 words_stateless false chars = refl
 
+-- what is made of a list that gives no state has none
+element_stateless : (b : Bool) (name : List ℕ) (attributes : List Attribute) → LeavesStates (action.MakeElement name attributes) → (is_true_state (Element name (if b then attributes else [])) || is_false_state (Element name (if b then attributes else []))) ≡ false
+element_stateless true name attributes leaves = leaves
+element_stateless false name attributes leaves = refl
+
 -- ---- where a tail is extracted
 
 stateless_same : (c d : Content) → contenteditable d ≡ contenteditable c → (is_true_state c || is_false_state c) ≡ false → (is_true_state d || is_false_state d) ≡ false
@@ -205,7 +210,7 @@ states_extracted s t from end target is later h =
     (tail_fits (λ c. IsCopy c × ((is_true_state c || is_false_state c) ≡ false)) (λ _. Unit {0}) (λ _. Unit {0}) f is.forest.distinct t.next from (λ c. editing_host f c ≡ Some host.0)
     (λ c k above child within. host_between f t.next is.forest host.0 c k from.label above child within (own.2 ∙ same))
     (λ _ _ _ _. tt)
-    (λ k e. (let d = hosted_content f t.next is.forest host.0 k e in (is_copy f k, copy_stateless f k d.0 d.1 d.2)))
+    (λ k e. (let d = hosted_content f t.next is.forest host.0 k e in (is_copy f is.forest.nodes k, copy_stateless f k d.0 d.1 d.2)))
     (λ _ _. tt) (λ _ _. tt) (document_size f) end target t.next host.2 tt (omega arith))
     (tail_possible t is from end target may) is (h, later)).0))
     h
@@ -216,7 +221,7 @@ states_acted s t (action.Change e) is later leaves h = elim (cases_Bool (is_made
   | inl may ↦ states_kept s t (edited e t) (λ k. ap (λ f. editable_value f k) (trees_made e t may) ∙ value_after e t k is may leaves) h
   | inr off ↦ states_kept s t (edited e t) (λ k. ap (λ f. editable_value f k) (trees_left e t off)) h
 ]
-states_acted s t (action.MakeElement name attributes) is later leaves h = states_made s t (Element name attributes) is later leaves h
+states_acted s t (action.MakeElement name attributes) is later leaves h = states_made s t (element_content name attributes) is later (element_stateless (are_distinct attributes) name attributes leaves) h
 states_acted s t (action.MakeWords chars) is later leaves h = states_made s t (words_content chars) is later (words_stateless (nat_lt (length chars) (2 ^ 32)) chars) h
 states_acted s t (action.Select anchor focus) is later leaves h = states_kept s t (acted (action.Select anchor focus) t) (λ k. ap (λ f. editable_value f k) (trees-selected anchor focus t)) h
 states_acted s t (action.Extend focus) is later leaves h = states_kept s t (acted (action.Extend focus) t) (λ k. ap (λ f. editable_value f k) (trees-extended t.points.selection focus t)) h

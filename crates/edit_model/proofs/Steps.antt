@@ -5,7 +5,6 @@ use Rattle.std.proofs.Math.Seq.{take-length}
 use Rattle.std.proofs.Math.ListN.{drop_of_length-le}
 use Rattle.std.specs.Result.{IsErrAnd}
 use Rattle.std.specs.Prelude.{insert}
-use Rattle.dom_model.specs.declared.Content.TheVariants.{Element}
 use Rattle.dom_model.specs.declared.attributes.Attribute.{Attribute}
 use Rattle.dom_model.specs.Forest.{first_in, last_or, last_in}
 use Rattle.live_range.specs.declared.places.Pair.{Pair}
@@ -16,7 +15,7 @@ use Rattle.edit_model.specs.declared.settings.EditFault.TheVariants.{Full, Memor
 use Rattle.edit_model.specs.State.{State, IsPastCap}
 use Rattle.edit_model.specs.Edit.{Edit, is_made_edit, edited, changed, with_change}
 use Rattle.edit_model.specs.Action as action
-use Rattle.edit_model.specs.Action.{Action, made, applied, words_content, with_selection, with_scratch, selected, extended_from, extended, grown, sent, scratched, acted}
+use Rattle.edit_model.specs.Action.{Action, made, applied, words_content, element_content, with_selection, with_scratch, selected, extended_from, extended, grown, sent, scratched, acted}
 use Rattle.edit_model.specs.Run.{Reaches, here, onward, Run, final, value, act, answer, look, ◌>>=◌, for_each, while_at_most, edit, make_element, make_words, perform}
 use Rattle.edit_model.specs.Gives.{labels_of, Fails, Gives, GivesNode, GivesMaybe}
 use Rattle.edit_model.proofs.TailSteps.{extracted_keeps}
@@ -66,7 +65,7 @@ unfolding edit act value
 value-edit e s = refl
 
 pub final-make_element : (name : List ℕ) (attributes : List Attribute) (s : State) →
-    final (make_element name attributes) s ≡ made (Element name attributes) s
+    final (make_element name attributes) s ≡ made (element_content name attributes) s
 unfolding make_element act final acted
 final-make_element name attributes s = refl
 

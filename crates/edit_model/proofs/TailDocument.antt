@@ -7,6 +7,7 @@ use Rattle.dom_model.specs.Forest.{Forest, count_of, tree_of, parent_of, childre
 use Rattle.dom_model.proofs.Totals.{total-without}
 use Rattle.dom_model.proofs.Within.{within_child, within_self}
 use Rattle.dom_model.proofs.Move.{tree_of-unlink}
+use Rattle.dom_model.proofs.NodesKept.{AreNodes}
 use Rattle.live_range.specs.declared.places.Point.{Point}
 use Rattle.point_order.specs.PointOrder.{child_toward}
 use Rattle.edit_model.specs.State.{State}
@@ -90,7 +91,7 @@ target_stays s is from end target may =
 
     fits : AllOf (Fits IsCopy (Apart s.trees target) (λ _. Unit {0})) (tail_of s from end target)
     fits =
-        tail_fits IsCopy (Apart s.trees target) (λ _. Unit {0}) s.trees is.forest.distinct s.next from (λ c. IsWithin s.trees end c) (λ c k path child _. child_within c k path child) apart_child (λ k _. is_copy s.trees k)
+        tail_fits IsCopy (Apart s.trees target) (λ _. Unit {0}) s.trees is.forest.distinct s.next from (λ c. IsWithin s.trees end c) (λ c k path child _. child_within c k path child) apart_child (λ k _. is_copy s.trees is.forest.nodes k)
         apart_new (λ _ _. tt) (document_size s.trees) end target s.next end_self tt (omega arith)
 
 -- ---- a node of the document stays in it, or goes below the target
@@ -153,9 +154,9 @@ possible-append (Do e ∷ xs) ys u h =
     let q = possible-append xs ys (stepped (Do e) u) p.1 in
     (rw p.0 q.0, q.1)
 
-module _ (f : Forest Content) (once : IsDistinct f) (from : Point) (l : ℕ) where
+module _ (f : Forest Content) (once : IsDistinct f) (nodes : AreNodes f) (from : Point) (l : ℕ) where
   plain : (fuel c d n : ℕ) → AllOf (Fits IsCopy (λ _. Unit {0}) (λ _. Unit {0})) (tail_steps fuel f from c d n)
-  plain fuel c d n = tail_fits IsCopy (λ _. Unit {0}) (λ _. Unit {0}) f once 0 from (λ _. Unit {0}) (λ _ _ _ _ _. tt) (λ _ _ _ _. tt) (λ k _. is_copy f k) (λ _ _. tt) (λ _ _. tt) fuel c d n tt tt (omega arith)
+  plain fuel c d n = tail_fits IsCopy (λ _. Unit {0}) (λ _. Unit {0}) f once 0 from (λ _. Unit {0}) (λ _ _ _ _ _. tt) (λ _ _ _ _. tt) (λ k _. is_copy f nodes k) (λ _ _. tt) (λ _ _. tt) fuel c d n tt tt (omega arith)
 
   abbrev Inner : ℕ → ℕ → Type 0
   Inner fuel n = (k : ℕ) (v : State) → IsValid v → are_possible (tail_steps fuel f from k n (n + 1)) v ≡ true → v.next ≡ n + 1 → IsWithin v.trees 0 l → Holds (stepped_all (tail_steps fuel f from k n (n + 1)) v) n l
@@ -174,7 +175,7 @@ module _ (f : Forest Content) (once : IsDistinct f) (from : Point) (l : ℕ) whe
           let xs = tail_steps fuel f from k n (n + 1) in
           let ys = carried d (later (children_of f c) k) in
           let v = made (copy_of f k) u in
-          let is_v = valid_copied (copy_of f k) u (is_copy f k) is in
+          let is_v = valid_copied (copy_of f k) u (is_copy f nodes k) is in
           let parts = possible-append xs (Do (Insert d None n) ∷ ys) v may in
           let w = stepped_all xs v in
           let is_w = valid_steps xs v (plain fuel k n (n + 1)) parts.0 is_v in
@@ -194,8 +195,8 @@ document_extracted from end target s l is inside =
     let xs = tail_of s from end target in
     let tests = extract_tests s from end target may in
     let u = stepped_all xs s in
-    let is_u = valid_steps xs s (plain s.trees is.forest.distinct from l (document_size s.trees) end target s.next) (tail_possible s is from end target may) is in
-    elim (holds_tail s.trees is.forest.distinct from l (document_size s.trees) end target s.next s is (tail_possible s is from end target may) refl inside) [
+    let is_u = valid_steps xs s (plain s.trees is.forest.distinct is.forest.nodes from l (document_size s.trees) end target s.next) (tail_possible s is from end target may) is in
+    elim (holds_tail s.trees is.forest.distinct is.forest.nodes from l (document_size s.trees) end target s.next s is (tail_possible s is from end target may) refl inside) [
       | inl still ↦ still
       | inr below ↦ within_trans u.trees 0 target l is_u.forest.distinct (target_stays s is from end target may) below
     ]))

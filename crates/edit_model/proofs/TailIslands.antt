@@ -96,5 +96,5 @@ module _ (T : Forest Content) (l : ℕ) where
 
       fits : AllOf (Fits IsCopy Moves Takes) (tail_of s from end target)
       fits =
-          tail_fits IsCopy Moves Takes s.trees is.forest.distinct s.next from (λ c. IsWithin s.trees c from.label) (λ c k _ _ w. w) moves (λ k _. is_copy s.trees k)
+          tail_fits IsCopy Moves Takes s.trees is.forest.distinct s.next from (λ c. IsWithin s.trees c from.label) (λ c k _ _ w. w) moves (λ k _. is_copy s.trees is.forest.nodes k)
           (λ j high. inl (absent j high)) absent (document_size s.trees) end target s.next tests.below target_out (omega arith)

@@ -112,7 +112,7 @@ module _ (s : State) (is : IsValid s) (confined : IsConfined s) (from : Point) (
         tail_fits IsCopy (Moves h (hollowed (tree_of f 0) h)) (Takes h (hollowed (tree_of f 0) h)) f once s.next from (λ c. IsWithin f h c)
         (λ c k path child _. (child_below f once h c k child path).0)
         (λ c x path child. (let k = child_below f once h c x child path in (below_left_out f s.next is.forest h x k.0 k.1, k.1)))
-        (λ k _. is_copy f k)
+        (λ k _. is_copy f is.forest.nodes k)
         (λ j high. (new_out j high, λ e. omega (arith, known, high, e)))
         (λ j high. new_out j high)
         (document_size f) end target s.next top target_out (omega arith)

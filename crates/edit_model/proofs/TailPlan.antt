@@ -1,16 +1,21 @@
 -- What the steps of a tail have in common, by the trees at first.
-use Rattle.std.proofs.Common.{◌≡◌, ℕ, zero, suc, ◌+◌, ◌<◌, ◌≤◌, ◌^◌, Bool, true, eqb, List, [], ◌∷◌, ◌++◌, drop, Option, Some, None, refl, subst, inl, inr, arith}
-use Rattle.std.specs.Option.{option_map_or}
+use Rattle.std.proofs.Common.{◌≡◌, ℕ, zero, suc, ◌+◌, ◌<◌, ◌≤◌, ◌^◌, Bool, true, eqb, List, [], ◌∷◌, ◌++◌, drop, Option, Some, None, IfSome, refl, subst, inl, inr, arith}
+use Rattle.std.specs.Prelude.{unwrap_or, codes}
+use Rattle.std.specs.Option.{option_map, option_map_or, option_and_then}
 use Rattle.std.specs.List.{find}
 use Rattle.std.proofs.lemmas.Bool.{cases_Bool, eq-eqb, ltb-true}
 use Rattle.dom_model.specs.declared.Content.{Content}
-use Rattle.dom_model.specs.declared.Content.TheVariants.{Document}
-use Rattle.dom_model.specs.Contents.{char_length}
+use Rattle.dom_model.specs.declared.Content.TheVariants.{Document, Element, Words, Remark}
+use Rattle.dom_model.specs.AttributeList.{IsDistinctNames}
+use Rattle.dom_model.specs.Contents.{IsNode, attributes_in, char_length}
 use Rattle.dom_model.specs.Forest.{Forest, Seen, seek, times, count_of, tree_of, parent_of, children_of, IsDistinct, IsWithin}
+use Rattle.dom_model.proofs.AttributeLemmas.{distinct-nothing, distinct-unset}
 use Rattle.dom_model.proofs.Links.{parent_of_child, found_stands}
+use Rattle.dom_model.proofs.NodesKept.{AreNodes}
 use Rattle.live_range.specs.declared.places.Point.{Point}
 use Rattle.point_order.specs.PointOrder.{is_within, child_toward}
 use Rattle.edit_model.specs.Edit.{Insert, Remove, Move, Replace, Set, Unset}
+use Rattle.edit_model.specs.Compositions.{attribute_list_of}
 use Rattle.edit_model.specs.Tail.{Step, Copy, Do, carried, later, copy_of, tail_steps}
 
 -- ---- each of a list
@@ -70,11 +75,25 @@ Fits K N D (Do (Unset n name)) = ⊥
 
 -- what a copy is to a valid state
 abbrev pub IsCopy : Content → Type 0
-IsCopy c = (c ≡ Document → ⊥) × (char_length c < 2 ^ 32)
+IsCopy c = (c ≡ Document → ⊥) × (char_length c < 2 ^ 32) × IfSome (attributes_in c) IsDistinctNames
 
-pub is_copy : (f : Forest Content) (k : ℕ) → IsCopy (copy_of f k)
+-- no two attributes of a node have the same name
+pub attributes_distinct : (f : Forest Content) → AreNodes f → (k : ℕ) → IsDistinctNames (attribute_list_of f k)
+attributes_distinct f nodes k = by_seen (seek None f k) (nodes k)
+  where
+    by_content : (c : Content) → IfSome (attributes_in c) IsDistinctNames → IsDistinctNames (unwrap_or (attributes_in c) [])
+    by_content Document names = distinct-nothing
+    by_content (Element name attributes) names = names
+    by_content (Words chars) names = distinct-nothing
+    by_content (Remark chars) names = distinct-nothing
+
+    by_seen : (o : Option (Seen Content)) → ((s : Seen Content) → o ≡ Some s → IsNode k s) → IsDistinctNames (unwrap_or (option_and_then attributes_in (option_map (λ s. s.content) o)) [])
+    by_seen None node = distinct-nothing
+    by_seen (Some s) node = by_content s.content (node s refl).names
+
+pub is_copy : (f : Forest Content) → AreNodes f → (k : ℕ) → IsCopy (copy_of f k)
 unfolding copy_of
-is_copy f k = ((λ e. cc), omega arith)
+is_copy f nodes k = ((λ e. cc), omega arith, distinct-unset (attribute_list_of f k) (codes "id") (attributes_distinct f nodes k))
 
 module _ (K : Content → Type 0) (N D : ℕ → Type 0) where
   carried_fits : (d : ℕ) → D d → (xs : List ℕ) → AllOf N xs → AllOf (Fits K N D) (carried d xs)

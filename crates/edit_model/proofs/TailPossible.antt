@@ -12,6 +12,7 @@ use Rattle.dom_model.proofs.Stands.{times-children}
 use Rattle.dom_model.proofs.Links.{found_stands, seek-link, seek-unlink, parent_of-link_root, parent_of-unlink_root, parent_of-with_leaf, seek-with_leaf_new, tree_of_absent, total-link, total-with_leaf, parent_count}
 use Rattle.dom_model.proofs.Within.{within_child, within_self, within_step}
 use Rattle.dom_model.proofs.Move.{parent_apart}
+use Rattle.dom_model.proofs.NodesKept.{AreNodes}
 use Rattle.dom_model.proofs.Kept.{content_of-link, content_of-with_leaf_new, content_of-with_leaf_other}
 use Rattle.live_range.specs.declared.places.Point.{Point}
 use Rattle.point_order.specs.PointOrder.{is_within, child_toward}
@@ -152,7 +153,7 @@ possible-join (Do e ∷ xs) ys u h g =
 
 -- ---- the whole tail
 
-module _ (f : Forest Content) (once : IsDistinct f) (next : ℕ) (low : (l : ℕ) → 0 < count_of f l → l < next) (from : Point) where
+module _ (f : Forest Content) (once : IsDistinct f) (nodes : AreNodes f) (next : ℕ) (low : (l : ℕ) → 0 < count_of f l → l < next) (from : Point) where
   -- a node below c, or a copy
   abbrev Goes : ℕ → ℕ → ℕ → Type 0
   Goes c n y = (IsWithin f c y × (y ≢ c)) ⊎ (n ≤ y)
@@ -263,7 +264,7 @@ module _ (f : Forest Content) (once : IsDistinct f) (next : ℕ) (low : (l : ℕ
             tail_fits IsCopy (Goes k (n + 1)) (λ _. Unit {0}) f once (n + 1) from (λ j. IsWithin f k j)
             (λ a b path up _. within_child f k once k_known b a up path)
             (λ a x path up. inl (within_child f k once k_known x a up path, λ e. parent_apart f k a once (ap (parent_of f) (sym e) ∙ up) path))
-            (λ j _. is_copy f j) (λ j more. inr more) (λ _ _. tt) fuel k n (n + 1) (within_self f k once k_known) tt (omega arith)
+            (λ j _. is_copy f nodes j) (λ j more. inr more) (λ _ _. tt) fuel k n (n + 1) (within_self f k once k_known) tt (omega arith)
 
     -- after the copy is made, both the tail of k and the rest of c may begin
     begins_below : (u : State) → Begins c d n u → Begins k n (n + 1) (made (copy_of f k) u)
@@ -273,7 +274,7 @@ module _ (f : Forest Content) (once : IsDistinct f) (next : ℕ) (low : (l : ℕ
         let new = fresh u.trees u.next is.forest in
         let at = h.drawn in
         record {
-          valid = valid_copied (copy_of f k) u (is_copy f k) is;
+          valid = valid_copied (copy_of f k) u (is_copy f nodes k) is;
           keeping = h.keeping;
           known = (parent_count f k c once child).0;
           later_labels = omega (arith, high);
@@ -373,14 +374,14 @@ module _ (f : Forest Content) (once : IsDistinct f) (next : ℕ) (low : (l : ℕ
           (λ x. (let most = children_once f once c x in omega (arith, most, times-drop (place_in (children_of f c) k + 1) (children_of f c) x)))))
         where
           plain : (fuel c d n : ℕ) → AllOf (Fits IsCopy (λ _. Unit {0}) (λ _. Unit {0})) (tail_steps fuel f from c d n)
-          plain fuel c d n = tail_fits IsCopy (λ _. Unit {0}) (λ _. Unit {0}) f once 0 from (λ _. Unit {0}) (λ _ _ _ _ _. tt) (λ _ _ _ _. tt) (λ j _. is_copy f j) (λ _ _. tt) (λ _ _. tt) fuel c d n tt tt (omega arith)
+          plain fuel c d n = tail_fits IsCopy (λ _. Unit {0}) (λ _. Unit {0}) f once 0 from (λ _. Unit {0}) (λ _ _ _ _ _. tt) (λ _ _ _ _. tt) (λ j _. is_copy f nodes j) (λ _ _. tt) (λ _ _. tt) fuel c d n tt tt (omega arith)
 
 -- ---- the action
 
 pub tail_possible : (s : State) → IsValid s → (from : Point) (end target : ℕ) → may_extract s from end target ≡ true → are_possible (tail_of s from end target) s ≡ true
 unfolding tail_of
 tail_possible s is from end target may =
-    possible_tail s.trees is.forest.distinct s.next is.forest.below from (document_size s.trees) end target s.next s
+    possible_tail s.trees is.forest.distinct is.forest.nodes s.next is.forest.below from (document_size s.trees) end target s.next s
     (record {
       valid = is;
       keeping = tests.keeping;

@@ -16,7 +16,7 @@ use Rattle.edit_model.specs.State.{State}
 use Rattle.edit_model.specs.Kept.{is_thing, borne_by, is_kept, is_empty, has_no_kept_leaves}
 use Rattle.edit_model.specs.Edit.{Edit, Insert, Remove, Move, Replace, Set, Unset, is_made_edit, trees_after, changed, with_replaced, with_set, with_unset}
 use Rattle.edit_model.specs.Action as action
-use Rattle.edit_model.specs.Action.{Action, made, words_content, extended, acted}
+use Rattle.edit_model.specs.Action.{Action, made, words_content, element_content, extended, acted}
 use Rattle.edit_model.specs.Run.{Reaches, here, onward}
 use Rattle.edit_model.specs.Valid.{IsValid}
 use Rattle.edit_model.proofs.CommandParts.{command_along}
@@ -122,7 +122,7 @@ module _ (l : ℕ) (name : List ℕ) (thing : is_thing name ≡ true) where
     | inl may ↦ subst IsThere (sym (trees_made e s may)) (there_after e s is keeps may h)
     | inr off ↦ subst IsThere (sym (trees_left e s off)) h
   ]
-  there_acted (action.MakeElement own attributes) s is keeps h = there_made (Element own attributes) s is h
+  there_acted (action.MakeElement own attributes) s is keeps h = there_made (element_content own attributes) s is h
   there_acted (action.MakeWords chars) s is keeps h = there_made (words_content chars) s is h
   there_acted (action.Select anchor focus) s is keeps h = subst IsThere (sym (trees-selected anchor focus s)) h
   there_acted (action.Extend focus) s is keeps h = subst IsThere (sym (trees-extended s.points.selection focus s)) h

@@ -1,10 +1,11 @@
 -- The parts of actions, and the steps of a tail, keep a state valid.
-use Rattle.std.proofs.Common.{◌≡◌, ◌≢◌, ℕ, ◌<◌, ◌^◌, Bool, true, false, if◌then◌else◌, List, [], ◌∷◌, length, refl, arith}
+use Rattle.std.proofs.Common.{◌≡◌, ◌≢◌, ℕ, ◌<◌, ◌^◌, Bool, true, false, if◌then◌else◌, List, [], ◌∷◌, length, IfSome, refl, arith}
 use Rattle.std.proofs.lemmas.Bool.{and_parts}
 use Rattle.dom_model.specs.declared.Content.{Content}
 use Rattle.dom_model.specs.Change.{Change}
 use Rattle.dom_model.specs.declared.Content.TheVariants.{Document}
-use Rattle.dom_model.specs.Contents.{char_length}
+use Rattle.dom_model.specs.AttributeList.{IsDistinctNames}
+use Rattle.dom_model.specs.Contents.{attributes_in, char_length}
 use Rattle.dom_model.specs.Forest.{Forest, with_leaf}
 use Rattle.live_range.specs.declared.places.Point.{Point}
 use Rattle.live_range.specs.LivePoints.{LivePoints}
@@ -47,10 +48,10 @@ pub valid_with_change : (x : Change) (s : State) → IsValid s → IsValid (with
 unfolding with_change
 valid_with_change x s is = record { forest = is.forest; placed = is.placed; started = is.started; settings = is.settings }
 
-pub valid_made : (c : Content) (s : State) → c ≢ Document → char_length c < 2 ^ 32 → IsValid s → IsValid (made c s)
+pub valid_made : (c : Content) (s : State) → c ≢ Document → char_length c < 2 ^ 32 → IfSome (attributes_in c) IsDistinctNames → IsValid s → IsValid (made c s)
 unfolding made
-valid_made c s other short is = record {
-  forest = forest-with_leaf s.trees s.next is.forest c other short;
+valid_made c s other short names is = record {
+  forest = forest-with_leaf s.trees s.next is.forest c other short names;
   placed = points_left s.trees (with_leaf s.trees s.next c) (leaves-with_leaf s.trees s.next is.forest c) s.points is.placed;
   started = (let h = is.started in omega (arith, h));
   settings = is.settings;
@@ -67,7 +68,7 @@ valid_applied e s is may =
     valid_with_change (change_of e s.trees) (changed s (trees_after e s.trees) (points_after e s.trees s.points)) (valid_changed s (trees_after e s.trees) (points_after e s.trees s.points) is (made_forest e (freed s) (valid_freed s is) may) (made_placed e (freed s) (valid_freed s is) may))
 
 pub valid_copied : (c : Content) (s : State) → IsCopy c → IsValid s → IsValid (made c s)
-valid_copied c s copy is = valid_made c s copy.0 copy.1 is
+valid_copied c s copy is = valid_made c s copy.0 copy.1 copy.2 is
 
 pub valid_steps : (xs : List Step) (s : State) → AllOf (Fits IsCopy (λ _. Unit {0}) (λ _. Unit {0})) xs → are_possible xs s ≡ true → IsValid s → IsValid (stepped_all xs s)
 unfolding stepped_all stepped are_possible
@@ -80,4 +81,4 @@ valid_steps (Do e ∷ xs) s fit may is =
 -- the steps make copies of elements, whatever else they do
 pub plain_tail : (s : State) → IsValid s → (from : Point) (end target : ℕ) → AllOf (Fits IsCopy (λ _. Unit {0}) (λ _. Unit {0})) (tail_of s from end target)
 unfolding tail_of
-plain_tail s is from end target = tail_fits IsCopy (λ _. Unit {0}) (λ _. Unit {0}) s.trees is.forest.distinct s.next from (λ _. Unit {0}) (λ _ _ _ _ _. tt) (λ _ _ _ _. tt) (λ k _. is_copy s.trees k) (λ _ _. tt) (λ _ _. tt) (document_size s.trees) end target s.next tt tt (omega arith)
+plain_tail s is from end target = tail_fits IsCopy (λ _. Unit {0}) (λ _. Unit {0}) s.trees is.forest.distinct s.next from (λ _. Unit {0}) (λ _ _ _ _ _. tt) (λ _ _ _ _. tt) (λ k _. is_copy s.trees is.forest.nodes k) (λ _ _. tt) (λ _ _. tt) (document_size s.trees) end target s.next tt tt (omega arith)

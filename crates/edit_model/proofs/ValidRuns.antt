@@ -3,8 +3,11 @@ use Rattle.std.proofs.Common.{◌≡◌, ◌≢◌, ℕ, ◌<◌, ◌^◌, Bool,
 use Rattle.std.specs.Prelude.{nat_lt}
 use Rattle.std.proofs.lemmas.Bool.{and_parts, ltb-true}
 use Rattle.std.proofs.lemmas.List.{length-set}
-use Rattle.dom_model.specs.declared.Content.TheVariants.{Document, Element, Words}
-use Rattle.dom_model.specs.Contents.{char_length}
+use Rattle.dom_model.specs.declared.Content.TheVariants.{Document, Words}
+use Rattle.dom_model.specs.declared.attributes.Attribute.{Attribute}
+use Rattle.dom_model.specs.AttributeList.{IsDistinctNames, are_distinct}
+use Rattle.dom_model.specs.Contents.{attributes_in, char_length}
+use Rattle.dom_model.proofs.AttributeLemmas.{distinct-nothing, told_distinct}
 use Rattle.html_names.specs.declared.commands.Command.{Command}
 use Rattle.live_range.specs.declared.places.Point.{Point}
 use Rattle.live_range.specs.declared.places.Pair.{Pair}
@@ -16,7 +19,7 @@ use Rattle.edit_model.specs.Overrides.{with_setting, place_of}
 use Rattle.edit_model.specs.Confined.{may_select, may_grow, may_send}
 use Rattle.edit_model.specs.Edit.{Edit, is_made_edit, trees_after, points_after, changed, change_of, edited}
 use Rattle.edit_model.specs.Action as action
-use Rattle.edit_model.specs.Action.{Action, made, applied, stepped, stepped_all, tail_of, may_extract, extracted, words_content, with_selection, with_scratch, selected, extended_from, extended, grown, sent, scratched, acted}
+use Rattle.edit_model.specs.Action.{Action, made, applied, stepped, stepped_all, tail_of, may_extract, extracted, words_content, element_content, with_selection, with_scratch, selected, extended_from, extended, grown, sent, scratched, acted}
 use Rattle.edit_model.specs.Run.{Reaches, Run, final}
 use Rattle.edit_model.specs.Valid.{IsPlacedPair, IsValid}
 use Rattle.edit_model.proofs.Steps.{along, final_keeps}
@@ -50,6 +53,14 @@ words_other false chars e = cc
 words_short : (b : Bool) (chars : List ℕ) → (b ≡ true → length chars < 2 ^ 32) → char_length (if b then Words chars else Words []) < 2 ^ 32
 words_short true chars h = h refl
 words_short false chars h = omega arith
+
+words_nameless : (b : Bool) (chars : List ℕ) → IfSome (attributes_in (if b then Words chars else Words [])) IsDistinctNames
+words_nameless true chars = tt
+words_nameless false chars = tt
+
+names_kept : (b : Bool) (list : List Attribute) → (b ≡ true → IsDistinctNames list) → IsDistinctNames (if b then list else [])
+names_kept true list h = h refl
+names_kept false list h = distinct-nothing
 
 -- ---- points that are set
 
@@ -114,10 +125,10 @@ valid_extracted from end target s is =
 pub valid_acted : (a : Action) (s : State) → IsValid s → IsValid (acted a s)
 unfolding acted extended
 valid_acted (action.Change e) s is = valid_edited e s is
-valid_acted (action.MakeElement name attributes) s is = valid_made (Element name attributes) s (λ e. cc) (omega arith) is
+valid_acted (action.MakeElement name attributes) s is = valid_made (element_content name attributes) s (λ e. cc) (omega arith) (names_kept (are_distinct attributes) attributes (told_distinct attributes)) is
 valid_acted (action.MakeWords chars) s is =
     valid_made (words_content chars) s (words_other (nat_lt (length chars) (2 ^ 32)) chars)
-    (words_short (nat_lt (length chars) (2 ^ 32)) chars (λ h. ltb-true (length chars) (2 ^ 32) h)) is
+    (words_short (nat_lt (length chars) (2 ^ 32)) chars (λ h. ltb-true (length chars) (2 ^ 32) h)) (words_nameless (nat_lt (length chars) (2 ^ 32)) chars) is
 valid_acted (action.Select anchor focus) s is = valid_selected anchor focus s is
 valid_acted (action.Extend focus) s is = valid_extended s.points.selection focus s is.placed.selection is
 valid_acted action.Unselect s is = valid_selection None s tt is

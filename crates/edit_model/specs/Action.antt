@@ -4,6 +4,7 @@ use Rattle.std.specs.Prelude.{ℕ, ◌+◌, ◌^◌, Bool, ◌&&◌, not, nat_lt
 use Rattle.dom_model.specs.declared.Content.{Content}
 use Rattle.dom_model.specs.declared.Content.TheVariants.{Element, Words}
 use Rattle.dom_model.specs.declared.attributes.Attribute.{Attribute}
+use Rattle.dom_model.specs.AttributeList.{are_distinct}
 use Rattle.dom_model.specs.Contents.{is_parent_at}
 use Rattle.dom_model.specs.Forest.{with_leaf}
 use Rattle.html_names.specs.declared.commands.Command.{Command}
@@ -43,6 +44,10 @@ pub data Action : Type 0 where
 -- a text has at most 4,294,967,295 characters; a longer one is made empty
 abbrev pub words_content : List ℕ → Content
 words_content chars = if nat_lt (length chars) (2 ^ 32) then Words chars else Words []
+
+-- no two attributes of an element have the same name; a list where two have makes it without any
+abbrev pub element_content : List ℕ → List Attribute → Content
+element_content name attributes = Element name (if are_distinct attributes then attributes else [])
 
 unfoldable pub made : Content → State → State
 made c s = record s {
@@ -134,7 +139,7 @@ extracted from end target s =
 
 unfoldable pub acted : Action → State → State
 acted (Change e) s = edited e s
-acted (MakeElement name attributes) s = made (Element name attributes) s
+acted (MakeElement name attributes) s = made (element_content name attributes) s
 acted (MakeWords chars) s = made (words_content chars) s
 acted (Select anchor focus) s = selected anchor focus s
 acted (Extend focus) s = extended focus s

@@ -1,6 +1,6 @@
 -- Compositions of edits that the DOM and editing standards name: splitting a text, and setting the
 -- tag name of an element. The steps are those of docs/ALGORITHMS.md.
-use Rattle.std.specs.Prelude.{ℕ, ◌+◌, ◌-◌, Bool, ◌||◌, not, List, [], length, drop, Some, None, if◌then◌else◌, unwrap_or}
+use Rattle.std.specs.Prelude.{ℕ, ◌+◌, ◌-◌, Bool, ◌||◌, not, List, [], length, drop, Some, if◌then◌else◌, unwrap_or}
 use Rattle.dom_model.specs.declared.attributes.Attribute.{Attribute}
 use Rattle.dom_model.specs.Contents.{chars_of, name_of, attributes_of, has_name}
 use Rattle.dom_model.specs.Forest.{Forest, parent_of, next_of, children_of}

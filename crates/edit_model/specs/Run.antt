@@ -3,7 +3,6 @@
 use Rattle.std.specs.Prelude.{ℕ, zero, suc, Bool, List, [], ◌∷◌, ◌++◌, Option, Some, None, if◌then◌else◌}
 use Rattle.dom_model.specs.declared.attributes.Attribute.{Attribute}
 use Rattle.dom_model.specs.declared.Content.{Content}
-use Rattle.dom_model.specs.declared.Content.TheVariants.{Element}
 use Rattle.dom_model.specs.Change as forest
 use Rattle.html_names.specs.declared.commands.Command.{Command}
 use Rattle.live_range.specs.declared.places.Point.{Point}
@@ -12,7 +11,7 @@ use Rattle.edit_model.specs.declared.settings.Setting.{Setting}
 use Rattle.edit_model.specs.declared.settings.Flags.{Flags}
 use Rattle.edit_model.specs.State.{State}
 use Rattle.edit_model.specs.Edit.{Edit, Insert, Remove, Move, Replace, Set, Unset, is_made_edit, change_of}
-use Rattle.edit_model.specs.Action.{Action, Change, MakeElement, MakeWords, Select, Extend, Unselect, Grow, Send, Scratch, Override, Flag, Extract, words_content, stepped, tail_of, may_extract, acted}
+use Rattle.edit_model.specs.Action.{Action, Change, MakeElement, MakeWords, Select, Extend, Unselect, Grow, Send, Scratch, Override, Flag, Extract, words_content, element_content, stepped, tail_of, may_extract, acted}
 use Rattle.edit_model.specs.Tail.{Step, Copy, Do}
 
 -- ---- states that actions lead to
@@ -66,7 +65,7 @@ nodes_in (Copy content ∷ xs) s = (s.next, content) ∷ nodes_in xs (stepped (C
 nodes_in (Do e ∷ xs) s = nodes_in xs (stepped (Do e) s)
 
 abbrev pub nodes_of : Action → State → List (ℕ × Content)
-nodes_of (MakeElement name attributes) s = (s.next, Element name attributes) ∷ []
+nodes_of (MakeElement name attributes) s = (s.next, element_content name attributes) ∷ []
 nodes_of (MakeWords chars) s = (s.next, words_content chars) ∷ []
 nodes_of (Extract from end target) s = if may_extract s from end target
     then nodes_in (tail_of s from end target) s else []

@@ -92,7 +92,7 @@ module _ (l : ℕ) (c : Content) where
         rising = RisesFrom-with_leaf f 0 l c ok.rising (omega arith) (λ j top. b.below j (omega (arith, top, times-tops f j)));
         document = omega (arith, ok.document, total-with_leaf f l c none (λ m _. cond (eqb m 0) 1 0));
         root = parent_of-with_leaf f l c none 0 ∙ ok.root;
-        nodes = nodes-with_leaf f l c none (record { document = (λ e. absurd (made.plain e), λ e. absurd (let low = b.below 0 ok.document in omega (arith, low, e))); leaf = λ _. refl; short = made.short }) ok.nodes;
+        nodes = nodes-with_leaf f l c none (record { document = (λ e. absurd (made.plain e), λ e. absurd (let low = b.below 0 ok.document in omega (arith, low, e))); leaf = λ _. refl; short = made.short; names = made.names }) ok.nodes;
       }
 
   CanPut-with_leaf : (f : Forest Content) (p : ℕ) (b : Option ℕ) (n : ℕ) → IsBelow f l → CanPut f p b n → CanPut (with_leaf f l c) p b n
@@ -175,10 +175,10 @@ module _ (l : ℕ) (c : Content) where
         below = still_below f (revised f n (with_chars words)) low (λ m. total-revised n (with_chars words) (λ j. cond (eqb j m) 1 0) f);
       }
   beside (SetAttributes n list) f low made h =
-      let lt = low.below n (stands f n is_element h.here) in
+      let lt = low.below n (stands f n is_element h.here.0) in
       record {
-        fits = record { forest = IsForest-with_leaf f h.forest low made; here = ap (λ o. option_map_or is_element o false) (same_content f n low lt) ∙ h.here };
+        fits = record { forest = IsForest-with_leaf f h.forest low made; here = (ap (λ o. option_map_or is_element o false) (same_content f n low lt) ∙ h.here.0, h.here.1) };
         same = revised-with_leaf l c f n (with_attributes list) lt;
-        forest = IsForest-redressed f n list h.forest;
+        forest = IsForest-redressed f n list h.here.1 h.forest;
         below = still_below f (revised f n (with_attributes list)) low (λ m. total-revised n (with_attributes list) (λ j. cond (eqb j m) 1 0) f);
       }

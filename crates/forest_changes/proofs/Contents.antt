@@ -1,10 +1,11 @@
 -- Contents exchanged twice are as they were.
-use Rattle.std.proofs.Common.{◌≡◌, ◌^◌, ℕ, ◌<◌, Bool, true, false, true≢false, List, length, Option, Some, None, refl, sym, ap, ◌∙◌, inl, inr}
+use Rattle.std.proofs.Common.{◌≡◌, ◌^◌, ℕ, ◌<◌, Bool, true, false, true≢false, List, length, Option, Some, None, IfSome, refl, sym, ap, ◌∙◌, inl, inr}
 use Rattle.std.proofs.lemmas.Bool.Decides.{eqb_tells}
 use Rattle.std.specs.Option.{option_map, option_map_or, option_and_then}
 use Rattle.dom_model.specs.declared.attributes.Attribute.{Attribute}
 use Rattle.dom_model.specs.declared.Content.{Content}
 use Rattle.dom_model.specs.declared.Content.TheVariants.{Document, Element, Words, Remark}
+use Rattle.dom_model.specs.AttributeList.{IsDistinctNames}
 use Rattle.dom_model.specs.Contents.{IsNode, has_chars, has_chars_at, is_element, is_element_at, chars_in, attributes_in, chars_of, attributes_of, with_chars, with_attributes, char_length}
 use Rattle.dom_model.specs.Forest.{Forest, Seen, seek, count_of, IsDistinct, content_of}
 use Rattle.dom_model.specs.Forest.Forest.{Nil, Tree}
@@ -47,11 +48,11 @@ chars_are (Element name list) t short = absurd (true≢false (sym t))
 chars_are (Words chars) t short = (chars, refl, short)
 chars_are (Remark chars) t short = (chars, refl, short)
 
-attributes_are : (c : Content) → is_element c ≡ true → (old : List Attribute) × (attributes_in c ≡ Some old)
-attributes_are Document t = absurd (true≢false (sym t))
-attributes_are (Element name list) t = (list, refl)
-attributes_are (Words chars) t = absurd (true≢false (sym t))
-attributes_are (Remark chars) t = absurd (true≢false (sym t))
+attributes_are : (c : Content) → is_element c ≡ true → IfSome (attributes_in c) IsDistinctNames → (old : List Attribute) × (attributes_in c ≡ Some old) × IsDistinctNames old
+attributes_are Document t names = absurd (true≢false (sym t))
+attributes_are (Element name list) t names = (list, refl, names)
+attributes_are (Words chars) t names = absurd (true≢false (sym t))
+attributes_are (Remark chars) t names = absurd (true≢false (sym t))
 
 chars_new : (c : Content) (words : List ℕ) → has_chars c ≡ true → chars_in (with_chars words c) ≡ Some words
 chars_new Document words t = absurd (true≢false (sym t))
@@ -102,11 +103,12 @@ chars_there f n once nodes t = by_seen (seek None f n) refl t
     by_seen None e u = absurd (true≢false (sym u))
     by_seen (Some s) e u = (let r = chars_are s.content u (nodes n s e).short in (r.0, ap (λ o. option_and_then chars_in (option_map (λ (x : Seen Content). x.content) o)) e ∙ r.1, r.2))
 
-pub attributes_there : (f : Forest Content) (n : ℕ) → is_element_at f n ≡ true → (old : List Attribute) × (attributes_of f n ≡ Some old)
-attributes_there f n t =
-    let c = here_is is_element (content_of f n) t in
-    let r = attributes_are c.0 c.2 in
-    (r.0, ap (option_and_then attributes_in) c.1 ∙ r.1)
+pub attributes_there : (f : Forest Content) (n : ℕ) → ((l : ℕ) (s : Seen Content) → seek None f l ≡ Some s → IsNode l s) → is_element_at f n ≡ true → (old : List Attribute) × (attributes_of f n ≡ Some old) × IsDistinctNames old
+attributes_there f n nodes t = by_seen (seek None f n) refl t
+  where
+    by_seen : (o : Option (Seen Content)) → seek None f n ≡ o → option_map_or is_element (option_map (λ (s : Seen Content). s.content) o) false ≡ true → (old : List Attribute) × (attributes_of f n ≡ Some old) × IsDistinctNames old
+    by_seen None e u = absurd (true≢false (sym u))
+    by_seen (Some s) e u = (let r = attributes_are s.content u (nodes n s e).names in (r.0, ap (λ o. option_and_then attributes_in (option_map (λ (x : Seen Content). x.content) o)) e ∙ r.1, r.2))
 
 pub chars_set : (f : Forest Content) (n : ℕ) (words : List ℕ) → has_chars_at f n ≡ true → chars_of (revised f n (with_chars words)) n ≡ Some words
 chars_set f n words t =

@@ -161,7 +161,7 @@ module _ (k : ℕ → Bool) where
       record { fits = fits; same = same; turns = refl; names = (hs.0, tt); prunes = left.0; stays = left.1 }
   down (SetAttributes n list) f prunes h hs =
       let c = content_of-pruned k f n h.forest hs.0 in
-      let fits : Fits (SetAttributes n list) (pruned k f) = record { forest = IsForest-pruned f prunes.document h.forest; here = ap (λ o. option_map_or is_element o false) c ∙ h.here } in
+      let fits : Fits (SetAttributes n list) (pruned k f) = record { forest = IsForest-pruned f prunes.document h.forest; here = (ap (λ o. option_map_or is_element o false) c ∙ h.here.0, h.here.1) } in
       let same = pruned-revised k f n (with_attributes list) in
       let rest = after (SetAttributes n list) f prunes fits same in
       record { fits = fits; same = same; turns = λ i. SetAttributes n (unwrap_or (option_and_then attributes_in (c i)) list); names = (hs.0, tt); prunes = rest.0; stays = rest.1 }
@@ -205,8 +205,8 @@ module _ (k : ℕ → Bool) where
       let here = stands (pruned k f) n has_chars (part_chars (pruned k f) n at rest taken put h.here) in
       (record { forest = ok; here = HasPart-same (pruned k f) f n at rest taken put (sym (ap (option_and_then chars_in) (content_of-pruned k f n ok here))) h.here }, (here, tt))
   up (SetAttributes n list) f prunes ok h =
-      let here = stands (pruned k f) n is_element h.here in
-      (record { forest = ok; here = sym (ap (λ o. option_map_or is_element o false) (content_of-pruned k f n ok here)) ∙ h.here }, (here, tt))
+      let here = stands (pruned k f) n is_element h.here.0 in
+      (record { forest = ok; here = (sym (ap (λ o. option_map_or is_element o false) (content_of-pruned k f n ok here)) ∙ h.here.0, h.here.1) }, (here, tt))
 
   -- ---- which labels can be pruned
 

@@ -3,6 +3,7 @@ use Rattle.std.proofs.Common.{◌≡◌, ◌≢◌, ◌^◌, ℕ, zero, suc, ◌
 use Rattle.std.specs.Option.{option_map, option_map_or, option_and_then}
 use Rattle.dom_model.specs.declared.attributes.Attribute.{Attribute}
 use Rattle.dom_model.specs.declared.Content.{Content}
+use Rattle.dom_model.specs.AttributeList.{IsDistinctNames}
 use Rattle.dom_model.specs.Contents.{IsNode, may_have_children, is_parent_at, chars_in, attributes_in, chars_of, attributes_of, with_chars, with_attributes}
 use Rattle.dom_model.specs.Forest.{Forest, Seen, tops, count_of, IsDistinct, times, parent_of, next_of, after_in, tree_of, without, link, unlink, CanPut, IsWithin}
 use Rattle.dom_model.specs.Revised.{revised}
@@ -138,8 +139,8 @@ IsForest-revised f n g keeps ok = record {
 pub IsForest-rewritten : (f : Forest Content) (n : ℕ) (words : List ℕ) → length words < 2 ^ 32 → IsForest f → IsForest (revised f n (with_chars words))
 IsForest-rewritten f n words short ok = IsForest-revised f n (with_chars words) (λ l o. chars_node l words o short) ok
 
-pub IsForest-redressed : (f : Forest Content) (n : ℕ) (list : List Attribute) → IsForest f → IsForest (revised f n (with_attributes list))
-IsForest-redressed f n list ok = IsForest-revised f n (with_attributes list) (λ l o. attributes_node l list o) ok
+pub IsForest-redressed : (f : Forest Content) (n : ℕ) (list : List Attribute) → IsDistinctNames list → IsForest f → IsForest (revised f n (with_attributes list))
+IsForest-redressed f n list distinct ok = IsForest-revised f n (with_attributes list) (λ l o. attributes_node l list o distinct) ok
 
 pub turns : (x : Change) (f : Forest Content) → Fits x f → Turns x f
 unfolding applied inverse
@@ -194,11 +195,11 @@ turns (change.Splice n at rest taken put) f h =
       same = refl;
     }
 turns (change.SetAttributes n list) f h =
-    let there = attributes_there f n h.here in
+    let there = attributes_there f n h.forest.nodes h.here.0 in
     let old : attributes_of f n ≡ Some there.0 = there.1 in
-    let now : attributes_of (revised f n (with_attributes list)) n ≡ Some list = attributes_set f n list h.here in
+    let now : attributes_of (revised f n (with_attributes list)) n ≡ Some list = attributes_set f n list h.here.0 in
     record {
-      fits = record { forest = IsForest-redressed f n list h.forest; here = still_element f n list h.here };
+      fits = record { forest = IsForest-redressed f n list h.here.1 h.forest; here = (still_element f n list h.here.0, rw old there.2) };
       back = rw old (revised_back f n (with_attributes list) (with_attributes there.0) h.forest.distinct (λ s e. attributes_back s.content list there.0 (sym (ap (λ o. option_and_then attributes_in (option_map (λ (t : Seen Content). t.content) o)) e) ∙ old)));
       same = λ i. change.SetAttributes n (unwrap_or (now i) (unwrap_or (attributes_of f n) list));
     }

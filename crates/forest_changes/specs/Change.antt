@@ -2,6 +2,7 @@
 -- it turns into.
 use Rattle.std.specs.Prelude.{◌≡◌, ◌^◌, ℕ, ◌+◌, ◌<◌, List, [], ◌∷◌, ◌++◌, length, true, None, Some, IsSome, unwrap_or}
 use Rattle.dom_model.specs.declared.Content.{Content}
+use Rattle.dom_model.specs.AttributeList.{IsDistinctNames}
 use Rattle.dom_model.specs.Contents.{IsNode, has_chars_at, is_element_at, chars_of, attributes_of, with_chars, with_attributes}
 use Rattle.dom_model.specs.Forest.{Forest, Seen, seek, count_of, IsDistinct, RisesFrom, parent_of, next_of, link, unlink}
 use Rattle.dom_model.specs.Revised.{revised}
@@ -33,7 +34,7 @@ FitsIn (Insert n p b) f = CanLink f p b n
 FitsIn (Move n p b) f = IsSome (parent_of f n) × CanLink (unlink f n) p b n
 FitsIn (SetText n words) f = (has_chars_at f n ≡ true) × (length words < 2 ^ 32)
 FitsIn (Splice n at rest taken put) f = HasPart f n at rest taken put
-FitsIn (SetAttributes n list) f = is_element_at f n ≡ true
+FitsIn (SetAttributes n list) f = (is_element_at f n ≡ true) × IsDistinctNames list
 
 -- the change can be made
 pub record Fits (x : Change) (f : Forest Content) : Type 0 where

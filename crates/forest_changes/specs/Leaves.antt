@@ -1,8 +1,9 @@
 -- A forest with nodes that were made since, each alone in a tree and with a label above all others.
-use Rattle.std.specs.Prelude.{◌≡◌, ◌≢◌, ◌^◌, ℕ, ◌+◌, ◌<◌, nat_le, List, [], ◌∷◌, ◌++◌, length}
+use Rattle.std.specs.Prelude.{◌≡◌, ◌≢◌, ◌^◌, ℕ, ◌+◌, ◌<◌, nat_le, List, [], ◌∷◌, ◌++◌, length, IfSome}
 use Rattle.dom_model.specs.declared.Content.{Content}
 use Rattle.dom_model.specs.declared.Content.TheVariants.{Document}
-use Rattle.dom_model.specs.Contents.{char_length}
+use Rattle.dom_model.specs.AttributeList.{IsDistinctNames}
+use Rattle.dom_model.specs.Contents.{attributes_in, char_length}
 use Rattle.dom_model.specs.Forest.{Forest, count_of, with_leaf}
 use Rattle.dom_model.specs.Pruned.{pruned, IsWhole}
 use Rattle.undo_log.specs.Turning.{back, forth, FitsBack, FitsForth}
@@ -16,6 +17,7 @@ pub record IsBelow (f : Forest Content) (l : ℕ) : Type 0 where
 pub record IsMade (c : Content) : Type 0 where
   pub plain : c ≢ Document
   pub short : char_length c < 2 ^ 32
+  pub names : IfSome (attributes_in c) IsDistinctNames
 
 abbrev pub EachMade : List Content → Type 0
 EachMade [] = Unit {0}

@@ -5,9 +5,12 @@ use Rattle.std.proofs.lemmas.Bool.{and_parts}
 use Rattle.dom_model.specs.declared.Content.{Content}
 use Rattle.dom_model.specs.declared.Content.TheVariants.{Document, Element, Words, Remark}
 use Rattle.dom_model.specs.Change.{Change}
+use Rattle.dom_model.specs.declared.attributes.Attribute.{Attribute}
+use Rattle.dom_model.specs.AttributeList.{are_distinct}
 use Rattle.dom_model.specs.Contents.{is_parent_at, with_chars, with_attributes}
 use Rattle.dom_model.specs.Editing.{editing_host}
 use Rattle.dom_model.specs.Forest.{Forest, IsWithin, count_of, parent_of}
+use Rattle.dom_model.proofs.AttributeLemmas.{distinct-nothing}
 use Rattle.dom_model.proofs.Links.{parent_count}
 use Rattle.dom_model.proofs.Totals.{total-without}
 use Rattle.html_names.specs.declared.commands.Command.{Command}
@@ -23,7 +26,7 @@ use Rattle.edit_model.specs.Compositions.{attribute_list_of}
 use Rattle.edit_model.specs.Edit.{Edit, Insert, Remove, Move, Replace, Set, Unset, is_made_edit, trees_after, overrides_after, changed, change_of, with_change, with_replaced, with_set, with_unset, edited}
 use Rattle.edit_model.specs.Action as action
 use Rattle.edit_model.specs.Tail.{copy_of, document_size}
-use Rattle.edit_model.specs.Action.{Action, made, applied, tail_of, may_extract, extracted, words_content, with_selection, selected, extended, extended_from, grown, sent, scratched, acted}
+use Rattle.edit_model.specs.Action.{Action, made, applied, tail_of, may_extract, extracted, words_content, with_selection, selected, extended, extended_from, grown, sent, scratched, acted, element_content}
 use Rattle.edit_model.specs.Overrides.{no_overrides, with_setting}
 use Rattle.edit_model.specs.Run.{Reaches, here, onward}
 use Rattle.edit_model.specs.Valid.{IsValid}
@@ -38,7 +41,7 @@ use Rattle.edit_model.proofs.TailRuns.{fit_steps}
 use Rattle.edit_model.proofs.TailOutside.{host_of}
 use Rattle.edit_model.proofs.TailStates.{host_between}
 use Rattle.making_laws.proofs.Named.{IsNamed, named_within}
-use Rattle.step_text.specs.StepLine.{is_attribute_name}
+use Rattle.step_text.specs.StepLine.{is_attribute_name, IsTag}
 use Rattle.grammar_laws.specs.Proper.{AllNodes, IsText, IsList, IsProper, IsProperChange, IsProperSetting, IsProperNode, IsProperState}
 use Rattle.grammar_laws.specs.Runs.{IsProperEdit, IsProperAction, ProperOn}
 use Rattle.grammar_laws.proofs.Lists.{list_set, list_unset}
@@ -72,6 +75,10 @@ words_proper chars own = by_test (nat_lt (length chars) (2 ^ 32))
     by_test : (b : Bool) → IsProper (if b then Words chars else Words [])
     by_test true = own
     by_test false = refl
+
+element_proper : (b : Bool) (name : List ℕ) (list : List Attribute) → IsTag name list → IsProper (Element name (if b then list else []))
+element_proper true name list own = own
+element_proper false name list own = (own.0, tt, distinct-nothing)
 
 -- ---- an edit
 
@@ -196,7 +203,7 @@ proper_extracted s from end target is p =
     (λ c. (editing_host g c ≡ Some host.0) × (IsWithin g c from.label × (0 < count_of g c)))
     (λ c k above child within. (host_between g s.next is.forest host.0 c k from.label above.0 child within (own.2 ∙ same), (within, there c k child)))
     (λ _ _ _ _. tt)
-    (λ k e. (is_copy g k, copy_proper g k p.nodes (named_within g s.next is.forest host.0 k from.label e.0 e.1.0 bears e.1.1)))
+    (λ k e. (is_copy g is.forest.nodes k, copy_proper g k p.nodes (named_within g s.next is.forest host.0 k from.label e.0 e.1.0 bears e.1.1)))
     (λ _ _. tt) (λ _ _. tt) (document_size g) end target s.next (host.2, (tests.below, end_there s end tests.end_inside)) tt (omega arith))
     (tail_possible s is from end target may) is p))
     p
@@ -209,7 +216,7 @@ proper_extracted s from end target is p =
 proper_acted : (a : Action) (s : State) → IsValid s → IsProperAction a → IsProperState s → IsProperState (acted a s)
 unfolding acted extended
 proper_acted (action.Change e) s is h p = proper_edited e s h p
-proper_acted (action.MakeElement name attributes) s is h p = proper_made (Element name attributes) s h p
+proper_acted (action.MakeElement name attributes) s is h p = proper_made (element_content name attributes) s (element_proper (are_distinct attributes) name attributes h) p
 proper_acted (action.MakeWords chars) s is h p = proper_made (words_content chars) s (words_proper chars h) p
 proper_acted (action.Select anchor focus) s is h p = proper_selected anchor focus s p
 proper_acted (action.Extend focus) s is h p = proper_extended s.points.selection focus s p

@@ -6,6 +6,8 @@ use Rattle.std.proofs.lemmas.Bool.{and_parts, cases_Bool}
 use Rattle.std.proofs.lemmas.Bool.Decides.{eqb_tells}
 use Rattle.dom_model.specs.declared.Content.{Content}
 use Rattle.dom_model.specs.declared.Content.TheVariants.{Document, Element, Words, Remark}
+use Rattle.dom_model.specs.declared.attributes.Attribute.{Attribute}
+use Rattle.dom_model.specs.AttributeList.{are_distinct}
 use Rattle.dom_model.specs.Contents.{name_in, is_parent_at}
 use Rattle.dom_model.specs.Editing.{editing_host}
 use Rattle.dom_model.specs.Forest.{Forest, IsWithin, count_of, parent_of, content_of, link, unlink, with_leaf}
@@ -22,7 +24,7 @@ use Rattle.edit_model.specs.Compositions.{attribute_list_of}
 use Rattle.edit_model.specs.Edit.{Edit, Insert, Remove, Move, Replace, Set, Unset, is_made_edit, trees_after, changed, with_change, with_replaced, with_set, with_unset}
 use Rattle.edit_model.specs.Action as action
 use Rattle.edit_model.specs.Tail.{copy_of, document_size}
-use Rattle.edit_model.specs.Action.{Action, made, applied, tail_of, may_extract, extracted, words_content, extended, acted}
+use Rattle.edit_model.specs.Action.{Action, made, applied, tail_of, may_extract, extracted, words_content, extended, acted, element_content}
 use Rattle.edit_model.specs.Run.{Reaches, here, onward}
 use Rattle.edit_model.specs.Valid.{IsValid}
 use Rattle.edit_model.proofs.Tests.{inserts, removes, goes, parent_there}
@@ -68,6 +70,10 @@ module _ (source : Source) where
   known_words : (b : Bool) (chars : List ℕ) → Each (IsKnownCharacter source) chars → IsKnown source (if b then Words chars else Words [])
   known_words true chars own = own
   known_words false chars own = tt
+
+  known_element : (b : Bool) (name : List ℕ) (list : List Attribute) → IsKnown source (Element name list) → IsKnown source (Element name (if b then list else []))
+  known_element true name list own = own
+  known_element false name list own = (own.0, tt)
 
   -- ---- forests
 
@@ -152,7 +158,7 @@ module _ (source : Source) where
       (λ c. (editing_host g c ≡ Some host.0) × (IsWithin g c from.label × (0 < count_of g c)))
       (λ c k above child within. (host_between g s.next is.forest host.0 c k from.label above.0 child within (own.2 ∙ same), (within, there c k child)))
       (λ _ _ _ _. tt)
-      (λ k e. (is_copy g k, copy_known g k known (named_within g s.next is.forest host.0 k from.label e.0 e.1.0 bears e.1.1)))
+      (λ k e. (is_copy g is.forest.nodes k, copy_known g k known (named_within g s.next is.forest host.0 k from.label e.0 e.1.0 bears e.1.1)))
       (λ _ _. tt) (λ _ _. tt) (document_size g) end target s.next (host.2, (tests.below, end_there s end tests.end_inside)) tt (omega arith))
       (tail_possible s is from end target may) is known))
       known
@@ -168,7 +174,7 @@ module _ (source : Source) where
     | inl may ↦ subst (KnowsAll source) (sym (trees_made e s may)) (knows_after e s is may tame known)
     | inr off ↦ subst (KnowsAll source) (sym (trees_left e s off)) known
   ]
-  knows_acted (action.MakeElement name attributes) s is tame known = knows_made s (Element name attributes) is tame known
+  knows_acted (action.MakeElement name attributes) s is tame known = knows_made s (element_content name attributes) is (known_element (are_distinct attributes) name attributes tame) known
   knows_acted (action.MakeWords chars) s is tame known = knows_made s (words_content chars) is (known_words (nat_lt (length chars) (2 ^ 32)) chars tame) known
   knows_acted (action.Select anchor focus) s is tame known = subst (KnowsAll source) (sym (trees-selected anchor focus s)) known
   knows_acted (action.Extend focus) s is tame known = subst (KnowsAll source) (sym (trees-extended s.points.selection focus s)) known

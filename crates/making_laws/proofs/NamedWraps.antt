@@ -12,8 +12,7 @@ use Rattle.wrap_split.specs.declared.rule.Criterion.TheVariants.{Never}
 use Rattle.wrap_split.specs.declared.rule.Recipe.TheVariants.{Make}
 use Rattle.wrap_split.specs.Target.{meets, if_fits, beside, blank_of, made_of, made_by, target}
 use Rattle.wrap_split.specs.Wrap.{filled_from, filled, into_target, wrap_ends, wrap_list, wrap_members, wrap}
-use Rattle.dom_model.specs.declared.Content.TheVariants.{Element}
-use Rattle.edit_model.specs.Action.{made}
+use Rattle.edit_model.specs.Action.{made, element_content}
 use Rattle.dom_model.specs.declared.Content.{Content}
 use Rattle.dom_model.specs.Contents.{name_in}
 use Rattle.dom_model.proofs.Kept.{content_of-with_leaf_new}
@@ -62,7 +61,7 @@ value_target blank a z s =
     let after = never_fits s (next_of s.trees z) in
     rw (value-look, before, after, value-bind, value-make_element, value-answer) refl
 
-final_target : (blank : Blank) (a z : ℕ) (s : State) → final (target Never (Make blank) a z) s ≡ made (Element blank.name blank.attributes) s
+final_target : (blank : Blank) (a z : ℕ) (s : State) → final (target Never (Make blank) a z) s ≡ made (element_content blank.name blank.attributes) s
 unfolding target beside made_by blank_of made_of
 final_target blank a z s =
     let before = never_fits s (prev_of s.trees a) in
@@ -74,10 +73,10 @@ unfolding filled filled_from
 value_filled c p list a s =
     rw (value-bind, value-look, value-bind, value-bind, value-bind, value-bind, value-answer) refl
 
-made_named : (blank : Blank) (s : State) → IsValid s → IsElement (made (Element blank.name blank.attributes) s) s.next
+made_named : (blank : Blank) (s : State) → IsValid s → IsElement (made (element_content blank.name blank.attributes) s) s.next
 unfolding made
 made_named blank s is =
-    (omega arith, (blank.name, ap (λ (o : Option Content). option_and_then name_in o) (content_of-with_leaf_new s.trees s.next (Element blank.name blank.attributes) (fresh s.trees s.next is.forest))))
+    (omega arith, (blank.name, ap (λ (o : Option Content). option_and_then name_in o) (content_of-with_leaf_new s.trees s.next (element_content blank.name blank.attributes) (fresh s.trees s.next is.forest))))
 
 module _ (s : State) (is : IsValid s) (blank : Blank) where
   named_ends : (list : List ℕ) (a z : ℕ) → AnswersNamed s (wrap_ends Never (Make blank) list a z)

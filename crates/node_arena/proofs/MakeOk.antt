@@ -7,7 +7,8 @@ use Rattle.std.specs.Option.{option_and_then}
 use Rattle.dom_model.specs.declared.Content.{Content}
 use Rattle.dom_model.specs.declared.Content.TheVariants.{Document}
 use Rattle.dom_model.specs.ArenaState.{ArenaState, IsValid}
-use Rattle.dom_model.specs.Contents.{IsNode, char_length}
+use Rattle.dom_model.specs.AttributeList.{IsDistinctNames}
+use Rattle.dom_model.specs.Contents.{IsNode, attributes_in, char_length}
 use Rattle.dom_model.specs.Forest.{Forest, Seen, total, count_of, IsDistinct, seek, parent_of, children_of, first_of, last_of, prev_of, next_of, before_in, after_in, first_in, last_in, with_leaf, RisesFrom}
 use Rattle.dom_model.specs.Forest.Forest.{Nil, Tree}
 use Rattle.dom_model.proofs.Stands.{times-tops, seek_absent}
@@ -172,8 +173,8 @@ pub record MakesTo (old : ArenaState) (new : List (Option Node)) (next cap : ℕ
   pub makes : Makes old (state_of new next cap) r c
 
 -- a node without children and without a parent that may be one
-pub lone_node : (l : ℕ) (c : Content) → (c ≡ Document ↔ (l ≡ 0)) → char_length c < 2 ^ 32 → IsNode l (record { parent = None; content = c; children = [] })
-lone_node l c document short = record { document = document; leaf = λ _. refl; short = short }
+pub lone_node : (l : ℕ) (c : Content) → (c ≡ Document ↔ (l ≡ 0)) → char_length c < 2 ^ 32 → IfSome (attributes_in c) IsDistinctNames → IsNode l (record { parent = None; content = c; children = [] })
+lone_node l c document short names = record { document = document; leaf = λ _. refl; short = short; names = names }
 
 -- the index with the slot of the next label
 indexed_more : (slots new : List (Option Node)) (next : ℕ) (index : List ℕ) (key : ℕ) → length index ≡ next → ((slot l : ℕ) → get_or (map label_in slots) slot None ≡ Some l → (l < next) × (get_or index l 0 ≡ slot)) → get_or (map label_in new) key None ≡ Some next → ((j : ℕ) → j ≢ key → get_or (map label_in new) j None ≡ get_or (map label_in slots) j None) → (slot l : ℕ) → get_or (map label_in new) slot None ≡ Some l → get_or (index ++ key ∷ []) l 0 ≡ slot
@@ -186,8 +187,8 @@ indexed_more slots new next index key long old put others slot l h = elim (eqb_t
       get_or-append index (key ∷ []) 0 l (omega (arith, r.0, long)) ∙ r.1)
 ]
 
-pub make_state : (slots new : List (Option Node)) (next cap : ℕ) (index : List ℕ) → IsArena slots next cap index → (old : ArenaState) → state_of slots next cap ≡ old → (key : ℕ) (c : Content) → (c ≡ Document → ⊥) → char_length c < 2 ^ 32 → next ≢ cap → get_or slots key None ≡ None → get_or new key None ≡ Some (leaf_node next c) → ((j : ℕ) → j ≢ key → get_or new j None ≡ get_or slots j None) → MakesTo old new (next + 1) cap (index ++ key ∷ []) (record { slot = key; label = next }) c
-make_state slots new next cap index arena old is key c plain short ne vacant put others =
+pub make_state : (slots new : List (Option Node)) (next cap : ℕ) (index : List ℕ) → IsArena slots next cap index → (old : ArenaState) → state_of slots next cap ≡ old → (key : ℕ) (c : Content) → (c ≡ Document → ⊥) → char_length c < 2 ^ 32 → IfSome (attributes_in c) IsDistinctNames → next ≢ cap → get_or slots key None ≡ None → get_or new key None ≡ Some (leaf_node next c) → ((j : ℕ) → j ≢ key → get_or new j None ≡ get_or slots j None) → MakesTo old new (next + 1) cap (index ++ key ∷ []) (record { slot = key; label = next }) c
+make_state slots new next cap index arena old is key c plain short names ne vacant put others =
     let room : next < cap = omega (arith, arena.sound.capped, ne) in
     let trees = make_trees slots new next cap arena.sound key c room vacant put others in
     let keeps = make_keeps slots new next cap arena.sound key c room vacant put others in
@@ -199,7 +200,7 @@ make_state slots new next cap index arena old is key c plain short ne vacant put
         document = keeps 0 0 arena.document;
         root = ap (λ h. parent_of h 0) trees ∙ (parent_of-with_leaf (trees_of slots next) next c none 0 ∙ arena.root);
         small = arena.small;
-        nodes = subst AreNodes (sym trees) (nodes-with_leaf (trees_of slots next) next c none (lone_node next c (λ e. absurd (plain e), λ e. absurd (omega (arith, e, zero))) short) arena.nodes);
+        nodes = subst AreNodes (sym trees) (nodes-with_leaf (trees_of slots next) next c none (lone_node next c (λ e. absurd (plain e), λ e. absurd (omega (arith, e, zero))) short names) arena.nodes);
         long = length-append index (key ∷ []) ∙ ap (λ n. n + 1) arena.long;
         indexed = indexed_more slots new next index key arena.long (λ slot l h. (held_below slot l h, arena.indexed slot l h)) held (make_others slots new next cap arena.sound key c room vacant put others);
       };
@@ -252,7 +253,7 @@ new_state new cap room small put others =
         document = held;
         root = ap (λ h. parent_of h 0) trees;
         small = small;
-        nodes = subst AreNodes (sym trees) (nodes-with_leaf Nil 0 Document refl (lone_node 0 Document (λ _. refl, λ _. refl) (omega arith)) (λ l s e. absurd (let e' = e in cc)));
+        nodes = subst AreNodes (sym trees) (nodes-with_leaf Nil 0 Document refl (lone_node 0 Document (λ _. refl, λ _. refl) (omega arith) tt) (λ l s e. absurd (let e' = e in cc)));
         long = refl;
         indexed = λ slot l h. (let r = only slot l h in ap (λ k. get_or (0 ∷ []) k 0) r.1 ∙ sym r.0);
       };

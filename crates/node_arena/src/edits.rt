@@ -96,6 +96,7 @@ impl Arena {
         } }
         ensures list { attributes_of self.old.trees node.label ≡ Some list.new }
     {
+        list.valid();
         swap_attributes_at(&mut self.nodes, node.slot, list);
     }
 

@@ -13,7 +13,8 @@
 
 ghost use Rattle.std.specs.Prelude.{◌≡◌, ◌≢◌, ℕ, ◌+◌, ◌<◌, ◌≤◌, ◌^◌, IsTrue, ◌↔◌, Some, None, Err, IsSome, IfSome, IfOk, OnOk, OnErr, length, true};
 ghost use Rattle.dom_model.specs.Forest.{count_of};
-ghost use Rattle.dom_model.specs.Contents.{char_length};
+ghost use Rattle.dom_model.specs.AttributeList.{IsDistinctNames};
+ghost use Rattle.dom_model.specs.Contents.{attributes_in, char_length};
 ghost use Rattle.dom_model.specs.ArenaState.{ArenaState, HoldsAt, IsValid, IsSlotted};
 ghost use Rattle.node_arena.specs.Held.{Holds, Makes, IsNew, leaf_node};
 
@@ -153,6 +154,7 @@ impl Arena {
     fn make(&mut self, content: Content) -> Result<NodeRef, MakeFault>
         requires plain { content ≢ Content.Document }
         requires short { char_length content < 2 ^ 32 }
+        requires names { IfSome (attributes_in content) IsDistinctNames }
         ensures full { (self.old.next ≡ self.old.cap) ↔ (result ≡ Err MakeFault.Full) }
         ensures made { IfOk result (λ r. Makes self.old self.new r content) }
         ensures err { OnErr result (self.new ≡ self.old) }
@@ -183,6 +185,7 @@ impl Arena {
             Makes self.old self.new r (Content.Element name attributes)) }
         ensures err { OnErr result (self.new ≡ self.old) }
     {
+        attributes.valid();
         self.make(Content::Element { name, attributes })
     }
 

@@ -90,7 +90,7 @@ module _ (told : ℕ → Option Content) (all : (l : ℕ) → IfSome (told l) Is
       by_change (Move n p b) fit own = tt
       by_change (SetText n words) fit own = own
       by_change (Splice n at rest taken put) fit own = splice_text f n at (length taken) put own nodes
-      by_change (SetAttributes n list) fit own = (told_name (content_of f n) fit.here (told n) (all n) (are n), own.0, own.1)
+      by_change (SetAttributes n list) fit own = (told_name (content_of f n) fit.here.0 (told n) (all n) (are n), own.0, own.1)
 
 -- ---- an entry
 

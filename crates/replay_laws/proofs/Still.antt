@@ -2,14 +2,13 @@
 use Rattle.std.proofs.Common.{◌≡◌, ℕ, ◌<◌, Bool, List, [], ◌∷◌, length, Option, refl, ap, ◌∙◌, inl, inr, arith, length-append}
 use Rattle.std.proofs.lemmas.Bool.{cases_Bool}
 use Rattle.dom_model.specs.declared.Content.{Content}
-use Rattle.dom_model.specs.declared.Content.TheVariants.{Element}
 use Rattle.forest_changes.specs.Change.{Change}
 use Rattle.forest_changes.proofs.BesideLeaf.{tree_of-with_leaf}
 use Rattle.edit_model.specs.State.{State}
 use Rattle.edit_model.specs.Tail.{Step, Copy, Do}
 use Rattle.edit_model.specs.Edit.{is_made_edit, changed}
 use Rattle.edit_model.specs.Action as action
-use Rattle.edit_model.specs.Action.{Action, made, stepped, stepped_all, extracted, tail_of, may_extract, words_content, extended, acted}
+use Rattle.edit_model.specs.Action.{Action, made, stepped, stepped_all, extracted, tail_of, may_extract, words_content, extended, acted, element_content}
 use Rattle.edit_model.specs.History.{document_of, begun}
 use Rattle.edit_model.specs.Run.{Reaches, here, onward, changes_in, changes_of, changes_on}
 use Rattle.edit_model.proofs.EditLists.{adds_along}
@@ -40,7 +39,7 @@ stays_acted (action.Change e) s some none = elim (cases_Bool (is_made_edit e s))
   | inl may ↦ absurd (let one : 1 ≡ 0 = rw may at none in omega (arith, one))
   | inr off ↦ stays_by (action.Change e) s (trees_left e s off)
 ]
-stays_acted (action.MakeElement name list) s some none = stays_made (Element name list) s some
+stays_acted (action.MakeElement name list) s some none = stays_made (element_content name list) s some
 stays_acted (action.MakeWords chars) s some none = stays_made (words_content chars) s some
 stays_acted (action.Select anchor focus) s some none = stays_by (action.Select anchor focus) s (trees-selected anchor focus s)
 stays_acted (action.Extend focus) s some none = stays_by (action.Extend focus) s (trees-extended s.points.selection focus s)

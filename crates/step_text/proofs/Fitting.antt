@@ -6,6 +6,7 @@ use Rattle.std.proofs.lemmas.Bool.{and_parts, not-true, ltb-true, eqb-false}
 use Rattle.dom_model.specs.declared.attributes.Attribute.{Attribute}
 use Rattle.dom_model.specs.declared.Content.{Content}
 use Rattle.dom_model.specs.declared.Content.TheVariants as content
+use Rattle.dom_model.specs.AttributeList.{IsDistinctNames}
 use Rattle.dom_model.specs.Contents.{has_chars, has_name, is_element, is_parent_at, name_in}
 use Rattle.dom_model.specs.Forest.{Forest, is_label, count_of, parent_of, content_of, tree_of}
 use Rattle.dom_model.specs.ArenaState.{ArenaState, IsValid, IsSlotted}
@@ -185,12 +186,12 @@ module _ (a : ArenaState) (law : IsValid a) (slotted : IsSlotted a) where
         next = refl;
       }) there
 
-  pub tag_step : (l : ℕ) (r : NodeRef) (name : List ℕ) (list : List Attribute) → r.label ≡ l → Holds a r → is_there a.trees l ≡ true → has_name a.trees r.label name ≡ true → IsStepOf (Tag l name list) a (step.SetAttributes r list)
+  pub tag_step : (l : ℕ) (r : NodeRef) (name : List ℕ) (list : List Attribute) → r.label ≡ l → Holds a r → is_there a.trees l ≡ true → has_name a.trees r.label name ≡ true → IsDistinctNames list → IsStepOf (Tag l name list) a (step.SetAttributes r list)
   unfolding has_labels has_place has_room trees_after
-  tag_step l r name list same held there named = subst (λ k. is_there a.trees k ≡ true → IsStepOf (Tag k name list) a (step.SetAttributes r list)) same
+  tag_step l r name list same held there named distinct = subst (λ k. is_there a.trees k ≡ true → IsStepOf (Tag k name list) a (step.SetAttributes r list)) same
       (λ there. record {
         fine = fine (Tag r.label name list) (labelled a) there named refl;
-        fits = record { fits = record { forest = forest_of a law; here = has_tag (content_of a.trees r.label) _ named }; slotted = slotted; held = (held, tt) };
+        fits = record { fits = record { forest = forest_of a law; here = (has_tag (content_of a.trees r.label) _ named, distinct) }; slotted = slotted; held = (held, tt) };
         trees = refl;
         next = refl;
       }) there

@@ -199,7 +199,7 @@ change_led (change.SetText n words) name d h say low =
     record { fine = fine (Words n words) d (there d.trees n (there_by d.trees n _ say)) say refl; applied = refl }
 change_led (change.Splice n at rest taken put) name d h say low = absurd say
 change_led (change.SetAttributes n list) name d h say low =
-    record { fine = fine (Tag n name list) d (there d.trees n (there_by d.trees n _ h.here)) (named d.trees n name say) refl; applied = refl }
+    record { fine = fine (Tag n name list) d (there d.trees n (there_by d.trees n _ h.here.0)) (named d.trees n name say) refl; applied = refl }
 
 pub make_led : (l : ℕ) (made : Made) (d : Labelled) → d.next ≤ l → l < d.cap → LeadsTo (Make l made) d (record d { trees = with_leaf d.trees l (made_content made); next = l + 1 })
 unfolding has_labels has_place has_room trees_after line_applied

@@ -1,13 +1,13 @@
 -- What is read as a step is a step that lines stand for.
 use Rattle.std.proofs.Common.{◌≡◌, ◌↔◌, ℕ, Bool, true, false, cond, List, [], ◌∷◌, codes, Option, Some, None, IfSome, refl, sym, ap, subst, ◌∙◌}
 use Rattle.std.specs.Bool.{Decides}
-use Rattle.std.specs.List.{IsDistinct, AllByRecursion}
 use Rattle.std.specs.Option.{option_map}
 use Rattle.std.specs.Str.{all_scalars, bytes_eq, chars, is_utf8}
 use Rattle.std.proofs.lemmas.Slice.Eq.{bytes_eq-Decides}
 use Rattle.std.proofs.lemmas.Str.{scalars-chars, IsUtf8-from_is_utf8}
 use Rattle.dom_model.specs.declared.attributes.Attribute.{Attribute}
-use Rattle.dom_model.specs.AttributeList.{set_in, names_of, IsDistinctNames}
+use Rattle.dom_model.specs.AttributeList.{IsDistinctNames}
+use Rattle.dom_model.proofs.AttributeLemmas.{distinct-nothing, distinct-set}
 use Rattle.script_read.specs.Reading.{◌>>=◌, cut, split, number_of}
 use Rattle.script_read.proofs.Tests.{some-is}
 use Rattle.script_read.proofs.Values.{text_sound, spelled_scalars}
@@ -77,37 +77,6 @@ words_so text = each_so AreScalars (words_of text) (λ words is. spelled_scalars
 
 -- ---- tags
 
--- another name, told from each of a list
-all_set : (name : List ℕ) (list : List Attribute) (n v : List ℕ) → bytes_eq name n ≡ false
-    → AllByRecursion (λ other. bytes_eq name other ≡ false) (names_of list)
-    → AllByRecursion (λ other. bytes_eq name other ≡ false) (names_of (set_in list n v))
-all_set name [] n v other all = (other, tt)
-all_set name (a ∷ list) n v other all = by_test (bytes_eq n a.name) (all_set name list n v other all.1)
-  where
-    by_test : (b : Bool) → AllByRecursion (λ other. bytes_eq name other ≡ false) (names_of (set_in list n v)) → AllByRecursion (λ other. bytes_eq name other ≡ false) (names_of (cond b (record { name = a.name; value = v } ∷ list) (a ∷ set_in list n v)))
-    by_test true more = all
-    by_test false more = (all.0, more)
-
-turned : (a b : List ℕ) → bytes_eq a b ≡ false → bytes_eq b a ≡ false
-turned a b other = by_test (bytes_eq b a) (bytes_eq-Decides b a)
-  where
-    by_test : (t : Bool) → Decides t (b ≡ a) → t ≡ false
-    by_test false d = refl
-    by_test true d = absurd (let same : bytes_eq a b ≡ true = (bytes_eq-Decides a b).1 (sym (d.0 refl)) in let e = sym same ∙ other in cc)
-
-set_distinct : (list : List Attribute) (n v : List ℕ) → IsDistinctNames list → IsDistinctNames (set_in list n v)
-unfolding IsDistinct
-set_distinct [] n v distinct = (tt, tt)
-set_distinct (a ∷ list) n v distinct = by_test (bytes_eq n a.name) refl (set_distinct list n v distinct.1)
-  where
-    by_test : (b : Bool) → bytes_eq n a.name ≡ b → IsDistinctNames (set_in list n v) → IsDistinctNames (cond b (record { name = a.name; value = v } ∷ list) (a ∷ set_in list n v))
-    by_test true is more = distinct
-    by_test false is more = (all_set a.name list n v (turned n a.name is) distinct.0, more)
-
-none_distinct : IsDistinctNames []
-unfolding IsDistinct
-none_distinct = tt
-
 abbrev IsAttribute : Attribute → Type 0
 IsAttribute a = (is_attribute_name a.name ≡ true) × (all_scalars a.value ≡ true)
 
@@ -129,7 +98,7 @@ attributes_so list [] are = tt
 attributes_so list (last ∷ []) are = are
 attributes_so list (head ∷ (value ∷ parts)) are =
     bound_so IsAttribute AreDistinct (attribute_of head value) (λ a. attributes_from (with_attribute list a) parts) (attribute_so head value)
-    (λ a is. attributes_so (with_attribute list a) parts (set_are list a.name a.value are.0 is.0 is.1, set_distinct list a.name a.value are.1))
+    (λ a is. attributes_so (with_attribute list a) parts (set_are list a.name a.value are.0 is.0 is.1, distinct-set list a.name a.value are.1))
 
 abbrev IsTagOf : List ℕ × List Attribute → Type 0
 IsTagOf tag = IsTag tag.0 tag.1
@@ -138,7 +107,7 @@ start_tag_so : (text : List ℕ) → IfSome (start_tag_of text) IsTagOf
 unfolding start_tag_of attributes_of
 start_tag_so text =
     bound_so (λ name. is_element_name name ≡ true) IsTagOf (element_name_of (tag_parts text).0) _ (tested_so (λ name. is_element_name name ≡ true) (is_element_name (tag_parts text).0) (tag_parts text).0 (λ is. is))
-    (λ name is. bound_so AreDistinct IsTagOf (attributes_from [] (split 34 (tag_parts text).1)) _ (attributes_so [] (split 34 (tag_parts text).1) (tt, none_distinct)) (λ list are. (is, are.0, are.1)))
+    (λ name is. bound_so AreDistinct IsTagOf (attributes_from [] (split 34 (tag_parts text).1)) _ (attributes_so [] (split 34 (tag_parts text).1) (tt, distinct-nothing)) (λ list are. (is, are.0, are.1)))
 
 tag_so : (text : List ℕ) → IfSome (tag_of text) IsTagOf
 tag_so text = start_tag_so (unescaped false text)

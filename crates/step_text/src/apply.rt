@@ -364,6 +364,7 @@ fn redressing(
 {
     arena.valid();
     arena.slotted();
+    attributes.valid();
     let node = find(arena, label)?;
     if !is_named(arena, node, &name) {
         return Err(StepFault::BadPlace);

@@ -65,6 +65,7 @@ fn can_dress(arena: &Arena, node: NodeRef, list: &Attributes) -> bool
     ensures { IsTrue result → StepFits (Step.SetAttributes node list.now) arena.now }
 {
     arena.valid();
+    list.valid();
     arena.slotted();
     arena.holds(node) && arena.kind(node) == Kind::Element
 }

@@ -22,7 +22,7 @@ invariant_of-self-inside c =
 
 given : (c : goal.After-note_made) → Given c.self.inside c.args.self.now (Element c.args.name c.args.attributes) c.in-Ok.node c.make_element.new.self c.note_made.new.self
 given c =
-    node_made c.self.inside c.args.self.now c.self.view_is c.valid.ensures c.requires.open c.self.invariant (Element c.args.name c.args.attributes) (element_made c.args.name c.args.attributes)
+    node_made c.self.inside c.args.self.now c.self.view_is c.valid.ensures c.requires.open c.self.invariant (Element c.args.name c.args.attributes) (element_made c.args.name c.args.attributes c.valid-2.ensures)
     c.make_element.new.self c.in-Ok.node c.in-Ok.ensures.made (record c.self.inside.command { detached = c.reserve.new.self; named = c.reserve-2.new.self }) c.note_made.new.self refl c.reserve-2.ensures.items c.reserve.ensures.items c.note_made.ensures
 
 pub invariant_of-self-in-Ok : goal.invariant_of-self-in-Ok
@@ -38,7 +38,7 @@ pub returns-in-Ok-clause-gives : goal.returns-in-Ok-clause-gives
 returns-in-Ok-clause-gives c =
     let m = c.in-Ok.ensures.made in
     gives_element c.args.name c.args.attributes c.args.self.now.state _ c.in-Ok.node (m.label ∙ ap (λ (w : Whole). w.state.next) c.self.view_is)
-    (given c).state
+    c.valid-2.ensures (given c).state
 
 pub returns-in-Ok-clause-held : goal.returns-in-Ok-clause-held
 returns-in-Ok-clause-held c = (given c).held

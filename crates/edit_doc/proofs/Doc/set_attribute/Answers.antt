@@ -8,7 +8,7 @@ use Rattle.dom_model.specs.Contents.{attributes_in}
 use Rattle.dom_model.specs.Forest.{content_of}
 use Rattle.edit_model.proofs.Giving.{gives_left}
 use Rattle.edit_model.specs.Edit.{Set}
-use Rattle.edit_doc.proofs.Attributed.{not_own_set, no_list_set, not_set_here, may_set_here, counted_redressed, set_done, no_list}
+use Rattle.edit_doc.proofs.Attributed.{not_own_set, no_list_set, not_set_here, may_set_here, set_fits, counted_redressed, set_done, no_list}
 use Rattle.edit_doc.proofs.Edited.{Done, keeps_same}
 use Rattle.edit_doc.proofs.SeenNodes.{shows_of, held_seen, attributes_seen}
 use Rattle.edit_doc.proofs.Doc.set_attribute.Goals as goal
@@ -35,6 +35,14 @@ returns-then-has_value-clause-gives c =
     let content : content_of c.self.inside.tree.nodes.arena.trees a.node.label ≡ Some (Element k.name k.attributes) = c.content.ensures ∙ ap Some k.is in
     let same : has_value k.attributes a.name.now a.value.now ≡ true = sym c.has_value.ensures ∙ c.if-has_value.true in
     gives_left (Set a.node.label a.name.now a.value.now) a.self.now.state a.self.now.state (not_set_here c.self.inside a.self.now c.self.view_is c.valid.ensures c.slotted.ensures c.requires.open c.self.invariant a.node c.requires.node_held k.name k.attributes content a.name.now a.value.now same) refl
+
+pub change-requires-clause-fits : goal.change-requires-clause-fits
+change-requires-clause-fits c =
+    let a = c.args in
+    let k = c.in-Element in
+    let here = held_seen c.self.inside a.self.now c.self.view_is a.node c.requires.node_held in
+    let same : c.set.new.self ≡ set_in k.attributes a.name.now a.value.now = c.in_ok-set.ensures.ok ∙ ap (λ xs. set_in xs a.name.now a.value.now) c.in_ok-list.ensures in
+    set_fits c.self.inside c.valid.ensures c.slotted.ensures c.self.invariant a.node here.slot here.here k.name k.attributes c.set.new.self (c.content.ensures ∙ ap Some k.is) a.name.now a.value.now same
 
 pub change-requires-clause-counted : goal.change-requires-clause-counted
 change-requires-clause-counted c =

@@ -7,7 +7,7 @@ use Rattle.dom_model.specs.Contents.{attributes_in}
 use Rattle.dom_model.specs.Forest.{content_of}
 use Rattle.edit_model.proofs.Giving.{gives_left}
 use Rattle.edit_model.specs.Edit.{Unset}
-use Rattle.edit_doc.proofs.Attributed.{not_own_unset, no_list_unset, not_unset_here, may_unset_here, counted_redressed, unset_done, no_list, copied_some}
+use Rattle.edit_doc.proofs.Attributed.{not_own_unset, no_list_unset, not_unset_here, may_unset_here, unset_fits, counted_redressed, unset_done, no_list, copied_some}
 use Rattle.edit_doc.proofs.Edited.{Done, keeps_same}
 use Rattle.edit_doc.proofs.SeenNodes.{shows_of, held_seen, attributes_seen}
 use Rattle.edit_doc.proofs.Doc.unset_attribute.Goals as goal
@@ -34,6 +34,14 @@ returns-then-is_none-clause-gives c =
     let content : content_of c.self.inside.tree.nodes.arena.trees a.node.label ≡ Some (Element k.name k.attributes) = c.content.ensures ∙ ap Some k.is in
     let none : option_map_or (λ _. true) (value_of k.attributes a.name.now) false ≡ false = ap (λ o. option_map_or (λ _. true) o false) (ap (value_of k.attributes) (sym c.as_slice.ensures) ∙ sym c.get.ensures) ∙ (copied_some c.get.result ∙ (c.is_none.ensures ∙ ap not c.if-is_none.true)) in
     gives_left (Unset a.node.label a.name.now) a.self.now.state a.self.now.state (not_unset_here c.self.inside a.self.now c.self.view_is c.valid.ensures c.slotted.ensures c.requires.open c.self.invariant a.node c.requires.node_held k.name k.attributes content a.name.now none) refl
+
+pub change-requires-clause-fits : goal.change-requires-clause-fits
+change-requires-clause-fits c =
+    let a = c.args in
+    let k = c.in-Element in
+    let here = held_seen c.self.inside a.self.now c.self.view_is a.node c.requires.node_held in
+    let same : c.unset.new.self ≡ unset_in k.attributes a.name.now = c.unset.ensures.left ∙ (λ i. unset_in (c.in_ok-list.ensures i) (c.as_slice-2.ensures i)) in
+    unset_fits c.self.inside c.valid.ensures c.slotted.ensures c.self.invariant a.node here.slot here.here k.name k.attributes c.unset.new.self (c.content.ensures ∙ ap Some k.is) a.name.now same
 
 pub change-requires-clause-counted : goal.change-requires-clause-counted
 change-requires-clause-counted c =

@@ -16,7 +16,7 @@ made c =
     let put : get_or new key None ≡ Some c.leaf.result = ap (λ k. get_or new k None) (sym at) ∙ c.insert_reserved.ensures.updates.changed in
     let others : (j : ℕ) → j ≢ key → get_or new j None ≡ get_or slots j None = λ j off. c.insert_reserved.ensures.updates.others j (λ e. off (e ∙ at)) ∙ ap (λ xs. get_or xs j None) same in
     subst (λ items. MakesTo c.args.self.now new (c.self.inside.next + 1) c.self.inside.cap items (record { slot = key; label = c.self.inside.next }) c.args.content) (sym pushed)
-    (make_state slots new c.self.inside.next c.self.inside.cap index c.self.invariant c.args.self.now c.self.view_is key c.args.content c.requires.plain c.requires.short c.if-self.false c.vacant_key-slot.ensures.vacant (put ∙ ap Some c.leaf.ensures) others)
+    (make_state slots new c.self.inside.next c.self.inside.cap index c.self.invariant c.args.self.now c.self.view_is key c.args.content c.requires.plain c.requires.short c.requires.names c.if-self.false c.vacant_key-slot.ensures.vacant (put ∙ ap Some c.leaf.ensures) others)
 
 pub invariant_of-self-2 : goal.invariant_of-self-2
 invariant_of-self-2 c = (made c).arena

@@ -15,12 +15,12 @@ swap_attributes_at-requires c =
 pub invariant_of-self : goal.invariant_of-self
 invariant_of-self c =
     rw c.swap_attributes_at.ensures.nodes
-    (revise_state c.self.inside.nodes.slots c.self.inside.next c.self.inside.cap c.self.inside.index.items c.self.invariant c.args.self.now c.self.view_is c.args.node (with_attributes c.args.list.now) c.requires.held (λ o _. attributes_node c.args.node.label c.args.list.now o)).arena
+    (revise_state c.self.inside.nodes.slots c.self.inside.next c.self.inside.cap c.self.inside.index.items c.self.invariant c.args.self.now c.self.view_is c.args.node (with_attributes c.args.list.now) c.requires.held (λ o _. attributes_node c.args.node.label c.args.list.now o c.valid.ensures)).arena
 
 pub returns-clause-state : goal.returns-clause-state
 returns-clause-state c =
     rw c.swap_attributes_at.ensures.nodes
-    (revise_state c.self.inside.nodes.slots c.self.inside.next c.self.inside.cap c.self.inside.index.items c.self.invariant c.args.self.now c.self.view_is c.args.node (with_attributes c.args.list.now) c.requires.held (λ o _. attributes_node c.args.node.label c.args.list.now o)).is
+    (revise_state c.self.inside.nodes.slots c.self.inside.next c.self.inside.cap c.self.inside.index.items c.self.invariant c.args.self.now c.self.view_is c.args.node (with_attributes c.args.list.now) c.requires.held (λ o _. attributes_node c.args.node.label c.args.list.now o c.valid.ensures)).is
 
 pub returns-clause-list : goal.returns-clause-list
 returns-clause-list c =

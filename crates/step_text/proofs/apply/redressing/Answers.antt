@@ -21,4 +21,4 @@ returns-then-not-is_named c =
 pub returns : goal.returns
 returns c =
     let a = c.args in
-    tag_step a.arena.now c.valid.ensures c.slotted.ensures a.label c.in_ok-node.node a.name a.attributes c.in_ok-node.ensures.found.0 c.in_ok-node.ensures.found.1 (sym c.in_ok-node.ensures.there) (sym c.is_named.ensures ∙ c.if-not-is_named.false)
+    tag_step a.arena.now c.valid.ensures c.slotted.ensures a.label c.in_ok-node.node a.name a.attributes c.in_ok-node.ensures.found.0 c.in_ok-node.ensures.found.1 (sym c.in_ok-node.ensures.there) (sym c.is_named.ensures ∙ c.if-not-is_named.false) c.valid-2.ensures
