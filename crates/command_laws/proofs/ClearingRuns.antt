@@ -1,11 +1,12 @@
 -- Clearing the value of an element keeps the order, and leaves the states of contenteditable.
-use Rattle.std.proofs.Common.{◌≡◌, ℕ, Bool, true, false, if◌then◌else◌, ◌||◌, not, List, [], ◌∷◌, Option, refl, sym, ap, ◌∙◌, true≢false}
+use Rattle.std.proofs.Common.{◌≡◌, ℕ, Bool, true, false, if◌then◌else◌, ◌||◌, not, List, [], ◌∷◌, Option, Some, None, refl, sym, ap, ◌∙◌, true≢false}
 use Rattle.std.specs.Prelude.{codes, bytes_eq, is_none}
-use Rattle.std.specs.Option.{option_map_or, option_and_then}
+use Rattle.std.specs.Option.{option_and_then}
+use Rattle.dom_model.specs.declared.attributes.Attribute.{Attribute}
 use Rattle.dom_model.specs.declared.Content.{Content}
 use Rattle.dom_model.specs.declared.Content.TheVariants.{Document, Element, Words, Remark}
-use Rattle.dom_model.specs.Contents.{name_in}
-use Rattle.dom_model.specs.Forest.{children_of}
+use Rattle.dom_model.specs.Contents.{name_in, name_of}
+use Rattle.dom_model.specs.Forest.{children_of, content_of}
 use Rattle.css_value.specs.declared.decoration.DecorationLine.{DecorationLine}
 use Rattle.html_names.specs.declared.commands.Command.{Command}
 use Rattle.command_value.specs.Subjects.{subject}
@@ -19,20 +20,23 @@ use Rattle.edit_model.specs.Compositions.{set_tag_name}
 use Rattle.edit_model.specs.Edit.{Unset}
 use Rattle.edit_model.specs.Kept.{borne_by, is_thing}
 use Rattle.edit_model.specs.Moves.{unwrap}
-use Rattle.edit_model.specs.Run.{final, ◌>>=◌, answer, done, given, unset_attribute}
-use Rattle.edit_model.proofs.Steps.{final-look}
+use Rattle.edit_model.specs.Run.{Run, final, ◌>>=◌, ◌>>◌, answer, done, given, unset_attribute}
+use Rattle.edit_model.proofs.Steps.{final-bind, final-look}
 use Rattle.edit_laws.specs.MoveLaws.{IsBare}
 use Rattle.edit_laws.specs.Order.{KeepsOrder, IsKeeping}
 use Rattle.edit_laws.specs.Steady.{Steady}
 use Rattle.edit_laws.specs.OrderPreserving.{OrderPreserving}
+use Rattle.edit_laws.proofs.Subsequences.{keeps_trans}
+use Rattle.edit_laws.proofs.QuietActions.{keeping_final}
 use Rattle.edit_laws.proofs.Renaming.{tag_name_keeps}
 use Rattle.edit_laws.proofs.SteadyRuns.{steady_parts, steady_bind, steady_answer, steady_edit, steady_if, steady_look_at}
 use Rattle.edit_laws.proofs.OrderPreserving.{order_preserving, order_preserving_answer}
 use Rattle.edit_laws.proofs.Unwrapping.{unwrap_keeps, steady_unwrap}
-use Rattle.wrap_split.specs.Split.{is_void_thing}
 use Rattle.inline_value.specs.Clearing.{write_words, drop_line, drop_word, drop_property, hint_of, drop_attribute, drop_hint, drop_link, span_for, stripped, unwrapped, clear_value}
+use Rattle.command_laws.proofs.ClearedValues.{dropped, thing_cleared}
 use Rattle.command_laws.proofs.Criteria.{modifiable_bare}
 use Rattle.command_laws.proofs.Fits.{Fit, fit}
+use Rattle.command_laws.proofs.KeptNames.{named_stays}
 use Rattle.command_laws.proofs.Splitting.{then_order_preserving, then_order_preserving_on}
 use Rattle.command_laws.proofs.StylingRuns.{order_preserving_set_style, order_preserving_unset_style, steady_set_style, steady_unset_style}
 
@@ -82,30 +86,80 @@ order_preserving_link Size e = order_preserving_answer tt
 order_preserving_link Foreground e = order_preserving_answer tt
 order_preserving_link Nothing e = order_preserving_answer tt
 
--- an element that gives a value, and is no image and no rule, bears nothing itself
-specified_bare : (s : State) (e : ℕ) (command : Command) → is_none (specified s.trees e command) ≡ false → is_void_thing s e ≡ false → IsBare s e
-unfolding specified specified_in borne_by
-specified_bare s e command some plain Document h = refl
-specified_bare s e command some plain (Element name attributes) h =
-    let t : is_thing name ≡ false = sym (ap (λ (o : Option Content). option_map_or is_thing (option_and_then name_in o) false) h) ∙ plain in
+-- an element of another name than an image's or a rule's bears nothing itself
+named_bare : (s : State) (e : ℕ) (tag : List ℕ) → name_of s.trees e ≡ Some tag → is_thing tag ≡ false → IsBare s e
+unfolding borne_by
+named_bare s e tag named plain Document h = refl
+named_bare s e tag named plain (Element own attributes) h =
+    let same : Some own ≡ Some tag = sym (ap (option_and_then name_in) h) ∙ named in
+    let name : own ≡ tag = (let t = same in cc) in
+    let t : is_thing own ≡ false = ap is_thing name ∙ plain in
     rw t refl
-specified_bare s e command some plain (Words chars) h = absurd (true≢false (sym (ap (λ (o : Option Content). is_none (option_and_then (λ c. specified_in c command) o)) h) ∙ some))
-specified_bare s e command some plain (Remark chars) h = refl
+named_bare s e tag named plain (Words chars) h = absurd (let t : None ≡ Some tag = sym (ap (option_and_then name_in) h) ∙ named in cc)
+named_bare s e tag named plain (Remark chars) h = refl
 
-order_preserving_span : (command : Command) (e : ℕ) → OrderPreserving (span_for command e)
-unfolding span_for
-order_preserving_span command e = record { keeps = λ s is. rw final-look (by_test s is (is_none (specified s.trees e command)) (is_void_thing s e) refl refl) }
+-- so does one that still gives a value where the steps are done, as an image or a rule gives none then
+left_bare : (command : Command) (e : ℕ) (s : State) → IsKeeping s → is_editable_for s e ≡ true → is_none (specified s.trees e command) ≡ false → is_none (specified (dropped command e s).trees e command) ≡ false → IsBare (dropped command e s) e
+unfolding specified specified_in
+left_bare command e s is editable some still = by_content (content_of s.trees e) refl some
   where
-    by_test : (s : State) → IsKeeping s → (v w : Bool) → is_none (specified s.trees e command) ≡ v → is_void_thing s e ≡ w
-        → KeepsOrder s (final (if v || w then answer [] else (set_tag_name e (codes "span") >>= (λ x. answer (x ∷ [])))) s)
-    by_test s is true w h k = (order_preserving_answer []).keeps s is
-    by_test s is false true h k = (order_preserving_answer []).keeps s is
-    by_test s is false false h k =
-        then_order_preserving_on (set_tag_name e (codes "span")) (λ x. answer (x ∷ [])) s is (tag_name_keeps e (codes "span") s is (specified_bare s e command h k) refl) (λ x. order_preserving_answer (x ∷ []))
+    named_left : (tag : List ℕ) → name_of s.trees e ≡ Some tag → name_of (dropped command e s).trees e ≡ Some tag
+    named_left tag h =
+        let s1 : State = final (drop_word (subject command) e) s in
+        let s2 : State = final (drop_property command e) s1 in
+        let s3 : State = final (drop_hint command e) s2 in
+        let is1 = keeping_final (drop_word (subject command) e) s is in
+        let is2 = keeping_final (drop_property command e) s1 is1 in
+        let is3 = keeping_final (drop_hint command e) s2 is2 in
+        named_stays (drop_link (subject command) e) s3 is3 e tag
+        (named_stays (drop_hint command e) s2 is2 e tag
+        (named_stays (drop_property command e) s1 is1 e tag
+        (named_stays (drop_word (subject command) e) s is e tag h)))
 
-order_preserving_stripped : (command : Command) (e : ℕ) → OrderPreserving (stripped command e)
+    by_thing : (tag : List ℕ) (list : List Attribute) → content_of s.trees e ≡ Some (Element tag list) → (b : Bool) → is_thing tag ≡ b → IsBare (dropped command e s) e
+    by_thing tag list content true thing =
+        absurd (true≢false (sym (ap is_none (thing_cleared command e s tag list is.valid editable content thing)) ∙ still))
+    by_thing tag list content false plain = named_bare (dropped command e s) e tag (named_left tag (ap (option_and_then name_in) content)) plain
+
+    by_content : (o : Option Content) → content_of s.trees e ≡ o → is_none (option_and_then (λ c. specified_in c command) o) ≡ false → IsBare (dropped command e s) e
+    by_content None at some = absurd (true≢false some)
+    by_content (Some Document) at some = absurd (true≢false some)
+    by_content (Some (Element tag list)) at some = by_thing tag list at (is_thing tag) refl
+    by_content (Some (Words chars)) at some = absurd (true≢false some)
+    by_content (Some (Remark chars)) at some = absurd (true≢false some)
+
+span_keeps : (command : Command) (e : ℕ) (s : State) → IsKeeping s → (is_none (specified s.trees e command) ≡ false → IsBare s e) → KeepsOrder s (final (span_for command e) s)
+unfolding span_for
+span_keeps command e s is bare = rw final-look (by_test (is_none (specified s.trees e command)) refl)
+  where
+    by_test : (v : Bool) → is_none (specified s.trees e command) ≡ v → KeepsOrder s (final (if v then answer [] else (set_tag_name e (codes "span") >>= (λ x. answer (x ∷ [])))) s)
+    by_test true h = (order_preserving_answer []).keeps s is
+    by_test false h =
+        then_order_preserving_on (set_tag_name e (codes "span")) (λ x. answer (x ∷ [])) s is (tag_name_keeps e (codes "span") s is (bare h) refl) (λ x. order_preserving_answer (x ∷ []))
+
+then_keeps : {A B : Type 0} (m : Run A) (n : Run B) (s : State) → OrderPreserving m → IsKeeping s → KeepsOrder (final m s) (final n (final m s)) → KeepsOrder s (final (m >>= (λ _. n)) s)
+then_keeps m n s p is k = rw (final-bind m (λ _. n) s) (keeps_trans (p.keeps s is) k)
+
+-- of an editable element that gives a value
+stripped_keeps : (command : Command) (e : ℕ) (s : State) → IsKeeping s → is_editable_for s e ≡ true → is_none (specified s.trees e command) ≡ false → KeepsOrder s (final (stripped command e) s)
 unfolding stripped
-order_preserving_stripped command e = search (order_preserving, order_preserving_word, order_preserving_property, order_preserving_hint, order_preserving_link, order_preserving_span)
+stripped_keeps command e s is editable some =
+    let word = drop_word (subject command) e in
+    let property = drop_property command e in
+    let hint = drop_hint command e in
+    let link = drop_link (subject command) e in
+    let span = span_for command e in
+    let s1 : State = final word s in
+    let s2 : State = final property s1 in
+    let s3 : State = final hint s2 in
+    let is1 = keeping_final word s is in
+    let is2 = keeping_final property s1 is1 in
+    let is3 = keeping_final hint s2 is2 in
+    then_keeps word (property >> (hint >> (link >> span))) s (order_preserving_word (subject command) e) is
+    (then_keeps property (hint >> (link >> span)) s1 (order_preserving_property command e) is1
+    (then_keeps hint (link >> span) s2 (order_preserving_hint command e) is2
+    (then_keeps link span s3 (order_preserving_link (subject command) e) is3
+    (span_keeps command e (final link s3) (keeping_final link s3 is3) (left_bare command e s is editable some)))))
 
 unwrapped_keeps : (e : ℕ) (s : State) → IsKeeping s → IsBare s e → KeepsOrder s (final (unwrapped e) s)
 unfolding unwrapped
@@ -113,12 +167,14 @@ unwrapped_keeps e s is bare = rw final-look (then_order_preserving (unwrap e) (a
 
 order_preserving_clear_value : (command : Command) (e : ℕ) → OrderPreserving (clear_value command e)
 unfolding clear_value
-order_preserving_clear_value command e = record { keeps = λ s is. rw final-look (by_test s is (not (is_editable_for s e) || is_none (specified s.trees e command)) (is_simple_modifiable s.trees e) refl) }
+order_preserving_clear_value command e = record { keeps = λ s is. rw final-look (by_test s is (is_editable_for s e) (is_none (specified s.trees e command)) (is_simple_modifiable s.trees e) refl refl refl) }
   where
-    by_test : (s : State) → IsKeeping s → (v w : Bool) → is_simple_modifiable s.trees e ≡ w → KeepsOrder s (final (if v then answer [] else (if w then unwrapped e else stripped command e)) s)
-    by_test s is true w h = (order_preserving_answer []).keeps s is
-    by_test s is false true h = unwrapped_keeps e s is (modifiable_bare s e h)
-    by_test s is false false h = (order_preserving_stripped command e).keeps s is
+    by_test : (s : State) → IsKeeping s → (u v w : Bool) → is_editable_for s e ≡ u → is_none (specified s.trees e command) ≡ v → is_simple_modifiable s.trees e ≡ w
+        → KeepsOrder s (final (if not u || v then answer [] else (if w then unwrapped e else stripped command e)) s)
+    by_test s is false v w g h k = (order_preserving_answer []).keeps s is
+    by_test s is true true w g h k = (order_preserving_answer []).keeps s is
+    by_test s is true false true g h k = unwrapped_keeps e s is (modifiable_bare s e k)
+    by_test s is true false false g h k = stripped_keeps command e s is g h
 
 -- ---- the states of contenteditable
 

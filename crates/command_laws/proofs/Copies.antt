@@ -19,7 +19,7 @@ use Rattle.edit_model.specs.Kept.{Thing, borne_by, leaves, is_thing}
 use Rattle.edit_model.specs.Confined.{is_made, is_open, may_insert, may_unset}
 use Rattle.edit_model.specs.Edit.{Insert, Unset, is_made_edit, trees_after, with_unset, edited}
 use Rattle.edit_model.specs.Action as action
-use Rattle.edit_model.specs.Action.{made, acted}
+use Rattle.edit_model.specs.Action.{made, element_content, acted}
 use Rattle.edit_model.specs.Compositions.{tag_of, attribute_list_of}
 use Rattle.edit_model.specs.Moves.{move_each_last, move_all_before}
 use Rattle.edit_model.specs.Run.{final, ◌>>◌}
@@ -134,7 +134,7 @@ all_seven a b c d e f g = rw (a, b, c, d, e, f, g) refl
 
 module _ (s : State) (is : IsKeeping s) (o q : ℕ) (up : parent_of s.trees o ≡ Some q) (bare : IsBare s o) where
   c : Content
-  c = Element (tag_of s.trees o) (attribute_list_of s.trees o)
+  c = element_content (tag_of s.trees o) (attribute_list_of s.trees o)
 
   x : ℕ
   x = s.next

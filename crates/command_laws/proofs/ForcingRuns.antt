@@ -1,7 +1,6 @@
 -- Forcing a value keeps the order, and leaves the states of contenteditable.
 use Rattle.std.proofs.Common.{◌≡◌, ℕ, zero, suc, Bool, true, false, ◌&&◌, if◌then◌else◌, List, [], ◌∷◌, Option, refl}
 use Rattle.std.specs.Prelude.{codes}
-use Rattle.dom_model.specs.declared.Content.TheVariants.{Element}
 use Rattle.dom_model.specs.declared.attributes.Attribute.{Attribute}
 use Rattle.dom_model.specs.Contents.{has_name}
 use Rattle.html_names.specs.declared.commands.Command.{Command}
@@ -9,7 +8,7 @@ use Rattle.command_value.specs.Subjects.{subject}
 use Rattle.command_value.specs.declared.subject.Subject.{Subject}
 use Rattle.command_value.specs.declared.subject.Subject.TheVariants.{Link, Background, Script, Line, Weight, Slant, Family, Size, Foreground, Nothing}
 use Rattle.edit_model.specs.State.{State}
-use Rattle.edit_model.specs.Action.{made}
+use Rattle.edit_model.specs.Action.{made, element_content}
 use Rattle.edit_model.specs.Compositions.{set_tag_name}
 use Rattle.edit_model.specs.Confined.{is_editable_for}
 use Rattle.edit_model.specs.Kept.{is_thing}
@@ -132,11 +131,11 @@ confirm_value_keeps command v n p s is held = rw final-look (by_test (lacks s n 
     by_test false = (order_preserving_answer false).keeps s is
 
 put_in_keeps : (command : Command) (v : List ℕ) (n : ℕ) (s : State) → IsKeeping s → (name : List ℕ) (attributes : List Attribute) → is_thing name ≡ false
-    → KeepsOrder s (final (put_in command v n s.next) (made (Element name attributes) s))
+    → KeepsOrder s (final (put_in command v n s.next) (made (element_content name attributes) s))
 unfolding put_in
 put_in_keeps command v n s is name attributes plain =
     let p = s.next in
-    let s1 : State = made (Element name attributes) s in
+    let s1 : State = made (element_content name attributes) s in
     let s2 : State = final (insert_before n p) s1 in
     let s3 : State = final (style_wrapper command v p) s2 in
     let s4 : State = final (move_last p n) s3 in

@@ -5,7 +5,6 @@ use Rattle.std.specs.Prelude.{codes, bytes_eq}
 use Rattle.std.proofs.lemmas.Bool.{ne_eqb, eqb-true}
 use Rattle.std.proofs.lemmas.List.{append-nil}
 use Rattle.dom_model.specs.declared.Content.{Content}
-use Rattle.dom_model.specs.declared.Content.TheVariants.{Element}
 use Rattle.dom_model.specs.Contents.{has_name, name_in, name_of}
 use Rattle.dom_model.specs.Forest.{times, parent_of, children_of, content_of}
 use Rattle.dom_model.proofs.Lists.{times-append}
@@ -17,7 +16,7 @@ use Rattle.edit_model.specs.State.{State}
 use Rattle.edit_model.specs.Confined.{is_editable_for, is_inside, is_open}
 use Rattle.edit_model.specs.Compositions.{attribute_list_of, renamed, set_tag_name}
 use Rattle.edit_model.specs.Edit.{Insert, edited}
-use Rattle.edit_model.specs.Action.{made}
+use Rattle.edit_model.specs.Action.{made, element_content}
 use Rattle.edit_model.specs.Valid.{IsValid}
 use Rattle.edit_model.specs.Moves.{move_last, move_each_last}
 use Rattle.edit_model.specs.Run.{final, value, ◌>>=◌, answer, remove, for_each}
@@ -93,7 +92,7 @@ place_of s items x q n w =
 pub not_above : (s : State) (items : List ℕ) (x q n : ℕ) → Turn s items x q n → q ≢ s.next
 not_above s items x q n w e = new_parent s w.is (codes "li") [] x q w.up (sym e)
 
-pub item_name : (s : State) (l : ℕ) (list : _) → content_of s.trees l ≡ Some (Element (codes "li") list) → has_name s.trees l (codes "li") ≡ true
+pub item_name : (s : State) (l : ℕ) (list : _) → content_of s.trees l ≡ Some (element_content (codes "li") list) → has_name s.trees l (codes "li") ≡ true
 item_name s l list e = ap (λ (c : Option Content). option_map_or (λ own. bytes_eq own (codes "li")) (option_and_then name_in c) false) e
 
 -- ---- it is renamed
@@ -142,14 +141,14 @@ module _ (s : State) (items : List ℕ) (x q n : ℕ) (w : Turn s items x q n) (
         | inr made ↦ absurd (no_item_name s x container made.1)
       ]
 
-  new_item : (attributes : _) → is_editable_for s x ≡ true → Grown (edited (Insert q (Some x) s.next) (made (Element (codes "li") attributes) s)) (items ++ s.next ∷ []) q n
+  new_item : (attributes : _) → is_editable_for s x ≡ true → Grown (edited (Insert q (Some x) s.next) (made (element_content (codes "li") attributes) s)) (items ++ s.next ∷ []) q n
   new_item attributes editable =
       let p = place_of s items x q n w in
       let m = members s q items in
       let opened = inside_open s q (parent_inside s w.is x q w.up editable) in
       let put = put_new s w.is (codes "li") attributes x q (p.front ++ m) p.rest w.up p.is opened in
       taken_grown s w.is items q n w.grown (new_child s w.is (codes "li") []) (new_parent s w.is (codes "li") []) (not_above s items x q n w)
-      (edited (Insert q (Some x) s.next) (made (Element (codes "li") attributes) s)) [] [] (p.front ++ m) (x ∷ p.rest) p.is p.piece
+      (edited (Insert q (Some x) s.next) (made (element_content (codes "li") attributes) s)) [] [] (p.front ++ m) (x ∷ p.rest) p.is p.piece
       (ap (λ l. l ++ m) p.first ∙ sym (append-nil (p.front ++ m)))
       (record {
         own = put.own;
@@ -159,7 +158,7 @@ module _ (s : State) (items : List ℕ) (x q n : ℕ) (w : Turn s items x q n) (
         inner = put.inner;
         others = λ o off _. put.others o off;
         content = λ l off. put.content l off;
-        named = item_name (edited (Insert q (Some x) s.next) (made (Element (codes "li") attributes) s)) s.next attributes put.named;
+        named = item_name (edited (Insert q (Some x) s.next) (made (element_content (codes "li") attributes) s)) s.next attributes put.named;
         more = put.more;
       })
 
@@ -177,7 +176,7 @@ module _ (s : State) (items : List ℕ) (x q n : ℕ) (w : Turn s items x q n) (
       by_test true e = rw (final-answer, value-answer) (kept_grown s items x q n w)
       by_test false e =
           let attributes = attribute_list_of s.trees x in
-          let u : State = edited (Insert q (Some x) s.next) (made (Element (codes "li") attributes) s) in
+          let u : State = edited (Insert q (Some x) s.next) (made (element_content (codes "li") attributes) s) in
           let editable = second_off (has_name s.trees x (codes "li")) (is_editable_for s x) e in
           let p = place_of s items x q n w in
           let opened = inside_open s q (parent_inside s w.is x q w.up editable) in

@@ -4,7 +4,6 @@ use Rattle.std.specs.Option.{option_map, option_map_or, option_and_then}
 use Rattle.std.specs.Prelude.{bytes_eq}
 use Rattle.std.proofs.lemmas.Bool.{cases_Bool}
 use Rattle.dom_model.specs.declared.Content.{Content}
-use Rattle.dom_model.specs.declared.Content.TheVariants.{Element}
 use Rattle.dom_model.specs.Contents.{name_in, name_of, has_name}
 use Rattle.dom_model.specs.Forest.{Forest, Seen, count_of, seek, unlink, with_leaf}
 use Rattle.dom_model.proofs.Kept.{content_of-link, content_of-unlink, content_of-with_leaf_other}
@@ -12,7 +11,7 @@ use Rattle.dom_model.proofs.Links.{found_count}
 use Rattle.edit_model.specs.State.{State}
 use Rattle.edit_model.specs.Edit.{Edit, Insert, Remove, Move, Replace, Set, Unset, is_made_edit, trees_after, changed, with_replaced, with_set, with_unset}
 use Rattle.edit_model.specs.Action as action
-use Rattle.edit_model.specs.Action.{Action, made, words_content, extended, acted}
+use Rattle.edit_model.specs.Action.{Action, made, words_content, extended, acted, element_content}
 use Rattle.edit_model.specs.Run.{Reaches, here, onward, Run, final}
 use Rattle.edit_model.specs.Valid.{IsValid}
 use Rattle.edit_model.proofs.CommandParts.{command_along}
@@ -62,7 +61,7 @@ module _ (l : ℕ) (name : List ℕ) where
     | inl may ↦ subst Named (sym (trees_made e s may)) (named_after e s is may h)
     | inr off ↦ subst Named (sym (trees_left e s off)) h
   ]
-  named_acted (action.MakeElement own attributes) s is keeps h = named_made (Element own attributes) s is h
+  named_acted (action.MakeElement own attributes) s is keeps h = named_made (element_content own attributes) s is h
   named_acted (action.MakeWords chars) s is keeps h = named_made (words_content chars) s is h
   named_acted (action.Select anchor focus) s is keeps h = subst Named (sym (trees-selected anchor focus s)) h
   named_acted (action.Extend focus) s is keeps h = subst Named (sym (trees-extended s.points.selection focus s)) h
@@ -78,6 +77,10 @@ module _ (l : ℕ) (name : List ℕ) where
   unfolding Named
   named_along here is keeps named = named
   named_along (onward {t = t} q a) is keeps named = named_acted a t (valid_along q is) ((command_along q).keeping ∙ keeps) (named_along q is keeps named)
+
+pub named_stays : {T : Type 0} (m : Run T) (s : State) → IsKeeping s → (l : ℕ) (name : List ℕ) → name_of s.trees l ≡ Some name → name_of (final m s).trees l ≡ Some name
+unfolding final
+named_stays m s is l name named = named_along l name (m.by_actions s) is.valid is.keeping named
 
 -- by the tests
 pub name_stays : {T : Type 0} (m : Run T) (s : State) → IsKeeping s → (l : ℕ) (name : List ℕ) → has_name s.trees l name ≡ true → has_name (final m s).trees l name ≡ true

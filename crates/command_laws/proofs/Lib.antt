@@ -16,6 +16,7 @@ pub mod SteadySplits
 pub mod SteadyWraps
 pub mod Fits
 pub mod StylingRuns
+pub mod ClearedValues
 pub mod ClearingRuns
 pub mod ReorderRuns
 pub mod WrapperNames

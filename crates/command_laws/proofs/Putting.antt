@@ -3,7 +3,6 @@ use Rattle.std.proofs.Common.{◌≡◌, ◌≢◌, ℕ, ◌<◌, ◌≤◌, Boo
 use Rattle.std.specs.Option.{option_map_or, option_and_then}
 use Rattle.std.proofs.lemmas.Bool.{ne_eqb, lt-ltb, le-leb}
 use Rattle.dom_model.specs.declared.Content.{Content}
-use Rattle.dom_model.specs.declared.Content.TheVariants.{Element}
 use Rattle.dom_model.specs.declared.attributes.Attribute.{Attribute}
 use Rattle.dom_model.specs.Contents.{is_parent_at, may_have_children}
 use Rattle.dom_model.specs.Editing.{editing_host}
@@ -17,7 +16,7 @@ use Rattle.dom_model.proofs.Kept.{content_of-link, content_of-with_leaf_other, c
 use Rattle.edit_model.specs.State.{State}
 use Rattle.edit_model.specs.Confined.{is_editable_for, is_inside, is_made, is_open, may_insert}
 use Rattle.edit_model.specs.Edit.{Insert, is_made_edit, trees_after, edited}
-use Rattle.edit_model.specs.Action.{made}
+use Rattle.edit_model.specs.Action.{made, element_content}
 use Rattle.edit_model.specs.Valid.{IsValid}
 use Rattle.edit_model.specs.Run.{insert, make_element}
 use Rattle.edit_model.proofs.CommandParts.{SameCommand, final_command}
@@ -43,30 +42,30 @@ module _ (s : State) (is : IsValid s) (name : List ℕ) (attributes : List Attri
   new_absent : count_of s.trees s.next ≡ 0
   new_absent = fresh s.trees s.next is.forest
 
-  pub valid_new : IsValid (made (Element name attributes) s)
+  pub valid_new : IsValid (made (element_content name attributes) s)
   valid_new = subst IsValid (final-make_element name attributes s) (valid_final (make_element name attributes) s is)
 
-  pub next_new : s.next < (made (Element name attributes) s).next
+  pub next_new : s.next < (made (element_content name attributes) s).next
   unfolding made
   next_new = omega arith
 
-  pub parent_new : (l : ℕ) → parent_of (made (Element name attributes) s).trees l ≡ parent_of s.trees l
-  parent_new l = ap (λ f. parent_of f l) (made_trees (Element name attributes) s) ∙ parent_of-with_leaf s.trees s.next (Element name attributes) new_absent l
+  pub parent_new : (l : ℕ) → parent_of (made (element_content name attributes) s).trees l ≡ parent_of s.trees l
+  parent_new l = ap (λ f. parent_of f l) (made_trees (element_content name attributes) s) ∙ parent_of-with_leaf s.trees s.next (element_content name attributes) new_absent l
 
-  pub children_new : (l : ℕ) → children_of (made (Element name attributes) s).trees l ≡ children_of s.trees l
-  children_new l = ap (λ f. children_of f l) (made_trees (Element name attributes) s) ∙ children_of-with_leaf s.trees s.next (Element name attributes) new_absent l
+  pub children_new : (l : ℕ) → children_of (made (element_content name attributes) s).trees l ≡ children_of s.trees l
+  children_new l = ap (λ f. children_of f l) (made_trees (element_content name attributes) s) ∙ children_of-with_leaf s.trees s.next (element_content name attributes) new_absent l
 
-  pub root_new : parent_of (made (Element name attributes) s).trees s.next ≡ None
+  pub root_new : parent_of (made (element_content name attributes) s).trees s.next ≡ None
   root_new = parent_new s.next ∙ ap (option_and_then (λ (y : Seen Content). y.parent)) (seek_absent None s.trees s.next new_absent)
 
-  pub empty_new : children_of (made (Element name attributes) s).trees s.next ≡ []
+  pub empty_new : children_of (made (element_content name attributes) s).trees s.next ≡ []
   empty_new = children_new s.next ∙ ap (λ (k : Option (Seen Content)). option_map_or (λ (y : Seen Content). y.children) k []) (seek_absent None s.trees s.next new_absent)
 
-  pub content_new : content_of (made (Element name attributes) s).trees s.next ≡ Some (Element name attributes)
-  content_new = ap (λ f. content_of f s.next) (made_trees (Element name attributes) s) ∙ content_of-with_leaf_new s.trees s.next (Element name attributes) new_absent
+  pub content_new : content_of (made (element_content name attributes) s).trees s.next ≡ Some (element_content name attributes)
+  content_new = ap (λ f. content_of f s.next) (made_trees (element_content name attributes) s) ∙ content_of-with_leaf_new s.trees s.next (element_content name attributes) new_absent
 
-  pub content_old : (l : ℕ) → s.next ≢ l → content_of (made (Element name attributes) s).trees l ≡ content_of s.trees l
-  content_old l off = ap (λ f. content_of f l) (made_trees (Element name attributes) s) ∙ content_of-with_leaf_other s.trees s.next (Element name attributes) l new_absent off
+  pub content_old : (l : ℕ) → s.next ≢ l → content_of (made (element_content name attributes) s).trees l ≡ content_of s.trees l
+  content_old l off = ap (λ f. content_of f l) (made_trees (element_content name attributes) s) ∙ content_of-with_leaf_other s.trees s.next (element_content name attributes) l new_absent off
 
   -- it isn't a node that has a parent, nor a parent
   pub new_child : (l p : ℕ) → parent_of s.trees l ≡ Some p → s.next ≢ l
@@ -75,40 +74,40 @@ module _ (s : State) (is : IsValid s) (name : List ℕ) (attributes : List Attri
   pub new_parent : (l p : ℕ) → parent_of s.trees l ≡ Some p → s.next ≢ p
   new_parent l p up e = let k = ap (count_of s.trees) e in omega (arith, k, new_absent, (parent_count s.trees l p is.forest.distinct up).1)
 
-  pub open_new : (l : ℕ) → s.next ≢ l → is_open (made (Element name attributes) s) l ≡ is_open s l
+  pub open_new : (l : ℕ) → s.next ≢ l → is_open (made (element_content name attributes) s) l ≡ is_open s l
   unfolding is_open is_inside is_editable_for is_made
   open_new l off =
-      let t : State = made (Element name attributes) s in
+      let t : State = made (element_content name attributes) s in
       let c = final_command (make_element name attributes) s in
       let host : t.host ≡ s.host = ap (λ u. u.host) (sym (final-make_element name attributes s)) ∙ c.host in
       let start : t.start ≡ s.start = ap (λ u. u.start) (sym (final-make_element name attributes s)) ∙ c.start in
       let hosts : editing_host t.trees l ≡ editing_host s.trees l =
-      ap (λ f. editing_host f l) (made_trees (Element name attributes) s) ∙ host_from-join s.next (Element name attributes) l off false None s.trees in
+      ap (λ f. editing_host f l) (made_trees (element_content name attributes) s) ∙ host_from-join s.next (element_content name attributes) l off false None s.trees in
       rw (host, start, hosts) refl
 
-  tree_new : tree_of (made (Element name attributes) s).trees s.next ≡ Tree s.next (Element name attributes) Nil Nil
-  tree_new = ap (λ f. tree_of f s.next) (made_trees (Element name attributes) s) ∙ (tree_of-join s.trees (Tree s.next (Element name attributes) Nil Nil) s.next new_absent ∙ rw (eqb_refl_true s.next) refl)
+  tree_new : tree_of (made (element_content name attributes) s).trees s.next ≡ Tree s.next (element_content name attributes) Nil Nil
+  tree_new = ap (λ f. tree_of f s.next) (made_trees (element_content name attributes) s) ∙ (tree_of-join s.trees (Tree s.next (element_content name attributes) Nil Nil) s.next new_absent ∙ rw (eqb_refl_true s.next) refl)
 
   -- ---- put in before a, a child of q
 
   module _ (a q : ℕ) (up : parent_of s.trees a ≡ Some q) where
-    kind : is_parent_at (made (Element name attributes) s).trees q ≡ true
+    kind : is_parent_at (made (element_content name attributes) s).trees q ≡ true
     kind = ap (λ (k : Option Content). option_map_or may_have_children k false) (content_old q (new_parent a q up)) ∙ has_children s.trees s.next is.forest q a up
 
     not_zero : s.next ≢ 0
     not_zero e = let k = is.forest.below 0 is.forest.document in omega (arith, k, e)
 
-    leaf_out : nat_lt 0 (count_of (Tree s.next (Element name attributes) Nil Nil) q) ≡ false
+    leaf_out : nat_lt 0 (count_of (Tree s.next (element_content name attributes) Nil Nil) q) ≡ false
     leaf_out = rw (ne_eqb s.next q (new_parent a q up)) refl
 
-    here : 0 < count_of (made (Element name attributes) s).trees s.next
-    here = let k = ap (λ t. count_of t s.next) tree_new in omega (arith, k, self_one s.next, total-without (λ m _. cond (eqb m s.next) 1 0) (made (Element name attributes) s).trees s.next)
+    here : 0 < count_of (made (element_content name attributes) s).trees s.next
+    here = let k = ap (λ t. count_of t s.next) tree_new in omega (arith, k, self_one s.next, total-without (λ m _. cond (eqb m s.next) 1 0) (made (element_content name attributes) s).trees s.next)
 
-    pub may_put : is_open s q ≡ true → may_insert (made (Element name attributes) s) q (Some a) s.next ≡ true
+    pub may_put : is_open s q ≡ true → may_insert (made (element_content name attributes) s) q (Some a) s.next ≡ true
     unfolding may_insert
     may_put opened =
         all_seven
-        (lt-ltb 0 (count_of (made (Element name attributes) s).trees s.next) here)
+        (lt-ltb 0 (count_of (made (element_content name attributes) s).trees s.next) here)
         (ap not (ne_eqb s.next 0 not_zero))
         (ap is_none root_new)
         kind
@@ -116,13 +115,13 @@ module _ (s : State) (is : IsValid s) (name : List ℕ) (attributes : List Attri
         (rw (parent_new a ∙ up, eqb_refl_true q, ne_eqb a s.next (λ e. new_child a q up (sym e))) refl)
         (open_new q (new_parent a q up) ∙ opened)
 
-    pub shut_put : is_open s q ≡ false → edited (Insert q (Some a) s.next) (made (Element name attributes) s) ≡ made (Element name attributes) s
+    pub shut_put : is_open s q ≡ false → edited (Insert q (Some a) s.next) (made (element_content name attributes) s) ≡ made (element_content name attributes) s
     unfolding is_made_edit
-    shut_put shut = edited-left (Insert q (Some a) s.next) (made (Element name attributes) s) (by (may_insert (made (Element name attributes) s) q (Some a) s.next) refl)
+    shut_put shut = edited-left (Insert q (Some a) s.next) (made (element_content name attributes) s) (by (may_insert (made (element_content name attributes) s) q (Some a) s.next) refl)
       where
-        by : (v : Bool) → may_insert (made (Element name attributes) s) q (Some a) s.next ≡ v → may_insert (made (Element name attributes) s) q (Some a) s.next ≡ false
+        by : (v : Bool) → may_insert (made (element_content name attributes) s) q (Some a) s.next ≡ v → may_insert (made (element_content name attributes) s) q (Some a) s.next ≡ false
         by false e = e
-        by true e = absurd (let k : true ≡ false = sym (inserts (made (Element name attributes) s) q (Some a) s.next e).allowed ∙ (open_new q (new_parent a q up) ∙ shut) in cc)
+        by true e = absurd (let k : true ≡ false = sym (inserts (made (element_content name attributes) s) q (Some a) s.next e).allowed ∙ (open_new q (new_parent a q up) ∙ shut) in cc)
 
 -- what look-ups tell where it stands
 pub record PutIn (s t : State) (name : List ℕ) (attributes : List Attribute) (q : ℕ) (front rest : List ℕ) : Type 0 where
@@ -132,17 +131,17 @@ pub record PutIn (s t : State) (name : List ℕ) (attributes : List Attribute) (
   pub inner : children_of t.trees s.next ≡ []
   pub others : (o : ℕ) → q ≢ o → children_of t.trees o ≡ children_of s.trees o
   pub content : (l : ℕ) → s.next ≢ l → content_of t.trees l ≡ content_of s.trees l
-  pub named : content_of t.trees s.next ≡ Some (Element name attributes)
+  pub named : content_of t.trees s.next ≡ Some (element_content name attributes)
   pub valid : IsValid t
   pub more : s.next < t.next
   pub mine : is_made t s.next ≡ true
   pub opened : is_open t q ≡ true
 
 pub put_new : (s : State) → IsValid s → (name : List ℕ) (attributes : List Attribute) (a q : ℕ) (front rest : List ℕ) → parent_of s.trees a ≡ Some q → children_of s.trees q ≡ front ++ a ∷ rest → is_open s q ≡ true
-    → PutIn s (edited (Insert q (Some a) s.next) (made (Element name attributes) s)) name attributes q front (a ∷ rest)
+    → PutIn s (edited (Insert q (Some a) s.next) (made (element_content name attributes) s)) name attributes q front (a ∷ rest)
 unfolding is_made_edit trees_after is_made
 put_new s is name attributes a q front rest up kids opened =
-    let s1 : State = made (Element name attributes) s in
+    let s1 : State = made (element_content name attributes) s in
     let t : State = edited (Insert q (Some a) s.next) s1 in
     let is1 = valid_new s is name attributes in
     let may = may_put s is name attributes a q up opened in

@@ -13,7 +13,7 @@ use Rattle.edit_model.specs.State.{State}
 use Rattle.edit_model.specs.Compositions.{tag_of, attribute_list_of}
 use Rattle.edit_model.specs.Confined.{is_editable_for, may_insert, may_remove, may_move}
 use Rattle.edit_model.specs.Edit.{Insert, Remove, Unset, Move, is_made_edit, trees_after, edited}
-use Rattle.edit_model.specs.Action.{made}
+use Rattle.edit_model.specs.Action.{made, element_content}
 use Rattle.edit_model.specs.Valid.{IsValid}
 use Rattle.edit_model.specs.Moves.{make_break, insert_before, insert_after, move_last, move_all_before, move_all_after, move_each_last}
 use Rattle.edit_model.specs.Run.{Run, final, value, ◌>>=◌, ◌>>◌, answer, done, look, given, edit, remove, make_element, for_each}
@@ -163,7 +163,7 @@ module _ (s : State) (o q a : ℕ) (rest : List ℕ) (w : Ready s o q (a ∷ res
           absurd (omega (arith, c, h, m, times-append f.front (members s o (a ∷ rest) ++ f.rest) k, times-append (members s o (a ∷ rest)) f.rest k, times-children_of s.trees o k w.is.forest.distinct))
 
   s1 : State
-  s1 = made (Element (tag_of s.trees o) (attribute_list_of s.trees o)) s
+  s1 = made (element_content (tag_of s.trees o) (attribute_list_of s.trees o)) s
 
   s2 : State
   s2 = edited (Unset o (codes "id")) s1
@@ -180,7 +180,7 @@ module _ (s : State) (o q a : ℕ) (rest : List ℕ) (w : Ready s o q (a ∷ res
       let tag = tag_of s.trees o in
       let list = attribute_list_of s.trees o in
       let v : Unmoved s s1 o (a ∷ rest) = record { own = parent_new s w.is tag list o; each = λ l _. parent_new s w.is tag list l } in
-      (ready_on s s1 o q (a ∷ rest) w v (valid_new s w.is tag list) (together_made (Element tag list) (a ∷ rest) s w.is w.together), v)
+      (ready_on s s1 o q (a ∷ rest) w v (valid_new s w.is tag list) (together_made (element_content tag list) (a ∷ rest) s w.is w.together), v)
 
   ready2 : Ready s2 o q (a ∷ rest) × Unmoved s s2 o (a ∷ rest)
   unfolding s2

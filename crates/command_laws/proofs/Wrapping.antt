@@ -3,7 +3,6 @@ use Rattle.std.proofs.Common.{◌≡◌, ℕ, ◌<◌, Bool, true, false, ◌&&�
 use Rattle.std.specs.Option.{option_map_or, option_and_then}
 use Rattle.std.proofs.lemmas.Bool.{cases_Bool}
 use Rattle.dom_model.specs.declared.Content.{Content}
-use Rattle.dom_model.specs.declared.Content.TheVariants.{Element}
 use Rattle.dom_model.specs.declared.attributes.Attribute.{Attribute}
 use Rattle.dom_model.specs.Forest.{Seen, either, times, first_in, last_in, put_in, parent_of, prev_of, next_of, children_of, count_of, link}
 use Rattle.dom_model.specs.Places.{index_of}
@@ -14,7 +13,7 @@ use Rattle.edit_model.specs.State.{State}
 use Rattle.edit_model.specs.Kept.{is_thing}
 use Rattle.edit_model.specs.Confined.{is_editable_for, may_insert}
 use Rattle.edit_model.specs.Edit.{Insert, is_made_edit, trees_after, edited}
-use Rattle.edit_model.specs.Action.{made, acted}
+use Rattle.edit_model.specs.Action.{made, element_content, acted}
 use Rattle.edit_model.specs.History.{document_of}
 use Rattle.edit_model.specs.Run.{Run, final, value, done, answer, given, grow}
 use Rattle.edit_model.proofs.IslandRuns.{trees_made, trees_left}
@@ -100,7 +99,7 @@ put_in-middle (y ∷ front) rest a x none = rw (other y none) (ap (λ k. y ∷ k
 
 module _ (s : State) (is : IsKeeping s) (o : ℕ) (front list rest : List ℕ) (kids : children_of s.trees o ≡ front ++ (list ++ rest)) (a : ℕ) (first : first_in list ≡ Some a) (name : List ℕ) (attributes : List Attribute) (named : is_thing name ≡ false) where
   new : Content
-  new = Element name attributes
+  new = element_content name attributes
 
   x : ℕ
   x = s.next
@@ -191,9 +190,9 @@ module _ (s : State) (is : IsKeeping s) (o : ℕ) (front list rest : List ℕ) (
   moves_keep : KeepsOrder s3 (final (moved_in x list a) s3)
   moves_keep = elim (cases_Bool (may_insert s1 o (Some a) x)) as (λ _. KeepsOrder s3 (final (moved_in x list a) s3)) [ inl may ↦ where_made may | inr off ↦ where_left off ]
 
-  new_filled : (c : Criterion) → NamesNoThing c → KeepsOrder s (final (filled c s.next list a) (made (Element name attributes) s))
+  new_filled : (c : Criterion) → NamesNoThing c → KeepsOrder s (final (filled c s.next list a) (made (element_content name attributes) s))
   unfolding s1 x new
-  new_filled c plain = keeps_trans keeps1 (filled_keeps c s.next list a (made (Element name attributes) s) plain is1 (rw stands (keeps_trans keeps2 keeps3)) (rw stands moves_keep))
+  new_filled c plain = keeps_trans keeps1 (filled_keeps c s.next list a (made (element_content name attributes) s) plain is1 (rw stands (keeps_trans keeps2 keeps3)) (rw stands moves_keep))
 
 -- ---- the node that is chosen
 
@@ -219,7 +218,7 @@ module _ (c : Criterion) (r : Recipe) (s : State) (is : IsKeeping s) (plain : Na
   by_recipe Nothing none = rw (value-answer, final-answer) with_none
   by_recipe (Make blank) none =
       rw (value-bind, value-answer, value-make_element, final-bind, final-answer, final-make_element)
-      (with_some s.next (made (Element blank.name blank.attributes) s) (new_filled s is o front list rest kids a first blank.name blank.attributes none c plain))
+      (with_some s.next (made (element_content blank.name blank.attributes) s) (new_filled s is o front list rest kids a first blank.name blank.attributes none c plain))
 
   by_next : (n : Option ℕ) → next_of s.trees z ≡ n → Goes (given (if_fits c s n) (made_by r) (λ p. answer (Some p)))
   by_next None e = by_recipe r makes

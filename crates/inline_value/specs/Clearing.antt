@@ -18,7 +18,6 @@ use Rattle.edit_model.specs.Confined.{is_editable_for}
 use Rattle.edit_model.specs.Compositions.{set_tag_name}
 use Rattle.edit_model.specs.Moves.{unwrap}
 use Rattle.edit_model.specs.Run.{Run, ◌>>=◌, ◌>>◌, answer, done, look, given, unset_attribute}
-use Rattle.wrap_split.specs.Split.{is_void_thing}
 use Rattle.inline_value.specs.Styling.{decoration_of, set_style, unset_style}
 
 -- the name of a property
@@ -77,11 +76,11 @@ abbrev pub drop_link : Subject → ℕ → Run (Unit {0})
 drop_link Link e = drop_attribute (codes "a") (codes "href") e
 drop_link _ e = done
 
--- clear the value, steps 7 and 8: an element that still gives the command a value becomes a span;
--- an image or a rule, which then gives none, never does
+-- clear the value, steps 7 and 8: an element that still gives the command a value becomes a span (an
+-- image or a rule never does, since what gave a value is gone from it)
 unfoldable pub span_for : Command → ℕ → Run (List ℕ)
 span_for command e = look λ s.
-    if is_none (specified s.trees e command) || is_void_thing s e then answer []
+    if is_none (specified s.trees e command) then answer []
     else (set_tag_name e (codes "span") >>= λ x. answer (x ∷ []))
 
 -- clear the value, steps 3 to 8

@@ -20,7 +20,6 @@ use html_names::Command;
 use node_tests::has_name;
 use std::alloc::Global;
 use style_table::Property;
-use wrap_split::is_void_thing;
 
 // The name of a property.
 pub(crate) fn property_name(property: Property) -> &'static [u8]
@@ -174,8 +173,7 @@ fn drop_link(alloc: Global, doc: &mut Doc, node: NodeRef, command: Command) -> R
     }
 }
 
-// Clear the value, steps 7 and 8: an element that still gives the command a value becomes a span,
-// unless it is an image or a rule.
+// Clear the value, steps 7 and 8: an element that still gives the command a value becomes a span.
 #[tactic(auto, using(edit_model::proofs::Steps::steps, edit_model::proofs::Steps::exits, crate::proofs::Clears::exit_list, crate::proofs::Clears::specifies_element), unfolding(crate::specs::Clearing::span_for))]
 fn span_for(
     alloc: Global,
@@ -190,7 +188,7 @@ fn span_for(
     ensures held { IfOk result (λ list. EachHeld doc.new list) }
     ensures keeps { Keeps doc.old doc.new }
 {
-    if !specifies(doc, node, command) || is_void_thing(doc, node) {
+    if !specifies(doc, node, command) {
         return Ok(NodeList::from_slice(alloc, &[])?);
     }
     let name = Name::from_slice(alloc, b"span")?;
