@@ -1,6 +1,8 @@
 //! A search below a node.
 
-ghost use Rattle.std.specs.Prelude.{◌≡◌, IfSome, true};
+ghost use Rattle.std.specs.Prelude.{◌≡◌, IfSome, true, false};
+ghost use Rattle.std.specs.Option.{option_map_or};
+ghost use Rattle.dom_model.specs.Forest.{first_of};
 ghost use Rattle.node_arena.specs.Held.{label};
 ghost use Rattle.node_paths.specs.Onward.{onward_at, IsInner};
 ghost use Rattle.block_extend.specs.Descendants.{has_in, has_descendant};
@@ -52,6 +54,8 @@ pub fn begins_with<N: Nodes, C: Choice<N>>(
 ) -> bool
     requires held { N.holds nodes.now node }
     requires known { IfSome known.old (C.knows choice.now nodes.now) }
+    ensures first { result ≡ option_map_or (C.chosen choice.now nodes.now)
+        (first_of (N.trees nodes.now) node.label) false }
     ensures below { result ≡ true
         → has_descendant (C.chosen choice.now nodes.now) (N.trees nodes.now) node.label ≡ true }
     ensures known { IfSome known.new (C.knows choice.now nodes.now) }

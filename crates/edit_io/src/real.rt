@@ -1,8 +1,10 @@
-// The source over a real reader and the sink over a real writer. They tell nothing of the bytes.
+// The source over a real reader and the sink over a real writer. They keep no record of the bytes;
+// what they pass on is said by what the reader and the writer tell.
 ghost use Rattle.std.specs.Prelude.{◌≡◌, ℕ, ◌<◌, ◌≤◌, length, None, IfOk, IfErr, OnOk, OnErr};
+ghost use Rattle.std.specs.Io.KnownBytes.{ReadConsumes, WriteAppends};
 ghost use Rattle.edit_io.specs.Faults.{Rose, next_call};
 ghost use Rattle.edit_io.specs.Handed.{handed_more};
-ghost use Rattle.edit_io.specs.Real.{read_faults, read_handed, write_faults};
+ghost use Rattle.edit_io.specs.Real.{reader_of, read_faults, read_handed, writer_of, write_faults};
 
 use crate::streams::{Failed, Sink, SinkFault, Source};
 use std::io::{Read, Write};
@@ -18,6 +20,7 @@ pub struct ReadSource<R> {
 impl<R: Read> ReadSource<R> {
     /// A source that has met no fault and handed out no byte.
     pub fn new(reader: R) -> ReadSource<R>
+        ensures reader { reader_of result ≡ reader }
         ensures faults { read_faults result ≡ 0 }
         ensures handed { read_handed result ≡ 0 }
     {
@@ -39,6 +42,8 @@ impl<R: Read> Source for ReadSource<R> {
     fn read(&mut self, buf: &mut [u8]) -> Result<usize, Failed>
         requires { 0 < length buf.old }
         ensures bound { IfOk result (λ n. n ≤ length buf.new) }
+        ensures passed { ReadConsumes (R.remaining (reader_of self.old))
+            (R.remaining (reader_of self.new)) result buf.new }
         ensures same { OnOk result (read_faults self.new ≡ read_faults self.old) }
         ensures raised { OnErr result (read_faults self.new ≡ next_call (read_faults self.old)) }
         ensures failed { OnErr result (Rose (read_faults self.old) (read_faults self.new)) }
@@ -69,7 +74,8 @@ pub struct WriteSink<W> {
 impl<W: Write> WriteSink<W> {
     /// A sink that has met no fault.
     pub fn new(writer: W) -> WriteSink<W>
-        ensures { write_faults result ≡ 0 }
+        ensures writer { writer_of result ≡ writer }
+        ensures faults { write_faults result ≡ 0 }
     {
         WriteSink { writer, faults: 0 }
     }
@@ -84,6 +90,8 @@ impl<W: Write> Sink for WriteSink<W> {
         requires { 0 < length piece.now }
         ensures some { IfOk result (λ n. 0 < n) }
         ensures bound { IfOk result (λ n. n ≤ length piece.now) }
+        ensures passed { WriteAppends (W.contents (writer_of self.old))
+            (W.contents (writer_of self.new)) result piece.now }
         ensures same { OnOk result (write_faults self.new ≡ write_faults self.old) }
         ensures raised { OnErr result (write_faults self.new ≡ next_call (write_faults self.old)) }
         ensures failed { OnErr result (Rose (write_faults self.old) (write_faults self.new)) }

@@ -2,7 +2,7 @@
 //! itself, in UTF-8.
 #![tactic(auto)]
 
-ghost use Rattle.std.specs.Prelude.{◌≡◌, ◌++◌, OnOk, encode_utf8, encode_utf8_all};
+ghost use Rattle.std.specs.Prelude.{◌≡◌, ◌++◌, OnOk, OnErr, encode_utf8, encode_utf8_all};
 ghost use Rattle.escaped_text.specs.Escaped.{escape_of, escaped_bytes};
 
 use std::alloc::AllocError;
@@ -10,6 +10,7 @@ use std::alloc::AllocError;
 /// Appends a character in UTF-8. After an `Err` the bytes are as before.
 pub fn push_char(bytes: &mut Vec<u8>, c: char) -> Result<(), AllocError>
     ensures ok { OnOk result (bytes.new.items ≡ bytes.old.items ++ encode_utf8 c) }
+    ensures err { OnErr result (bytes.new.items ≡ bytes.old.items) }
 {
     if c.is_ascii() {
         bytes.push(c as u8)?;
