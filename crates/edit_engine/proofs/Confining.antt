@@ -25,12 +25,15 @@ use Rattle.edit_laws.specs.BelowHost.{below}
 use Rattle.edit_laws.specs.Islands.{StaysBelow, IsTakenOut, IslandKept}
 use Rattle.edit_laws.specs.Order.{KeepsLeaves, KeepsOrder}
 use Rattle.edit_laws.specs.OrderPreserving.{OrderPreserving}
+use Rattle.edit_laws.specs.InHost.{IsPairWithin}
+use Rattle.edit_laws.proofs.HostAtRest.{selection_in_host, range_in_host}
 use Rattle.edit_laws.proofs.HostParts.{host_stays}
 use Rattle.edit_laws.proofs.Resting.{document_again, host_there, island_inside, outside_at_rest, marks_at_rest, islands_at_rest, order_at_rest}
 use Rattle.edit_laws.proofs.Selections.{selection_at_rest}
 use Rattle.edit_laws.proofs.SteadyRuns.{states_on}
 use Rattle.edit_laws.proofs.StayingKinds.{kinds_at_rest}
 use Rattle.edit_laws.proofs.Subsequences.{keeps_refl}
+use Rattle.selection_laws.proofs.Holders.{host_holds, pair_host_holds}
 use Rattle.making_laws.proofs.KnownPages.{commands_make_known, own_known}
 use Rattle.edit_doc.specs.Whole.{Whole, IsDoc}
 use Rattle.edit_engine.specs.declared.answers.Answer.{Answer}
@@ -40,7 +43,7 @@ use Rattle.edit_engine.specs.declared.answers.ExecFault.TheVariants as fault
 use Rattle.edit_engine.specs.Commands.{row_of, action_of, is_enabled_in}
 use Rattle.making_laws.specs.Known.{source_of}
 use Rattle.edit_engine.specs.Bringing.{typed_by, BringsKnown}
-use Rattle.edit_engine.specs.Confinement.{KeepsOutside, KeepsHtml, KeepsMarks, KeepsSelection, HasEntry, HasJoined, IsTakenBy, KeepsIslands, KeepsCharacters, CommandKeeps, GivesBack}
+use Rattle.edit_engine.specs.Confinement.{KeepsOutside, KeepsHtml, KeepsMarks, KeepsSelection, SelectsIn, KeepsSelectionIn, HasEntry, HasJoined, IsTakenBy, KeepsIslands, KeepsCharacters, CommandKeeps, GivesBack}
 use Rattle.edit_engine.specs.Editing.{Editing, IsJoinable, IsResting}
 use Rattle.edit_engine.specs.Going.{goes_on}
 use Rattle.edit_engine.specs.declared.going.Going.{Going}
@@ -50,6 +53,7 @@ use Rattle.edit_engine.specs.Execution.{Refused, Deep, Full, Acted, depth_limit,
 use Rattle.edit_engine.proofs.AffectedHosts.{host_at_is_host}
 use Rattle.edit_engine.proofs.Fitness.{fit_at}
 use Rattle.edit_engine.proofs.HtmlParts.{html_around}
+use Rattle.edit_engine.proofs.HostFitness.{kept_by, stays_action}
 use Rattle.edit_engine.proofs.Outcomes.{shown}
 use Rattle.edit_engine.proofs.Tameness.{tame_at}
 
@@ -220,6 +224,37 @@ module _ (old new : Editing) (at : Option Pair) (joining : Bool) (c : Command) (
   selection_kept : (new ≡ old) ⊎ IsRun old new at joining c v → KeepsSelection old new
   selection_kept changed some = some_pair (IsPlacedPair new.state.trees) new.state.points.selection (still_selected changed some) (new_stands changed).0.placed.selection
 
+  no_scratch : old.state.points.scratch ≡ None
+  unfolding rested
+  no_scratch = sym (ap (λ (s : State). s.points.scratch) stands.resting)
+
+  after_selects : (h : ℕ) → host ≡ Some h → IsRun old new at joining c v → IfSome (rested (final m (begun (Some h) k old.state))).points.selection (IsPairWithin (rested (final m (begun (Some h) k old.state))).trees h)
+      → IfSome new.state.points.selection (IsPairWithin new.state.trees h)
+  after_selects h is run inside =
+      let at_host : after_run old joining c (final m (begun (Some h) k old.state)) ≡ new = ap (λ o. after_run old joining c (final m (begun o k old.state))) (sym is) ∙ run.is in
+      subst (λ (e : Editing). IfSome e.state.points.selection (IsPairWithin e.state.trees h)) at_host inside
+
+  selection_in_kept : (new ≡ old) ⊎ IsRun old new at joining c v → KeepsSelectionIn host at old new
+  selection_in_kept changed h is = by_place at refl
+    where
+      by_place : (o : Option Pair) → at ≡ o → SelectsIn o old new h
+      by_place None none = elim changed [
+        | inl same ↦ (
+            let here : host_at None old.state ≡ Some h = ap (λ o. host_at o old.state) (sym none) ∙ is in
+            subst (λ (e : Editing). IfSome e.state.points.selection (IsPairWithin e.state.trees h)) (sym same) (host_holds old.state law.forest.distinct h here))
+        | inr run ↦ (
+            let here : host_at None old.state ≡ Some h = ap (λ o. host_at o old.state) (sym none) ∙ is in
+            let inside = selection_in_host old.state h k (kept_by c) law whole no_scratch (hosted h is) (action_of c v) (host_holds old.state law.forest.distinct h here) (stays_action c v) in
+            after_selects h is run (subst (λ o. IfSome (rested (final (run_at o (action_of c v)) (begun (Some h) k old.state))).points.selection (IsPairWithin (rested (final (run_at o (action_of c v)) (begun (Some h) k old.state))).trees h)) (sym none) inside))
+      ]
+      by_place (Some range) some = λ placed. elim changed [
+        | inl same ↦ inl same
+        | inr run ↦ inr (
+            let here : host_at (Some range) old.state ≡ Some h = ap (λ o. host_at o old.state) (sym some) ∙ is in
+            let inside = range_in_host old.state h k (kept_by c) range (action_of c v) law whole no_scratch (hosted h is) placed (pair_host_holds old.state.trees law.forest.distinct h range here) (stays_action c v) in
+            after_selects h is run (subst (λ o. IfSome (rested (final (run_at o (action_of c v)) (begun (Some h) k old.state))).points.selection (IsPairWithin (rested (final (run_at o (action_of c v)) (begun (Some h) k old.state))).trees h)) (sym some) inside))
+      ]
+
   -- ---- islands
 
   -- an island that stays is where it was
@@ -296,6 +331,7 @@ module _ (old new : Editing) (at : Option Pair) (joining : Bool) (c : Command) (
     drawn = (labels_kept changed).1;
     known = known_kept changed;
     selection = selection_kept changed;
+    selection_in = selection_in_kept changed;
     marks = marks_kept changed;
     islands = islands_kept changed;
   }
@@ -309,6 +345,7 @@ module _ (old new : Editing) (at : Option Pair) (joining : Bool) (c : Command) (
     drawn = (labels_kept (inl same)).1;
     known = subst (λ (e : Editing). BringsKnown o v old e) (sym same) (same_known o);
     selection = selection_kept (inl same);
+    selection_in = selection_in_kept (inl same);
     marks = marks_kept (inl same);
     islands = same_islands o same;
   }

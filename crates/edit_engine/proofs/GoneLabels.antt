@@ -45,7 +45,7 @@ named_there (change.Move n p b) f h =
     )
 named_there (change.SetText n words) f h = (stands f n has_chars h.here.0, tt)
 named_there (change.Splice n at rest taken put) f h = (stands f n has_chars (part_chars f n at rest taken put h.here), tt)
-named_there (change.SetAttributes n list) f h = (stands f n is_element h.here, tt)
+named_there (change.SetAttributes n list) f h = (stands f n is_element h.here.0, tt)
 
 all_there : (xs : List Change) (f : Forest Content) → FitsForth applied Fits xs f → Each (Has f) (named_in xs)
 unfolding FitsForth

@@ -11,6 +11,7 @@ pub mod Seeing
 pub mod GoingOn
 pub mod AffectedHosts
 pub mod Fitness
+pub mod HostFitness
 pub mod Tameness
 pub mod HtmlParts
 pub mod Confining

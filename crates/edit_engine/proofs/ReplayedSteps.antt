@@ -181,7 +181,7 @@ module _ (k : ℕ → Bool) (content : ℕ → Option Content) where
       ∙ (sym (text_left (content_of (pruned k f) n)) ∙ (ap (λ o. option_map_or is_text o false) (own.are n) ∙ (text_left (content n) ∙ text)))
   can_say (Splice n at rest taken put) f is left h text own = absurd text
   can_say (SetAttributes n list) f is left h text own =
-      ap (option_and_then name_in) (sym (content_of-pruned k f n is left.0)) ∙ named_so (pruned k f) n (content n) h.here (own.are n)
+      ap (option_and_then name_in) (sym (content_of-pruned k f n is left.0)) ∙ named_so (pruned k f) n (content n) h.here.0 (own.are n)
 
   same_depth : (f : Forest Content) → k 0 ≡ false → IsForest f → page_depth (pruned k f) ≡ page_depth f
   same_depth f keeps is = ap (λ t. levels (kids_in t)) (tree_of-pruned k f 0 is.distinct (IsForest-pruned k f keeps is).document)

@@ -1,5 +1,5 @@
 -- What every execution of a command in a host keeps, whatever it answers.
-use Rattle.std.specs.Prelude.{◌≡◌, ◌⊎◌, ℕ, Bool, true, false, List, ◌∷◌, Option, Some, None, IsSome}
+use Rattle.std.specs.Prelude.{◌≡◌, ◌⊎◌, ℕ, Bool, true, false, List, ◌∷◌, Option, Some, None, IsSome, IfSome}
 use Rattle.std.specs.List.{AllZip}
 use Rattle.std.specs.Option.{option_map_or}
 use Rattle.html_names.specs.Commands.{command_named}
@@ -12,6 +12,7 @@ use Rattle.edit_model.specs.History.{Entry, begun, entry_of, joined_in}
 use Rattle.edit_model.specs.Laws.{KeepsMark}
 use Rattle.edit_model.specs.Outside.{outside_by, is_island}
 use Rattle.edit_laws.specs.BelowHost.{below}
+use Rattle.edit_laws.specs.InHost.{IsPairWithin}
 use Rattle.edit_laws.specs.Islands.{StaysBelow, IsTakenOut}
 use Rattle.edit_laws.specs.Order.{KeepsLeaves}
 use Rattle.edit_engine.specs.Bringing.{BringsKnown}
@@ -40,6 +41,17 @@ KeepsMarks host old new =
 abbrev pub KeepsSelection : Editing → Editing → Type 0
 KeepsSelection old new = IsSome old.state.points.selection
     → (q : Pair) × (new.state.points.selection ≡ Some q) × IsPlacedPair new.state.trees q
+
+-- Both points of what is selected stand at or below the host, or in a locked part of it. On a range
+-- that stands in the document that is so unless nothing has changed: then the selection is the one
+-- before, wherever it is.
+abbrev pub SelectsIn : Option Pair → Editing → Editing → ℕ → Type 0
+SelectsIn None old new h = IfSome new.state.points.selection (IsPairWithin new.state.trees h)
+SelectsIn (Some range) old new h = IsPlacedPair old.state.trees range
+    → (new ≡ old) ⊎ IfSome new.state.points.selection (IsPairWithin new.state.trees h)
+
+abbrev pub KeepsSelectionIn : Option ℕ → Option Pair → Editing → Editing → Type 0
+KeepsSelectionIn host at old new = (h : ℕ) → host ≡ Some h → SelectsIn at old new h
 
 -- the last entry is now one more, with the edits of the state in which a command ended
 pub record HasEntry (old new : Editing) (ended : State) : Type 0 where
@@ -111,5 +123,6 @@ pub record CommandKeeps (host : Option ℕ) (at : Option Pair) (c : Option Comma
   pub drawn : DrawsLabels old new
   pub known : BringsKnown c v old new
   pub selection : KeepsSelection old new
+  pub selection_in : KeepsSelectionIn host at old new
   pub marks : KeepsMarks host old new
   pub islands : KeepsIslands host at c v old new

@@ -9,7 +9,7 @@ ghost use Rattle.edit_doc.specs.Whole.{HasNoLoose, IsClosed, first_edits};
 ghost use Rattle.command_gate.specs.Denied.{is_denied};
 ghost use Rattle.html_names.specs.Commands.{command_named};
 ghost use Rattle.node_paths.specs.Paths.{label_at};
-ghost use Rattle.edit_engine.specs.Changes.{CanFollow, changes_of};
+ghost use Rattle.edit_engine.specs.Changes.{CanFollow, TellsNoChange, changes_of};
 ghost use Rattle.edit_engine.specs.Commands.{action_of};
 ghost use Rattle.edit_engine.specs.Confinement.{CommandKeeps, KeepsCharacters, GivesBack, joins_last};
 ghost use Rattle.edit_engine.specs.Editing.{EditorValue, IsJoinable, document, new_editing, undone, redone};
@@ -112,6 +112,7 @@ impl Editor {
             self.old.editing self.new.editing }
         ensures needed { HoldsOnlyNeeded (document self.new) }
         ensures followed { CanFollow self.old self.new }
+        ensures quiet { TellsNoChange result self.old self.new }
     {
         self.exec_named(alloc, false, name, value)
     }
@@ -137,6 +138,7 @@ impl Editor {
             self.old.editing self.new.editing }
         ensures needed { HoldsOnlyNeeded (document self.new) }
         ensures followed { CanFollow self.old self.new }
+        ensures quiet { TellsNoChange result self.old self.new }
     {
         self.exec_named(alloc, true, name, value)
     }
@@ -159,6 +161,7 @@ impl Editor {
             self.old.editing self.new.editing }
         ensures needed { HoldsOnlyNeeded (document self.new) }
         ensures followed { CanFollow self.old self.new }
+        ensures quiet { TellsNoChange result self.old self.new }
     {
         self.doc.valid();
         match Command::named(name) {
@@ -197,6 +200,7 @@ impl Editor {
             self.old.editing self.new.editing }
         ensures needed { HoldsOnlyNeeded (document self.new) }
         ensures followed { CanFollow self.old self.new }
+        ensures quiet { TellsNoChange result self.old self.new }
     {
         self.doc.valid();
         match placed_pair(&self.doc, anchor, focus) {
@@ -224,6 +228,7 @@ impl Editor {
             self.old.editing self.new.editing }
         ensures needed { HoldsOnlyNeeded (document self.new) }
         ensures followed { CanFollow self.old self.new }
+        ensures quiet { TellsNoChange result self.old self.new }
     {
         self.doc.valid();
         let answer = self.exec_command(alloc, Some(range), false, Command::InsertText, text);
@@ -255,6 +260,7 @@ impl Editor {
             self.old.editing self.new.editing }
         ensures needed { HoldsOnlyNeeded (document self.new) }
         ensures followed { CanFollow self.old self.new }
+        ensures quiet { TellsNoChange result self.old self.new }
     {
         self.doc.valid();
         if gate.denies(name.as_bytes()) {
@@ -279,6 +285,7 @@ impl Editor {
             (command_outcome self.old.editing at (joins_by joined self.old.editing.going command)
             value.now command) }
         ensures followed { CanFollow self.old self.new }
+        ensures quiet { TellsNoChange result self.old self.new }
     {
         if !is_enabled_in(host_at(&self.doc, at), command) {
             return Ok(Answer::No);
@@ -304,6 +311,7 @@ impl Editor {
             (joins_by joined self.old.editing.going command) command
             (run_at at (action_of command value.now))) }
         ensures followed { CanFollow self.old self.new }
+        ensures quiet { TellsNoChange result self.old self.new }
     {
         self.doc.valid();
         let joining = joins_by(joined, self.going, command);

@@ -22,6 +22,9 @@ pub mod BelowHost
 pub mod SteadyRuns
 pub mod Resting
 pub mod StayingKinds
+pub mod Nearness
+pub mod HostRuns
+pub mod HostAtRest
 pub mod Selections
 pub mod Unwrapping
 pub mod Lines

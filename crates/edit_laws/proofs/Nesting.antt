@@ -3,7 +3,6 @@ use Rattle.std.proofs.Common.{◌≡◌, ◌≢◌, ℕ, ◌<◌, zero, suc, Boo
 use Rattle.std.specs.Option.{option_map, option_map_or, option_and_then}
 use Rattle.std.proofs.lemmas.Bool.{cases_Bool, ne_eqb}
 use Rattle.dom_model.specs.declared.Content.{Content}
-use Rattle.dom_model.specs.declared.Content.TheVariants.{Element}
 use Rattle.dom_model.specs.declared.attributes.Attribute.{Attribute}
 use Rattle.dom_model.specs.Forest.{Forest, Seen, tops, first_in, after_in, count_of, seek, parent_of, children_of, next_of, content_of, tree_of, link, join}
 use Rattle.dom_model.specs.Forest.Forest.{Nil, Tree}
@@ -18,7 +17,7 @@ use Rattle.edit_model.specs.State.{State}
 use Rattle.edit_model.specs.Kept.{borne_by, leaves, is_thing}
 use Rattle.edit_model.specs.Confined.{may_insert, may_move, may_set, may_unset}
 use Rattle.edit_model.specs.Edit.{Insert, Move, Set, Unset, is_made_edit, trees_after, with_set, with_unset, edited}
-use Rattle.edit_model.specs.Action.{made}
+use Rattle.edit_model.specs.Action.{element_content, made}
 use Rattle.edit_model.specs.History.{document_of}
 use Rattle.edit_model.specs.Valid.{IsValid}
 use Rattle.edit_model.specs.Moves.{insert_before, move_before, move_all_before, move_last}
@@ -40,7 +39,7 @@ use Rattle.edit_laws.proofs.ReversedBefore.{next_is}
 use Rattle.edit_laws.proofs.Seats.{Seat, seat}
 use Rattle.edit_laws.proofs.Loose.{IsLoose, none_there, loose_parent, still_last, still_before}
 use Rattle.edit_laws.proofs.MoveLaws.{headed_first, go_before, go_past}
-use Rattle.edit_laws.proofs.Renaming.{plain_borne, made_trees, new_absent, new_loose, keeping_made, keeps_made}
+use Rattle.edit_laws.proofs.Renaming.{new_borne, made_trees, new_absent, new_loose, keeping_made, keeps_made}
 use Rattle.edit_laws.proofs.NewElements.{new_bare}
 use Rattle.edit_laws.proofs.Adopting.{final_insert_before}
 
@@ -202,7 +201,7 @@ near_shaped s t p n k (beside next empty bare) = beside (same_next (parent_of s.
 
 module _ (s : State) (is : IsKeeping s) (name : List ℕ) (attributes : List Attribute) (plain : is_thing name ≡ false) (n : ℕ) where
   c : Content
-  c = Element name attributes
+  c = element_content name attributes
 
   p : ℕ
   p = s.next
@@ -238,7 +237,7 @@ module _ (s : State) (is : IsKeeping s) (name : List ℕ) (attributes : List Att
 
     keeps2 : KeepsOrder s s2
     unfolding s2 s1 p c
-    keeps2 = keeps_trans keeps1 (bare_insert_keeps q (Some n) s.next (made (Element name attributes) s) is1 (new_bare name attributes s is plain))
+    keeps2 = keeps_trans keeps1 (bare_insert_keeps q (Some n) s.next (made (element_content name attributes) s) is1 (new_bare name attributes s is plain))
 
     near2 : Near s2 p n
     unfolding s2 is_made_edit trees_after c
@@ -263,12 +262,12 @@ module _ (s : State) (is : IsKeeping s) (name : List ℕ) (attributes : List Att
     ]
       where
         bare1 : borne_by p c ≡ []
-        bare1 = plain_borne p name attributes plain
+        bare1 = new_borne p name attributes plain
 
-  pub put_near : KeepsOrder s (final (insert_before n s.next) (made (Element name attributes) s)) × Near (final (insert_before n s.next) (made (Element name attributes) s)) s.next n
+  pub put_near : KeepsOrder s (final (insert_before n s.next) (made (element_content name attributes) s)) × Near (final (insert_before n s.next) (made (element_content name attributes) s)) s.next n
   unfolding s2 s1 p c insert_before
-  put_near = by_parent (parent_of (made (Element name attributes) s).trees n) refl
+  put_near = by_parent (parent_of (made (element_content name attributes) s).trees n) refl
     where
-      by_parent : (o : Option ℕ) → parent_of (made (Element name attributes) s).trees n ≡ o → KeepsOrder s (final (insert_before n s.next) (made (Element name attributes) s)) × Near (final (insert_before n s.next) (made (Element name attributes) s)) s.next n
+      by_parent : (o : Option ℕ) → parent_of (made (element_content name attributes) s).trees n ≡ o → KeepsOrder s (final (insert_before n s.next) (made (element_content name attributes) s)) × Near (final (insert_before n s.next) (made (element_content name attributes) s)) s.next n
       by_parent None root = rw (final-look, root, final-answer) (keeps1, loose loose1)
-      by_parent (Some q) up = rw (final_insert_before n s.next q (made (Element name attributes) s) up) (keeps2 q, near2 q)
+      by_parent (Some q) up = rw (final_insert_before n s.next q (made (element_content name attributes) s) up) (keeps2 q, near2 q)

@@ -10,7 +10,7 @@ use Rattle.edit_model.specs.State.{State}
 use Rattle.edit_model.specs.Kept.{borne_by, leaves, has_no_kept_leaves}
 use Rattle.edit_model.specs.Edit.{Edit, Insert, Remove, Move, Replace, Set, Unset, is_made_edit, trees_after, with_set, with_unset, changed, edited}
 use Rattle.edit_model.specs.Action as action
-use Rattle.edit_model.specs.Action.{Action, made, words_content, extended, extracted, acted}
+use Rattle.edit_model.specs.Action.{Action, made, words_content, element_content, extended, extracted, acted}
 use Rattle.edit_model.specs.Run.{Reaches, here, onward, Run, final}
 use Rattle.edit_model.specs.History.{document_of}
 use Rattle.edit_model.specs.Valid.{IsForest}
@@ -129,7 +129,7 @@ quiet_keeps (action.Change (Move n p b)) quiet s is = absurd quiet
 quiet_keeps (action.Change (Replace n at count put)) quiet s is = absurd quiet
 quiet_keeps (action.Change (Set n name value)) quiet s is = set_keeps n name value s is
 quiet_keeps (action.Change (Unset n name)) quiet s is = unset_keeps n name s is
-quiet_keeps (action.MakeElement name attributes) quiet s is = made_keeps (Element name attributes) s is
+quiet_keeps (action.MakeElement name attributes) quiet s is = made_keeps (element_content name attributes) s is
 quiet_keeps (action.MakeWords chars) quiet s is = made_keeps (words_content chars) s is
 quiet_keeps (action.Select anchor focus) quiet s is = same_forest s.trees _ (trees-selected anchor focus s)
 quiet_keeps (action.Extend focus) quiet s is = same_forest s.trees _ (trees-extended s.points.selection focus s)

@@ -5,6 +5,7 @@ use Rattle.std.proofs.lemmas.List.{append-nil}
 use Rattle.dom_model.specs.declared.Content.{Content}
 use Rattle.dom_model.specs.declared.Content.TheVariants.{Element}
 use Rattle.dom_model.specs.declared.attributes.Attribute.{Attribute}
+use Rattle.dom_model.specs.AttributeList.{are_distinct}
 use Rattle.dom_model.specs.Forest.{seek, count_of, IsWithin, parent_of, children_of, next_of, content_of, tree_of, link, with_leaf}
 use Rattle.dom_model.specs.Forest.Forest.{Nil, Tree}
 use Rattle.dom_model.proofs.Totals.{total-without}
@@ -15,7 +16,7 @@ use Rattle.edit_model.specs.Kept.{borne_by, leaves, is_thing}
 use Rattle.edit_model.specs.Confined.{is_editable_for, may_insert}
 use Rattle.dom_model.specs.Contents.{has_name}
 use Rattle.edit_model.specs.Edit.{Insert, is_made_edit, trees_after, edited}
-use Rattle.edit_model.specs.Action.{MakeElement, made, acted}
+use Rattle.edit_model.specs.Action.{MakeElement, element_content, made, acted}
 use Rattle.edit_model.specs.History.{document_of}
 use Rattle.edit_model.specs.Run.{here, onward, final, ◌>>=◌, answer, given, remove}
 use Rattle.edit_model.specs.Compositions.{attribute_list_of, renamed, set_tag_name}
@@ -40,15 +41,18 @@ pub plain_borne : (l : ℕ) (name : List ℕ) (attributes : List Attribute) → 
 unfolding borne_by
 plain_borne l name attributes plain = rw plain refl
 
+pub new_borne : (l : ℕ) (name : List ℕ) (attributes : List Attribute) → is_thing name ≡ false → borne_by l (element_content name attributes) ≡ []
+new_borne l name attributes plain = plain_borne l name (if are_distinct attributes then attributes else []) plain
+
 pub made_trees : (c : Content) (s : State) → (made c s).trees ≡ with_leaf s.trees s.next c
 unfolding made
 made_trees c s = refl
 
-pub keeping_made : (name : List ℕ) (attributes : List Attribute) (s : State) → IsKeeping s → IsKeeping (made (Element name attributes) s)
+pub keeping_made : (name : List ℕ) (attributes : List Attribute) (s : State) → IsKeeping s → IsKeeping (made (element_content name attributes) s)
 unfolding acted
 keeping_made name attributes s is = keeping_along (onward here (MakeElement name attributes)) is
 
-pub keeps_made : (name : List ℕ) (attributes : List Attribute) (s : State) → IsKeeping s → KeepsOrder s (made (Element name attributes) s)
+pub keeps_made : (name : List ℕ) (attributes : List Attribute) (s : State) → IsKeeping s → KeepsOrder s (made (element_content name attributes) s)
 unfolding acted
 keeps_made name attributes s is = quiet_keeps (MakeElement name attributes) tt s is
 
@@ -71,7 +75,7 @@ module _ (s : State) (is : IsKeeping s) (c : Content) where
 
 module _ (s : State) (is : IsKeeping s) (p e : ℕ) (name : List ℕ) (up : parent_of s.trees e ≡ Some p) (bare : IsBare s e) (plain : is_thing name ≡ false) where
   c : Content
-  c = Element name (attribute_list_of s.trees e)
+  c = element_content name (attribute_list_of s.trees e)
 
   x : ℕ
   x = s.next
@@ -94,7 +98,7 @@ module _ (s : State) (is : IsKeeping s) (p e : ℕ) (name : List ℕ) (up : pare
   unfolding s1 s2 x c
   put_in_keeps =
       bare_insert_keeps p (Some e) x s1 is1
-      (ap leaves (new_tree s is c) ∙ (leaves-Tree x c Nil Nil ∙ (ap (λ l. l ++ (leaves Nil ++ leaves Nil)) (plain_borne x name (attribute_list_of s.trees e) plain) ∙ rw leaves-Nil refl)))
+      (ap leaves (new_tree s is c) ∙ (leaves-Tree x c Nil Nil ∙ (ap (λ l. l ++ (leaves Nil ++ leaves Nil)) (new_borne x name (attribute_list_of s.trees e) plain) ∙ rw leaves-Nil refl)))
 
   children_go : KeepsOrder s2 (final (move_each_last (children_of s.trees e) x) s2)
   unfolding s1 s2 x is_made_edit trees_after

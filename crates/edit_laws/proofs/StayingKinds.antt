@@ -14,7 +14,7 @@ use Rattle.dom_model.proofs.Totals.{total-without}
 use Rattle.edit_model.specs.State.{State}
 use Rattle.edit_model.specs.Edit.{Edit, Insert, Remove, Move, Replace, Set, Unset, is_made_edit, trees_after, changed, with_change, with_replaced, with_set, with_unset}
 use Rattle.edit_model.specs.Action as action
-use Rattle.edit_model.specs.Action.{Action, made, applied, tail_of, words_content, extended, acted}
+use Rattle.edit_model.specs.Action.{Action, made, applied, tail_of, words_content, element_content, extended, acted}
 use Rattle.edit_model.specs.History.{begun, rested}
 use Rattle.edit_model.specs.Run.{Reaches, here, onward}
 use Rattle.edit_model.specs.Valid.{IsForest, IsValid}
@@ -121,7 +121,7 @@ module _ (l : ℕ) (o : Option Kind) where
         (omega (arith, low, next), ap (λ f. kind_of f l) (trees_made e s may) ∙ (after e s is may ∙ h.1)))
     | inr off ↦ same_trees s (acted (action.Change e) s) (trees_left e s off) (next_acted s.next (action.Change e) s (omega arith)) h
   ]
-  has_acted (action.MakeElement own attributes) s is h = has_made (Element own attributes) s is h
+  has_acted (action.MakeElement own attributes) s is h = has_made (element_content own attributes) s is h
   has_acted (action.MakeWords chars) s is h = has_made (words_content chars) s is h
   has_acted (action.Select anchor focus) s is h = same_trees s (acted (action.Select anchor focus) s) (trees-selected anchor focus s) (next_acted s.next (action.Select anchor focus) s (omega arith)) h
   has_acted (action.Extend focus) s is h = same_trees s (acted (action.Extend focus) s) (trees-extended s.points.selection focus s) (next_acted s.next (action.Extend focus) s (omega arith)) h

@@ -1,16 +1,18 @@
 -- What a command leaves, seen from outside commands: the document before it, and the document once
 -- its loose trees are dropped.
-use Rattle.std.specs.Prelude.{◌≡◌, ℕ, Bool, true, Option, Some, IsSome}
+use Rattle.std.specs.Prelude.{◌≡◌, ℕ, Bool, true, Option, Some, None, IsSome, IfSome}
 use Rattle.std.specs.List.{AllZip}
 use Rattle.dom_model.specs.Editing.{is_host}
 use Rattle.dom_model.specs.Forest.{tree_of}
+use Rattle.live_range.specs.declared.places.Pair.{Pair}
 use Rattle.edit_model.specs.State.{State}
-use Rattle.edit_model.specs.Valid.{IsValid}
+use Rattle.edit_model.specs.Valid.{IsPlacedPair, IsValid}
 use Rattle.edit_model.specs.History.{begun, rested}
 use Rattle.edit_model.specs.Laws.{KeepsMark, LeavesStatesOn}
 use Rattle.edit_model.specs.Outside.{outside_by, is_island}
-use Rattle.edit_model.specs.Run.{Reaches}
+use Rattle.edit_model.specs.Run.{Reaches, Run, ◌>>◌, final, select}
 use Rattle.edit_laws.specs.BelowHost.{below}
+use Rattle.edit_laws.specs.InHost.{IsPairWithin, StaysInHost}
 use Rattle.edit_laws.specs.Islands.{IslandKept}
 use Rattle.edit_laws.specs.Kinds.{SameKinds, DrawsKinds}
 use Rattle.edit_laws.specs.Order.{KeepsLeaves, KeepsOrder}
@@ -56,3 +58,25 @@ abbrev pub SelectionStays : Type 0
 SelectionStays =
     (s t : State) (host : Option ℕ) (keeping : Bool) (r : Reaches (begun host keeping s) t)
     → SteadyOn r → IsSome s.points.selection → IsSome (rested t).points.selection
+
+-- and its points stay at or below the host, where the run leaves them there
+abbrev pub SelectionStaysInHost : Type 0 → Type 0
+SelectionStaysInHost A =
+    (s : State) (h : ℕ) (keeping scratched : Bool) (m : Run A) → IsValid s
+    → tree_of s.trees 0 ≡ s.trees → s.points.scratch ≡ None
+    → is_host s.trees h ≡ true → IfSome s.points.selection (IsPairWithin s.trees h)
+    → StaysInHost scratched m
+    → IfSome (rested (final m (begun (Some h) keeping s))).points.selection
+    (IsPairWithin (rested (final m (begun (Some h) keeping s))).trees h)
+
+-- so it is where the run selects a range first that stands in the document, at or below the host
+abbrev pub RangeStaysInHost : Type 0 → Type 0
+RangeStaysInHost A =
+    (s : State) (h : ℕ) (keeping scratched : Bool) (range : Pair) (m : Run A) → IsValid s
+    → tree_of s.trees 0 ≡ s.trees → s.points.scratch ≡ None
+    → is_host s.trees h ≡ true → IsPlacedPair s.trees range → IsPairWithin s.trees h range
+    → StaysInHost scratched m
+    → IfSome
+    (rested (final (select range.anchor range.focus >> m) (begun (Some h) keeping s))).points.selection
+    (IsPairWithin
+    (rested (final (select range.anchor range.focus >> m) (begun (Some h) keeping s))).trees h)

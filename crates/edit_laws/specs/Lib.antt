@@ -8,4 +8,6 @@ pub mod Steady
 pub mod SteadyLaws
 pub mod Islands
 pub mod Kinds
+pub mod InHost
+pub mod InHostLaws
 pub mod CommandsAtRest

@@ -1,7 +1,7 @@
 //! The laws of commands, seen from outside commands, each the contract of a function that does
 //! nothing.
 
-ghost use Rattle.edit_laws.specs.CommandsAtRest.{OutsideStays, MarksStay, IslandsStay, OrderStays, KindsStay, SelectionStays};
+ghost use Rattle.edit_laws.specs.CommandsAtRest.{OutsideStays, MarksStay, IslandsStay, OrderStays, KindsStay, SelectionStays, SelectionStaysInHost, RangeStaysInHost};
 
 /// What lies outside the host stays.
 pub fn outside_stays_at_rest()
@@ -33,4 +33,15 @@ pub fn kinds_stay_at_rest()
 /// A selection stays one, where no action of the command gives it up.
 pub fn selection_stays_at_rest()
     ensures { SelectionStays }
+{}
+
+/// The points of the selection stay at or below the host, where the command's run leaves them
+/// there.
+pub fn selection_stays_in_host_at_rest<A>()
+    ensures { SelectionStaysInHost A }
+{}
+
+/// So they do where the command first selects a range that stands there.
+pub fn range_stays_in_host_at_rest<A>()
+    ensures { RangeStaysInHost A }
 {}

@@ -6,15 +6,21 @@
 
 mod commands;
 mod compositions;
+mod in_host;
 mod laws;
 mod moves;
 mod steady;
 
 pub use commands::{
     islands_stay_at_rest, kinds_stay_at_rest, marks_stay_at_rest, order_stays_at_rest,
-    outside_stays_at_rest, selection_stays_at_rest,
+    outside_stays_at_rest, range_stays_in_host_at_rest, selection_stays_at_rest,
+    selection_stays_in_host_at_rest,
 };
 pub use compositions::{split_texts_keep, tag_names_keep, unwraps_keep};
+pub use in_host::{
+    answers_stay, calm_acts_stay, chooses_stay, follows_stay, for_each_stays, given_stays,
+    looks_stay, split_texts_stay, while_stays,
+};
 pub use laws::{
     bare_inserts_keep, keeping_stays, order_follows, order_preserving_acts,
     order_preserving_answers, order_preserving_chooses, order_preserving_follows,

@@ -46,8 +46,7 @@ abbrev pub editing_of : Option EditorValue → Option Editing
 editing_of value = option_map (λ v. v.editing) value
 
 -- the number of the status, and what the call has done to the editor; a closed handle stays closed
-abbrev pub Leaves : ℕ → Option Editing → Option Editing
-    → (Status → Editing → Editing → Type 0) → Type 0
+abbrev pub Leaves : {E : Type 0} → ℕ → Option E → Option E → (Status → E → E → Type 0) → Type 0
 Leaves number None None told = number ≡ number_of Closed
 Leaves number None (Some new) told = ⊥
 Leaves number (Some old) None told = ⊥

@@ -8,7 +8,7 @@ ghost use Rattle.std.specs.Option.{option_map};
 ghost use Rattle.edit_engine.specs.Editing.{undone, redone};
 ghost use Rattle.edit_engine.specs.Places.{unselecting};
 ghost use Rattle.hedit_c.specs.Calls.{editing_of, Leaves, Asks, Answers, Opens, ExecTells, GatedTells, QueryTells, ViewTells, SelectTells, SelectPointsTell, MarkTells, UnmarkTells, ReplaceTells, pair_there, pair_of_points, place, point, taken_status, unselect_status};
-ghost use Rattle.hedit_c.specs.Following.{Between, StaysFollowed, BeginsFollowing, KeepsFollowing, ChangesTell, KeptTells, RevisionTells};
+ghost use Rattle.hedit_c.specs.Following.{Between, StaysFollowed, BeginsFollowing, KeepsFollowing, KeepsUnlessDone, ChangesTell, KeptTells, RevisionTells};
 ghost use Rattle.node_texts.specs.NodeHtml.{node_html};
 ghost use Rattle.hedit_c.specs.Nodes.{NodeTells, LabelTells, PathTells, value_text, NameTells, TextTells, attribute_value, AttributeNameTells, AttributeTells, SelectionTells, MarkNameTells, MarkRangeTells, NumbersTell};
 ghost use Rattle.hedit_c.specs.Statuses.{number_of};
@@ -82,6 +82,7 @@ pub extern "C" fn hedit_exec(alloc: Global, editor: &mut Handle, name: &[u8], va
     ensures told { Leaves result (editing_of editor.old.value) (editing_of editor.new.value)
         (λ status old new. ExecTells false status old new name.now value.now) }
     ensures followed { StaysFollowed editor.old.value editor.new.value }
+    ensures quiet { Leaves result editor.old.value editor.new.value KeepsUnlessDone }
 {
     let Some(mut held) = editor.take(alloc) else {
         return Status::Closed.number();
@@ -104,6 +105,7 @@ pub extern "C" fn hedit_exec_joined(
     ensures told { Leaves result (editing_of editor.old.value) (editing_of editor.new.value)
         (λ status old new. ExecTells true status old new name.now value.now) }
     ensures followed { StaysFollowed editor.old.value editor.new.value }
+    ensures quiet { Leaves result editor.old.value editor.new.value KeepsUnlessDone }
 {
     let Some(mut held) = editor.take(alloc) else {
         return Status::Closed.number();
@@ -129,6 +131,7 @@ pub extern "C" fn hedit_replace(
         (λ status old new. ReplaceTells status old new (pair_of_points old
         (point anchor anchor_offset) (point focus focus_offset)) text.now) }
     ensures followed { StaysFollowed editor.old.value editor.new.value }
+    ensures quiet { Leaves result editor.old.value editor.new.value KeepsUnlessDone }
 {
     let Some(mut held) = editor.take(alloc) else {
         return Status::Closed.number();
@@ -158,6 +161,7 @@ pub extern "C" fn hedit_exec_gated(
     ensures told { Leaves result (editing_of editor.old.value) (editing_of editor.new.value)
         (λ status old new. GatedTells status old new denied.now name.now value.now) }
     ensures followed { StaysFollowed editor.old.value editor.new.value }
+    ensures quiet { Leaves result editor.old.value editor.new.value KeepsUnlessDone }
 {
     let Some(mut held) = editor.take(alloc) else {
         return Status::Closed.number();

@@ -1,10 +1,10 @@
 //! Calls that change an editor.
 
 ghost use Rattle.std.specs.Prelude.{◌≡◌, nat_lt, length};
-ghost use Rattle.edit_engine.specs.Changes.{CanFollow};
-ghost use Rattle.edit_engine.specs.Editing.{Editing, undone, redone};
+ghost use Rattle.edit_engine.specs.Changes.{CanFollow, TellsNoChange};
+ghost use Rattle.edit_engine.specs.Editing.{Editing, EditorValue, undone, redone};
 ghost use Rattle.edit_engine.specs.Execution.{Outcome, Tells, outcome_by, gated_outcome};
-ghost use Rattle.hedit_c.specs.Following.{KeepsFollowing};
+ghost use Rattle.hedit_c.specs.Following.{KeepsFollowing, KeepsUnlessDone};
 ghost use Rattle.std.specs.Str.{chars};
 ghost use Rattle.hedit_c.specs.Calls.{ExecAnswers, ExecTells, SelectPointsTell, answered_status, GatedTells, SelectTells, MarkTells, UnmarkTells, ReplaceAnswers, ReplaceTells, pair_there, pair_of_points, place, replaced_status, selected_status};
 
@@ -23,6 +23,8 @@ fn answered(answer: Result<Answer, ExecFault>) -> Status
     ensures status { result ≡ answered_status answer }
     ensures told { (old new : Editing) (o : Outcome) → Tells answer old new o
         → ExecAnswers result old new o }
+    ensures quiet { (old new : EditorValue) → TellsNoChange answer old new
+        → KeepsUnlessDone result old new }
 {
     match answer {
         Ok(Answer::Yes) => Status::Done,
@@ -37,6 +39,7 @@ fn exec_chars(alloc: Global, editor: &mut Editor, joined: bool, name: &str, valu
     ensures told { ExecAnswers result editor.old.editing editor.new.editing
         (outcome_by joined editor.old.editing name.now value.now) }
     ensures followed { CanFollow editor.old editor.new }
+    ensures quiet { KeepsUnlessDone result editor.old editor.new }
 {
     if joined {
         answered(editor.exec_joined(alloc, name, value.as_slice()))
@@ -49,6 +52,7 @@ fn exec_text(alloc: Global, editor: &mut Editor, joined: bool, name: &str, value
     ensures told { ExecAnswers result editor.old.editing editor.new.editing
         (outcome_by joined editor.old.editing name.now (chars value.now)) }
     ensures followed { CanFollow editor.old editor.new }
+    ensures quiet { KeepsUnlessDone result editor.old editor.new }
 {
     match Chars::from_text(alloc, value) {
         Ok(value) => exec_chars(alloc, editor, joined, name, &value),
@@ -66,6 +70,7 @@ pub(crate) fn exec(
 ) -> Status
     ensures told { ExecTells joined result editor.old.editing editor.new.editing name.now value.now }
     ensures followed { CanFollow editor.old editor.new }
+    ensures quiet { KeepsUnlessDone result editor.old editor.new }
 {
     match (str::from_utf8(name), str::from_utf8(value)) {
         (Ok(name), Ok(value)) => exec_text(alloc, editor, joined, name, value),
@@ -83,6 +88,7 @@ fn exec_past(
     ensures told { ExecAnswers result editor.old.editing editor.new.editing
         (gated_outcome gate.now editor.old.editing name.now (chars value.now)) }
     ensures followed { CanFollow editor.old editor.new }
+    ensures quiet { KeepsUnlessDone result editor.old editor.new }
 {
     match Chars::from_text(alloc, value) {
         Ok(value) => answered(editor.exec_gated(alloc, gate, name, value.as_slice())),
@@ -100,6 +106,7 @@ pub(crate) fn exec_gated(
 ) -> Status
     ensures told { GatedTells result editor.old.editing editor.new.editing denied.now name.now value.now }
     ensures followed { CanFollow editor.old editor.new }
+    ensures quiet { KeepsUnlessDone result editor.old editor.new }
 {
     let (Ok(name), Ok(value)) = (str::from_utf8(name), str::from_utf8(value)) else {
         return Status::BadArgument;
@@ -113,7 +120,9 @@ pub(crate) fn exec_gated(
 
 // The status of a replacement's answer.
 fn replaced(answer: Result<Answer, ReplaceFault>) -> Status
-    ensures { result ≡ replaced_status answer }
+    ensures status { result ≡ replaced_status answer }
+    ensures quiet { (old new : EditorValue) → TellsNoChange answer old new
+        → KeepsUnlessDone result old new }
 {
     match answer {
         Ok(answer) => match answer {
@@ -137,6 +146,7 @@ fn replace_chars(
     ensures told { ReplaceAnswers result editor.old.editing editor.new.editing
         (pair_of_points editor.old.editing anchor focus) text.now }
     ensures followed { CanFollow editor.old editor.new }
+    ensures quiet { KeepsUnlessDone result editor.old editor.new }
 {
     replaced(editor.replace(alloc, anchor, focus, text.as_slice()))
 }
@@ -151,6 +161,7 @@ fn replace_text(
     ensures told { ReplaceAnswers result editor.old.editing editor.new.editing
         (pair_of_points editor.old.editing anchor focus) (chars text.now) }
     ensures followed { CanFollow editor.old editor.new }
+    ensures quiet { KeepsUnlessDone result editor.old editor.new }
 {
     match Chars::from_text(alloc, text) {
         Ok(text) => replace_chars(alloc, editor, anchor, focus, &text),
@@ -169,6 +180,7 @@ pub(crate) fn replace(
     ensures told { ReplaceTells result editor.old.editing editor.new.editing
         (pair_of_points editor.old.editing anchor focus) text.now }
     ensures followed { CanFollow editor.old editor.new }
+    ensures quiet { KeepsUnlessDone result editor.old editor.new }
 {
     match str::from_utf8(text) {
         Ok(text) => replace_text(alloc, editor, anchor, focus, text),

@@ -28,6 +28,7 @@ returns-then-denies g c =
       given_back = same_back (joins_last false old name) old old refl;
       needed = c.kept_nodes.ensures;
       followed = inl (refl, refl);
+      quiet = refl;
     }
 
 pub returns : goal.returns
@@ -44,4 +45,5 @@ returns g c =
       given_back = c.exec.ensures.given_back;
       needed = c.exec.ensures.needed;
       followed = c.exec.ensures.followed;
+      quiet = c.exec.ensures.quiet;
     }

@@ -32,6 +32,7 @@ returns-in-Some c =
       given_back = subst (λ (j : Bool). GivesBack j old new) (sym (ap (λ o. option_map_or (joins_by c.args.joined old.going) o false) named)) (given_back old new None joining command v joins stands k);
       needed = c.kept_nodes.ensures;
       followed = c.exec_command-answer.ensures.followed;
+      quiet = c.exec_command-answer.ensures.quiet;
     }
 
 pub returns-in-None : goal.returns-in-None
@@ -49,4 +50,5 @@ returns-in-None c =
       given_back = same_back (joins_last c.args.joined old name) old old refl;
       needed = c.kept_nodes-in-None.ensures;
       followed = inl (refl, refl);
+      quiet = refl;
     }

@@ -34,6 +34,7 @@ returns-in-Some c =
       given_back = c.replace_range.ensures.given_back;
       needed = c.replace_range.ensures.needed;
       followed = c.replace_range.ensures.followed;
+      quiet = c.replace_range.ensures.quiet;
     }
 
 pub returns-in-None : goal.returns-in-None
@@ -52,4 +53,5 @@ returns-in-None c =
       given_back = same_back joining old old refl;
       needed = c.kept_nodes.ensures;
       followed = inl (refl, refl);
+      quiet = refl;
     }

@@ -1,6 +1,7 @@
 use Rattle.std.proofs.Common.{false, ◌≡◌, Option, Some, Result, Ok, Err, sym, ap, ◌∙◌, subst}
 use Rattle.live_range.specs.declared.places.Pair.{Pair}
 use Rattle.html_names.specs.declared.commands.Command.TheVariants.{InsertText}
+use Rattle.edit_engine.specs.Changes.{TellsNoChange}
 use Rattle.edit_engine.specs.Editing.{EditorValue}
 use Rattle.edit_engine.specs.Execution.{TellsReplaced, replaced_outcome}
 use Rattle.edit_engine.specs.Going.{joins_by}
@@ -29,6 +30,7 @@ returns-in-Ok c =
       given_back = given_back old new at joining InsertText v joins stands k;
       needed = c.kept_nodes.ensures;
       followed = c.exec_command-answer.ensures.followed;
+      quiet = subst (λ (r : Result Answer ExecFault). TellsNoChange r c.args.self.now c.exec_command-answer.new.self) c.in-Ok.is c.exec_command-answer.ensures.quiet;
     }
 
 pub returns-in-Err : goal.returns-in-Err
@@ -49,4 +51,5 @@ returns-in-Err c =
       given_back = given_back old new at joining InsertText v joins stands k;
       needed = c.kept_nodes.ensures;
       followed = c.exec_command-answer.ensures.followed;
+      quiet = subst (λ (r : Result Answer ExecFault). TellsNoChange r c.args.self.now c.exec_command-answer.new.self) c.in-Err.is c.exec_command-answer.ensures.quiet;
     }

@@ -58,6 +58,7 @@ returns-in-Ok-Some c =
       tells = subst (λ (e : Editing). run_outcome e (host_at c.args.at e.state) (joins_by c.args.joined e.going c.args.command) c.args.command m ≡ Acted true (shown new after)) (ap (λ (v : EditorValue). v.editing) c.self.view_is) made;
       followed = subst (λ (v : EditorValue). CanFollow v (value_of new after c.commit-self-inside.result)) c.self.view_is
           (subst (λ (x : Following). CanFollow (value_of w going following) (value_of new after x)) (sym c.commit-self-inside.ensures) here);
+      quiet = tt;
     }
 
 pub returns-in-Ok-None : goal.returns-in-Ok-None
@@ -75,6 +76,7 @@ returns-in-Ok-None c =
       tells = (inr (subst (λ (e : Editing). run_outcome e (host_at c.args.at e.state) (joins_by c.args.joined e.going c.args.command) c.args.command m ≡ Acted false (shown new going)) is_old r.0), r.1 ∙ is_old);
       followed = subst (λ (v : EditorValue). CanFollow v (value_of new going c.self.inside.following)) c.self.view_is
           (kept_followed w new going going c.self.inside.following is.back.state);
+      quiet = ap (λ (v : EditorValue). v.following) c.self.view_is;
     }
 
 pub returns-in-Err : goal.returns-in-Err
@@ -91,4 +93,5 @@ returns-in-Err c =
           (subst (λ (x : ExecFault). Tells (Err x) (shown w going) (shown new going) (run_outcome (shown w going) host (joins_by c.args.joined going c.args.command) c.args.command m)) (sym c.from.ensures) r);
       followed = subst (λ (v : EditorValue). CanFollow v (value_of new going c.self.inside.following)) c.self.view_is
           (kept_followed w new going going c.self.inside.following back.0.state);
+      quiet = ap (λ (v : EditorValue). v.following) c.self.view_is;
     }

@@ -12,5 +12,5 @@ returns-clause-told c =
     let found = pair_of_points old.editing c.args.anchor c.args.focus in
     let text = c.as_slice.result.now in
     subst (λ (w : List ℕ). ReplaceAnswers c.replaced.result old.editing new.editing found w) c.as_slice.ensures
-    (subst (λ (s : Status). ReplaceAnswers s old.editing new.editing found text) (sym c.replaced.ensures)
+    (subst (λ (s : Status). ReplaceAnswers s old.editing new.editing found text) (sym c.replaced.ensures.status)
     (replace_answers found c.replace.result old new text c.replace.ensures.tells))
