@@ -43,7 +43,7 @@ top_known f n l held = elim (none_or_some (count_of f n)) [
 ]
 
 -- what a node without a state has where its parent offers the host
-hosted_by : (a b : Bool) (above : Option ℕ) (h : ℕ) (under : Bool) → a ≡ false → under ≡ true → above ≡ Some h → cond a None (cond (b || under) above None) ≡ Some h
+pub hosted_by : (a b : Bool) (above : Option ℕ) (h : ℕ) (under : Bool) → a ≡ false → under ≡ true → above ≡ Some h → cond a None (cond (b || under) above None) ≡ Some h
 hosted_by a true above h under none element up = rw none up
 hosted_by a false above h under none element up = rw (none, element) up
 

@@ -3,7 +3,6 @@ use Rattle.std.proofs.Common.{◌≡◌, ◌≢◌, ℕ, zero, suc, ◌+◌, ◌
 use Rattle.std.specs.Option.{option_map, option_map_or, option_and_then}
 use Rattle.std.proofs.lemmas.Bool.{cases_Bool, eq-eqb, ne_eqb, lt-ltb, le-ltb, le-leb}
 use Rattle.dom_model.specs.declared.Content.{Content}
-use Rattle.dom_model.specs.declared.Content.TheVariants.{Element}
 use Rattle.dom_model.specs.declared.attributes.Attribute.{Attribute}
 use Rattle.dom_model.specs.Contents.{is_parent_at, may_have_children, length_of}
 use Rattle.dom_model.specs.Editing.{editing_host, is_editable}
@@ -22,7 +21,7 @@ use Rattle.edit_model.specs.State.{State}
 use Rattle.edit_model.specs.Confined.{is_editable_for, is_made, is_open, is_place, may_insert}
 use Rattle.edit_model.specs.Edit.{Insert, is_made_edit, trees_after, edited}
 use Rattle.edit_model.specs.Action as action
-use Rattle.edit_model.specs.Action.{made, acted, may_extract}
+use Rattle.edit_model.specs.Action.{made, element_content, acted, may_extract}
 use Rattle.edit_model.specs.Laws.{LeavesStates}
 use Rattle.edit_model.specs.Moves.{insert_after}
 use Rattle.edit_model.specs.Run.{onward, final}
@@ -153,12 +152,12 @@ module _ (s : State) (h : ℕ) (b : Began s h) (t : State) (way : Underway s h f
   is_t : IsValid t
   is_t = valid_way s h false b t way
 
-  way_v : Underway s h false (made (Element name attributes) t)
+  way_v : Underway s h false (made (element_content name attributes) t)
   unfolding acted
   way_v = record { way = onward way.way (action.MakeElement name attributes); leaves = (way.leaves, leaves) }
 
-  is_v : IsValid (made (Element name attributes) t)
-  is_v = valid_way s h false b (made (Element name attributes) t) way_v
+  is_v : IsValid (made (element_content name attributes) t)
+  is_v = valid_way s h false b (made (element_content name attributes) t) way_v
 
   c_known : 0 < count_of t.trees c
   c_known = omega (arith, inside, total-without (λ m _. cond (eqb m c) 1 0) t.trees 0)
@@ -186,13 +185,13 @@ module _ (s : State) (h : ℕ) (b : Began s h) (t : State) (way : Underway s h f
       by None e = absurd (true≢false (sym editable ∙ root_uneditable e))
       by (Some p) e = (p, e)
 
-  child_v : parent_of (made (Element name attributes) t).trees c ≡ Some up.0
+  child_v : parent_of (made (element_content name attributes) t).trees c ≡ Some up.0
   unfolding made
-  child_v = parent_of-with_leaf t.trees t.next (Element name attributes) new_t c ∙ up.1
+  child_v = parent_of-with_leaf t.trees t.next (element_content name attributes) new_t c ∙ up.1
 
-  inside_v : (l : ℕ) → IsWithin t.trees 0 l → IsWithin (made (Element name attributes) t).trees 0 l
+  inside_v : (l : ℕ) → IsWithin t.trees 0 l → IsWithin (made (element_content name attributes) t).trees 0 l
   unfolding made
-  inside_v l i = within-with_leaf t.trees t.next is_t.forest t.next l (Element name attributes) i
+  inside_v l i = within-with_leaf t.trees t.next is_t.forest t.next l (element_content name attributes) i
 
   near_c : Near s h false b c
   near_c = open_near s h false b t way c (editable_open t c editable)
@@ -204,14 +203,14 @@ module _ (s : State) (h : ℕ) (b : Began s h) (t : State) (way : Underway s h f
       let hosted : is_editable t.trees h l ≡ true = ap (λ (o : Option ℕ). option_map_or (λ k. is_editable t.trees k l) o false) (sym (host_way s h false b t way)) ∙ e in
       (editable_below t.trees is_t.forest.distinct l h (label_is (editing_host t.trees l) h hosted)).1
 
-  editable_v : is_editable_for (made (Element name attributes) t) c ≡ true
-  editable_v = near_editable s h false b (made (Element name attributes) t) way_v c near_c (inside_v c inside) (off_host c editable)
+  editable_v : is_editable_for (made (element_content name attributes) t) c ≡ true
+  editable_v = near_editable s h false b (made (element_content name attributes) t) way_v c near_c (inside_v c inside) (off_host c editable)
 
-  open_p : is_open (made (Element name attributes) t) up.0 ≡ true
-  open_p = inside_open (made (Element name attributes) t) up.0 (parent_inside (made (Element name attributes) t) is_v c up.0 child_v editable_v)
+  open_p : is_open (made (element_content name attributes) t) up.0 ≡ true
+  open_p = inside_open (made (element_content name attributes) t) up.0 (parent_inside (made (element_content name attributes) t) is_v c up.0 child_v editable_v)
 
-  parent_p : is_parent_at (made (Element name attributes) t).trees up.0 ≡ true
-  parent_p = has_children (made (Element name attributes) t).trees (made (Element name attributes) t).next is_v.forest up.0 c child_v
+  parent_p : is_parent_at (made (element_content name attributes) t).trees up.0 ≡ true
+  parent_p = has_children (made (element_content name attributes) t).trees (made (element_content name attributes) t).next is_v.forest up.0 c child_v
 
   p_inside : IsWithin t.trees 0 up.0
   p_inside = within_above t.trees t.next is_t.forest up.0 c up.1 inside
@@ -220,71 +219,71 @@ module _ (s : State) (h : ℕ) (b : Began s h) (t : State) (way : Underway s h f
   p_known = (parent_count t.trees c up.0 is_t.forest.distinct up.1).1
 
   -- the new node has nothing below it, and no parent
-  leaf_off : (l : ℕ) → t.next ≢ l → count_of (tree_of (made (Element name attributes) t).trees t.next) l ≡ 0
-  leaf_off l off = leaf_apart t is_t (Element name attributes) l off
+  leaf_off : (l : ℕ) → t.next ≢ l → count_of (tree_of (made (element_content name attributes) t).trees t.next) l ≡ 0
+  leaf_off l off = leaf_apart t is_t (element_content name attributes) l off
 
-  leaf_there : 0 < count_of (made (Element name attributes) t).trees t.next
+  leaf_there : 0 < count_of (made (element_content name attributes) t).trees t.next
   unfolding made
   leaf_there =
       let own : eqb t.next t.next ≡ true = eq-eqb t.next t.next refl in
-      let all = total-with_leaf t.trees t.next (Element name attributes) new_t (λ m _. cond (eqb m t.next) 1 0) in
+      let all = total-with_leaf t.trees t.next (element_content name attributes) new_t (λ m _. cond (eqb m t.next) 1 0) in
       let all' = rw own at all in
       omega (arith, all')
 
-  leaf_loose : parent_of (made (Element name attributes) t).trees t.next ≡ None
+  leaf_loose : parent_of (made (element_content name attributes) t).trees t.next ≡ None
   unfolding made
-  leaf_loose = ap (option_and_then (λ (x : Seen Content). x.parent)) (seek-with_leaf_new t.trees t.next (Element name attributes) new_t)
+  leaf_loose = ap (option_and_then (λ (x : Seen Content). x.parent)) (seek-with_leaf_new t.trees t.next (element_content name attributes) new_t)
 
   -- the place is that after c
-  place : is_place (made (Element name attributes) t).trees up.0 (next_of (made (Element name attributes) t).trees c) t.next ≡ true
-  place = by (next_of (made (Element name attributes) t).trees c) refl
+  place : is_place (made (element_content name attributes) t).trees up.0 (next_of (made (element_content name attributes) t).trees c) t.next ≡ true
+  place = by (next_of (made (element_content name attributes) t).trees c) refl
     where
-      by : (o : Option ℕ) → next_of (made (Element name attributes) t).trees c ≡ o → is_place (made (Element name attributes) t).trees up.0 o t.next ≡ true
+      by : (o : Option ℕ) → next_of (made (element_content name attributes) t).trees c ≡ o → is_place (made (element_content name attributes) t).trees up.0 o t.next ≡ true
       by None e = refl
       by (Some k) e =
-          let f = (made (Element name attributes) t).trees in
+          let f = (made (element_content name attributes) t).trees in
           let child = parent_of-next f is_v.forest.distinct c k up.0 child_v e in
           let off : eqb k t.next ≡ false = ne_eqb k t.next (λ q. (let n : Some up.0 ≡ None = sym child ∙ (ap (parent_of f) q ∙ leaf_loose) in cc)) in
           rw (child, eq-eqb up.0 up.0 refl, off) refl
 
-  may : is_made_edit (Insert up.0 (next_of (made (Element name attributes) t).trees c) t.next) (made (Element name attributes) t) ≡ true
+  may : is_made_edit (Insert up.0 (next_of (made (element_content name attributes) t).trees c) t.next) (made (element_content name attributes) t) ≡ true
   unfolding is_made_edit may_insert
   may =
-      let f = (made (Element name attributes) t).trees in
+      let f = (made (element_content name attributes) t).trees in
       let there = lt-ltb 0 (count_of f t.next) leaf_there in
       let first = is_t.forest.below 0 is_t.forest.document in
       let inner : eqb t.next 0 ≡ false = ne_eqb t.next 0 (λ e. omega (arith, first, e)) in
       let apart : is_within f t.next up.0 ≡ false = le-ltb 0 (count_of (tree_of f t.next) up.0) (omega (arith, leaf_off up.0 (off_old up.0 p_known))) in
       rw (there, inner, leaf_loose, parent_p, apart, place, open_p) refl
 
-  can : CanPut (made (Element name attributes) t).trees up.0 (next_of (made (Element name attributes) t).trees c) t.next
+  can : CanPut (made (element_content name attributes) t).trees up.0 (next_of (made (element_content name attributes) t).trees c) t.next
   unfolding is_made_edit
-  can = (inserts (made (Element name attributes) t) up.0 (next_of (made (Element name attributes) t).trees c) t.next may).can
+  can = (inserts (made (element_content name attributes) t) up.0 (next_of (made (element_content name attributes) t).trees c) t.next may).can
 
   -- ---- the state in which it has been put
 
-  put_is : final (insert_after c t.next) (made (Element name attributes) t) ≡ edited (Insert up.0 (next_of (made (Element name attributes) t).trees c) t.next) (made (Element name attributes) t)
-  put_is = after_is c t.next (made (Element name attributes) t) (Some up.0) child_v
+  put_is : final (insert_after c t.next) (made (element_content name attributes) t) ≡ edited (Insert up.0 (next_of (made (element_content name attributes) t).trees c) t.next) (made (element_content name attributes) t)
+  put_is = after_is c t.next (made (element_content name attributes) t) (Some up.0) child_v
 
-  trees_put : (final (insert_after c t.next) (made (Element name attributes) t)).trees ≡ link (made (Element name attributes) t).trees up.0 (next_of (made (Element name attributes) t).trees c) t.next
+  trees_put : (final (insert_after c t.next) (made (element_content name attributes) t)).trees ≡ link (made (element_content name attributes) t).trees up.0 (next_of (made (element_content name attributes) t).trees c) t.next
   unfolding trees_after
-  trees_put = ap (λ (w : State). w.trees) put_is ∙ trees_made (Insert up.0 (next_of (made (Element name attributes) t).trees c) t.next) (made (Element name attributes) t) may
+  trees_put = ap (λ (w : State). w.trees) put_is ∙ trees_made (Insert up.0 (next_of (made (element_content name attributes) t).trees c) t.next) (made (element_content name attributes) t) may
 
-  way_edited : Underway s h false (edited (Insert up.0 (next_of (made (Element name attributes) t).trees c) t.next) (made (Element name attributes) t))
+  way_edited : Underway s h false (edited (Insert up.0 (next_of (made (element_content name attributes) t).trees c) t.next) (made (element_content name attributes) t))
   unfolding acted
-  way_edited = record { way = onward way_v.way (action.Change (Insert up.0 (next_of (made (Element name attributes) t).trees c) t.next)); leaves = (way_v.leaves, tt) }
+  way_edited = record { way = onward way_v.way (action.Change (Insert up.0 (next_of (made (element_content name attributes) t).trees c) t.next)); leaves = (way_v.leaves, tt) }
 
-  pub way_put : Underway s h false (final (insert_after c t.next) (made (Element name attributes) t))
+  pub way_put : Underway s h false (final (insert_after c t.next) (made (element_content name attributes) t))
   way_put = subst (λ w. Underway s h false w) (sym put_is) way_edited
 
   -- c keeps its tree
-  same_v : tree_of (made (Element name attributes) t).trees c ≡ tree_of t.trees c
+  same_v : tree_of (made (element_content name attributes) t).trees c ≡ tree_of t.trees c
   unfolding made
-  same_v = tree_of-with_leaf_other t.trees t.next c (Element name attributes) (off_old c c_known)
+  same_v = tree_of-with_leaf_other t.trees t.next c (element_content name attributes) (off_old c c_known)
 
-  pub same_put : tree_of (final (insert_after c t.next) (made (Element name attributes) t)).trees c ≡ tree_of t.trees c
+  pub same_put : tree_of (final (insert_after c t.next) (made (element_content name attributes) t)).trees c ≡ tree_of t.trees c
   same_put =
-      let f = (made (Element name attributes) t).trees in
+      let f = (made (element_content name attributes) t).trees in
       let once = is_v.forest.distinct in
       let known = (parent_count f c up.0 once child_v).0 in
       let out : count_of (tree_of f c) up.0 ≡ 0 = elim (none_or_some (count_of (tree_of f c) up.0)) [
@@ -293,56 +292,56 @@ module _ (s : State) (h : ℕ) (b : Began s h) (t : State) (way : Underway s h f
       ] in
       ap (λ g. tree_of g c) trees_put ∙ (link_elsewhere f up.0 (next_of f c) t.next c once can known out ∙ same_v)
 
-  pub inside_put : (l : ℕ) → IsWithin t.trees 0 l → IsWithin (final (insert_after c t.next) (made (Element name attributes) t)).trees 0 l
+  pub inside_put : (l : ℕ) → IsWithin t.trees 0 l → IsWithin (final (insert_after c t.next) (made (element_content name attributes) t)).trees 0 l
   inside_put l i =
-      let f = (made (Element name attributes) t).trees in
-      subst (λ g. IsWithin g 0 l) (sym trees_put) (within-link f (made (Element name attributes) t).next is_v.forest up.0 (next_of f c) t.next l can (inside_v l i))
+      let f = (made (element_content name attributes) t).trees in
+      subst (λ g. IsWithin g 0 l) (sym trees_put) (within-link f (made (element_content name attributes) t).next is_v.forest up.0 (next_of f c) t.next l can (inside_v l i))
 
-  pub new_inside : IsWithin (final (insert_after c t.next) (made (Element name attributes) t)).trees 0 t.next
+  pub new_inside : IsWithin (final (insert_after c t.next) (made (element_content name attributes) t)).trees 0 t.next
   new_inside =
-      let f = (made (Element name attributes) t).trees in
+      let f = (made (element_content name attributes) t).trees in
       let g = link f up.0 (next_of f c) t.next in
-      let w = final (insert_after c t.next) (made (Element name attributes) t) in
+      let w = final (insert_after c t.next) (made (element_content name attributes) t) in
       let is_w = valid_way s h false b w way_put in
       let held : IsWithin g up.0 t.next = holds-link f up.0 (next_of f c) t.next t.next is_v.forest.distinct can (within_self f t.next is_v.forest.distinct leaf_there) in
       within_trans w.trees 0 up.0 t.next is_w.forest.distinct (inside_put up.0 p_inside) (subst (λ k. IsWithin k up.0 t.next) (sym trees_put) held)
 
-  new_element : is_parent_at (made (Element name attributes) t).trees t.next ≡ true
+  new_element : is_parent_at (made (element_content name attributes) t).trees t.next ≡ true
   unfolding made
-  new_element = ap (λ (o : Option Content). option_map_or may_have_children o false) (content_of-with_leaf_new t.trees t.next (Element name attributes) new_t)
+  new_element = ap (λ (o : Option Content). option_map_or may_have_children o false) (content_of-with_leaf_new t.trees t.next (element_content name attributes) new_t)
 
-  pub new_parent : is_parent_at (final (insert_after c t.next) (made (Element name attributes) t)).trees t.next ≡ true
+  pub new_parent : is_parent_at (final (insert_after c t.next) (made (element_content name attributes) t)).trees t.next ≡ true
   new_parent =
-      let f = (made (Element name attributes) t).trees in
+      let f = (made (element_content name attributes) t).trees in
       subst (λ g. is_parent_at g t.next ≡ true) (sym trees_put) (ap (λ (o : Option Content). option_map_or may_have_children o false) (content_of-link f up.0 (next_of f c) t.next t.next is_v.forest.distinct can) ∙ new_element)
 
-  old_element : (l : ℕ) → 0 < count_of t.trees l → is_parent_at t.trees l ≡ true → is_parent_at (made (Element name attributes) t).trees l ≡ true
+  old_element : (l : ℕ) → 0 < count_of t.trees l → is_parent_at t.trees l ≡ true → is_parent_at (made (element_content name attributes) t).trees l ≡ true
   unfolding made
-  old_element l some e = ap (λ (o : Option Content). option_map_or may_have_children o false) (content_of-with_leaf_other t.trees t.next (Element name attributes) l new_t (off_old l some)) ∙ e
+  old_element l some e = ap (λ (o : Option Content). option_map_or may_have_children o false) (content_of-with_leaf_other t.trees t.next (element_content name attributes) l new_t (off_old l some)) ∙ e
 
   -- what could have children still can
-  pub parent_put : (l : ℕ) → 0 < count_of t.trees l → is_parent_at t.trees l ≡ true → is_parent_at (final (insert_after c t.next) (made (Element name attributes) t)).trees l ≡ true
+  pub parent_put : (l : ℕ) → 0 < count_of t.trees l → is_parent_at t.trees l ≡ true → is_parent_at (final (insert_after c t.next) (made (element_content name attributes) t)).trees l ≡ true
   parent_put l some e =
-      let f = (made (Element name attributes) t).trees in
+      let f = (made (element_content name attributes) t).trees in
       subst (λ g. is_parent_at g l ≡ true) (sym trees_put) (ap (λ (o : Option Content). option_map_or may_have_children o false) (content_of-link f up.0 (next_of f c) t.next l is_v.forest.distinct can) ∙ old_element l some e)
 
   -- ---- the test of the action
 
   module _ (q : Point) (editable_q : is_editable_for t q.label ≡ true) (q_below : IsWithin t.trees c q.label) (q_inside : IsWithin t.trees 0 q.label) (q_parent : is_parent_at t.trees q.label ≡ true) where
-    editable_put : (l : ℕ) → is_editable_for t l ≡ true → IsWithin t.trees 0 l → is_editable_for (final (insert_after c t.next) (made (Element name attributes) t)) l ≡ true
-    editable_put l e i = near_editable s h false b (final (insert_after c t.next) (made (Element name attributes) t)) way_put l (open_near s h false b t way l (editable_open t l e)) (inside_put l i) (off_host l e)
+    editable_put : (l : ℕ) → is_editable_for t l ≡ true → IsWithin t.trees 0 l → is_editable_for (final (insert_after c t.next) (made (element_content name attributes) t)) l ≡ true
+    editable_put l e i = near_editable s h false b (final (insert_after c t.next) (made (element_content name attributes) t)) way_put l (open_near s h false b t way l (editable_open t l e)) (inside_put l i) (off_host l e)
 
-    made_put : is_made (final (insert_after c t.next) (made (Element name attributes) t)) t.next ≡ true
+    made_put : is_made (final (insert_after c t.next) (made (element_content name attributes) t)) t.next ≡ true
     unfolding is_made
     made_put =
-        let w = final (insert_after c t.next) (made (Element name attributes) t) in
+        let w = final (insert_after c t.next) (made (element_content name attributes) t) in
         let same : w.start ≡ t.start = start_way s h false b w way_put ∙ sym (start_way s h false b t way) in
         le-leb w.start t.next (omega (arith, same, is_t.started))
 
-    pub extracts : may_extract (final (insert_after c t.next) (made (Element name attributes) t)) q c t.next ≡ true
+    pub extracts : may_extract (final (insert_after c t.next) (made (element_content name attributes) t)) q c t.next ≡ true
     unfolding may_extract
     extracts =
-        let w = final (insert_after c t.next) (made (Element name attributes) t) in
+        let w = final (insert_after c t.next) (made (element_content name attributes) t) in
         let f = w.trees in
         let keeps : w.keeping ≡ false = keeping_way s h false b w way_put in
         let end_in = lt-ltb 0 (count_of (tree_of f 0) c) (inside_put c inside) in

@@ -4,7 +4,6 @@ use Rattle.std.specs.Prelude.{nat_lt, codes}
 use Rattle.std.specs.Option.{option_map_or}
 use Rattle.std.proofs.lemmas.Bool.{and_parts, cases_Bool, lt-ltb, le-ltb, ltb-true, le-leb}
 use Rattle.dom_model.specs.AttributeList.{unset_in}
-use Rattle.dom_model.specs.declared.Content.TheVariants.{Element}
 use Rattle.dom_model.specs.declared.attributes.Attribute.{Attribute}
 use Rattle.dom_model.specs.Editing.{editing_host, is_editable}
 use Rattle.dom_model.specs.Forest.{count_of, tree_of, IsWithin}
@@ -18,7 +17,7 @@ use Rattle.edit_model.specs.State.{State}
 use Rattle.edit_model.specs.Compositions.{attribute_list_of}
 use Rattle.edit_model.specs.Confined.{is_editable_for, is_made}
 use Rattle.edit_model.specs.Action as action
-use Rattle.edit_model.specs.Action.{made, acted, extracted}
+use Rattle.edit_model.specs.Action.{made, element_content, acted, extracted}
 use Rattle.edit_model.specs.History.{begun}
 use Rattle.edit_model.specs.Laws.{LeavesStates}
 use Rattle.edit_model.specs.Moves.{insert_after}
@@ -75,12 +74,12 @@ module _ (s : State) (h : ℕ) (b : Began s h) where
     Attributes = unset_in (attribute_list_of t.trees c) (codes "id")
 
     abbrev Put : State
-    Put = final (insert_after c t.next) (made (Element Name Attributes) t)
+    Put = final (insert_after c t.next) (made (element_content Name Attributes) t)
 
     around : Around t.trees t.next is_t.forest p.label (parting_point t p).label
     around = parting_around t is_t p.label p (record { inside = placed.inside; holds = within_self t.trees p.label is_t.forest.distinct (parent_there t.trees p.label good.parent); parent = good.parent })
 
-    made_is : final (make_second Q c) t ≡ made (Element Name Attributes) t
+    made_is : final (make_second Q c) t ≡ made (element_content Name Attributes) t
     unfolding make_second
     made_is = final-look _ t ∙ final-make_element Name Attributes t
 
@@ -88,11 +87,11 @@ module _ (s : State) (h : ℕ) (b : Began s h) where
     unfolding make_second
     label_is_next = value-look _ t ∙ value-make_element Name Attributes t
 
-    valid_made_second : IsValid (made (Element Name Attributes) t)
+    valid_made_second : IsValid (made (element_content Name Attributes) t)
     valid_made_second = subst IsValid made_is (final_valid (make_second Q c) t is_t)
 
     valid_put : IsValid Put
-    valid_put = final_valid (insert_after c t.next) (made (Element Name Attributes) t) valid_made_second
+    valid_put = final_valid (insert_after c t.next) (made (element_content Name Attributes) t) valid_made_second
 
     q_known : 0 < count_of t.trees Q.label
     q_known = let i = around.inside in omega (arith, i, total-without (λ m _. cond (eqb m Q.label) 1 0) t.trees 0)
@@ -103,7 +102,7 @@ module _ (s : State) (h : ℕ) (b : Began s h) where
     outside : is_within t.trees c Q.label ≡ false → extracted Q c t.next Put ≡ extracted_singly Q c t.next Put
     outside out =
         let none : count_of (tree_of t.trees c) Q.label ≡ 0 = none_of (count_of (tree_of t.trees c) Q.label) out in
-        let none' = put_apart t is_t (Element Name Attributes) c Q.label off_next none valid_made_second in
+        let none' = put_apart t is_t (element_content Name Attributes) c Q.label off_next none valid_made_second in
         let out' : is_within Put.trees c Q.label ≡ false = le-ltb 0 (count_of (tree_of Put.trees c) Q.label) (omega (arith, none')) in
         nothing_extracted Put valid_put Q c t.next out' ∙ sym (nothing_singly Put valid_put Q c t.next out')
       where

@@ -243,7 +243,7 @@ module _ (s : State) (is : IsValid s) (from : Point) (test : State → ℕ → B
         tail_fits IsCopy (Goes k n) (λ p. n ≤ p) f once (n + 1) from (λ j. IsWithin f k j)
         (λ a b path up _. within_child f k once k_known b a up path)
         (λ a x path up. inl (within_child f k once k_known x a up path, λ e. parent_apart f k a once (ap (parent_of f) (sym e) ∙ up) path))
-        (λ j _. is_copy f j) (λ j more. inr (omega (arith, more))) (λ j more. omega (arith, more)) fuel k n (n + 1) (within_self f k once k_known) (omega arith) (omega arith)
+        (λ j _. is_copy f is.forest.nodes j) (λ j more. inr (omega (arith, more))) (λ j more. omega (arith, more)) fuel k n (n + 1) (within_self f k once k_known) (omega arith) (omega arith)
 
     frame_after : (fuel : ℕ) (v : State) → IsValid v → are_possible (tail_steps fuel f from k n (n + 1)) v ≡ true → Frame c k n v → Frame c k n (stepped_all (tail_steps fuel f from k n (n + 1)) v)
     frame_after fuel v is_v may h =
@@ -252,7 +252,7 @@ module _ (s : State) (is : IsValid s) (from : Point) (test : State → ℕ → B
         (tail_steps fuel f from k n (n + 1)) v (fits_below fuel) may is_v h
 
   plain : (fuel c d n : ℕ) → AllOf (Fits IsCopy (λ _. Unit {0}) (λ _. Unit {0})) (tail_steps fuel f from c d n)
-  plain fuel c d n = tail_fits IsCopy (λ _. Unit {0}) (λ _. Unit {0}) f once 0 from (λ _. Unit {0}) (λ _ _ _ _ _. tt) (λ _ _ _ _. tt) (λ j _. is_copy f j) (λ _ _. tt) (λ _ _. tt) fuel c d n tt tt (omega arith)
+  plain fuel c d n = tail_fits IsCopy (λ _. Unit {0}) (λ _. Unit {0}) f once 0 from (λ _. Unit {0}) (λ _ _ _ _ _. tt) (λ _ _ _ _. tt) (λ j _. is_copy f is.forest.nodes j) (λ _ _. tt) (λ _ _. tt) fuel c d n tt tt (omega arith)
 
   module _ (c d : ℕ) (u : State) (h : Stage c d u) where
     once_u : IsDistinct u.trees
@@ -320,7 +320,7 @@ module _ (s : State) (is : IsValid s) (from : Point) (test : State → ℕ → B
           (content_held k in_c)
 
       valid_v : IsValid (made (copy_of f k) u)
-      valid_v = valid_copied (copy_of f k) u (is_copy f k) h.valid
+      valid_v = valid_copied (copy_of f k) u (is_copy f is.forest.nodes k) h.valid
 
       off_new : (y : ℕ) → 0 < count_of f y → u.next ≢ y
       off_new y some e = let b = low y some in let more = h.later_labels in omega (arith, b, more, e)

@@ -23,7 +23,7 @@ use Rattle.edit_model.specs.Compositions.{characters_of, points_sent, split_unde
 use Rattle.edit_model.specs.Confined.{is_inside, may_select}
 use Rattle.edit_model.specs.Edit.{Edit, Insert, Remove, Move, Replace, Set, Unset, is_made_edit, trees_after, with_replaced, with_set, with_unset, changed}
 use Rattle.edit_model.specs.Action as action
-use Rattle.edit_model.specs.Action.{Action, made, words_content, with_selection, selected, extended, acted}
+use Rattle.edit_model.specs.Action.{Action, made, words_content, with_selection, selected, extended, acted, element_content}
 use Rattle.edit_model.specs.Run.{Reaches, here, onward, reaches_trans, Run, ◌>>◌, final, answer, done, look, send, grow}
 use Rattle.edit_model.specs.Valid.{IsValid, IsPlacedPair}
 use Rattle.edit_model.proofs.Documents.{within-link, within-with_leaf, within-revised, within-move, within_above, has_children, index_below}
@@ -76,7 +76,7 @@ remains_acted (action.Change e) u l is r inside = elim (cases_Bool (is_made_edit
   | inl may ↦ subst (λ f. IsWithin f 0 l) (sym (trees_made e u may)) (remains_edit e u l is r may inside)
   | inr off ↦ subst (λ f. IsWithin f 0 l) (sym (trees_left e u off)) inside
 ]
-remains_acted (action.MakeElement name attributes) u l is r inside = within-with_leaf u.trees u.next is.forest u.next l (Element name attributes) inside
+remains_acted (action.MakeElement name attributes) u l is r inside = within-with_leaf u.trees u.next is.forest u.next l (element_content name attributes) inside
 remains_acted (action.MakeWords chars) u l is r inside = within-with_leaf u.trees u.next is.forest u.next l (words_content chars) inside
 remains_acted (action.Select anchor focus) u l is r inside = subst (λ f. IsWithin f 0 l) (sym (trees-selected anchor focus u)) inside
 remains_acted (action.Extend focus) u l is r inside = subst (λ f. IsWithin f 0 l) (sym (trees-extended u.points.selection focus u)) inside
@@ -88,7 +88,7 @@ remains_acted (action.Override command setting) u l is r inside = inside
 remains_acted (action.Flag flags) u l is r inside = inside
 remains_acted (action.Extract from end target) u l is r inside = document_extracted from end target u l is inside
 
-remains_along : {u t : State} (r : Reaches u t) (l : ℕ) → IsValid u → EachOn Remaining r → IsWithin u.trees 0 l → IsWithin t.trees 0 l
+pub remains_along : {u t : State} (r : Reaches u t) (l : ℕ) → IsValid u → EachOn Remaining r → IsWithin u.trees 0 l → IsWithin t.trees 0 l
 remains_along here l is each inside = inside
 remains_along (onward {t = t} q a) l is each inside = remains_acted a t l (valid_along q is) each.1 (remains_along q l is each.0 inside)
 
@@ -108,7 +108,7 @@ each_under p s n at =
     each_bind Remaining _ _ (each_edit Remaining (Replace n at (length (characters_of s.trees n) - at) []) (λ _ _. tt)) (λ _.
     each_answer Remaining tail))))
 
-each_split : (n at : ℕ) → Each Remaining (split_words n at)
+pub each_split : (n at : ℕ) → Each Remaining (split_words n at)
 unfolding split_words
 each_split n at = each_look Remaining _ (λ s is. each_given Remaining (parent_of s.trees n) (answer n) _ (each_answer Remaining n) (λ p. each_under p s n at))
 
@@ -137,7 +137,7 @@ split_is p t = final-bind _ _ t
 abbrev IsText : Option Content → Bool
 IsText o = option_map_or has_chars o false
 
-words_chars : (o : Option Content) → option_map_or is_words_content o false ≡ true → option_map_or has_chars o false ≡ true
+pub words_chars : (o : Option Content) → option_map_or is_words_content o false ≡ true → option_map_or has_chars o false ≡ true
 words_chars None h = h
 words_chars (Some Document) h = absurd (true≢false (sym h))
 words_chars (Some (Element name attributes)) h = absurd (true≢false (sym h))
@@ -157,7 +157,7 @@ host_is_element (Words chars) h = absurd (true≢false (sym h))
 host_is_element (Remark chars) h = absurd (true≢false (sym h))
 
 -- a node keeps its kind, so a text stays one
-text_kind : (f g : Forest Content) (l : ℕ) → kind_of g l ≡ kind_of f l → has_chars_at f l ≡ true → has_chars_at g l ≡ true
+pub text_kind : (f g : Forest Content) (l : ℕ) → kind_of g l ≡ kind_of f l → has_chars_at f l ≡ true → has_chars_at g l ≡ true
 text_kind f g l same h = by (content_of f l) (content_of g l) same h
   where
     of_kind : Kind → Bool
@@ -192,12 +192,12 @@ module _ (s : State) (h : ℕ) (b : Began s h) (v : State) (way : Underway s h f
   content_p = let x = seen v.trees p.label is_v.forest.distinct known in (x.0.content, ap (option_map (λ (y : Seen Content). y.content)) x.2)
 
   -- what the selection is collapsed to
-  record Lands (x : Point) : Type 0 where
-    placed : is_placed v.trees x ≡ true
-    good : Good s h false b v x.label
+  pub record Lands (x : Point) : Type 0 where
+    pub placed : is_placed v.trees x ≡ true
+    pub good : Good s h false b v x.label
 
   -- the parent of a text or comment
-  lands_up : (q : ℕ) (o : ℕ) → has_chars_at v.trees p.label ≡ true → parent_of v.trees p.label ≡ Some q → o ≤ index_of v.trees p.label + 1 → Lands (record { label = q; offset = o })
+  pub lands_up : (q : ℕ) (o : ℕ) → has_chars_at v.trees p.label ≡ true → parent_of v.trees p.label ≡ Some q → o ≤ index_of v.trees p.label + 1 → Lands (record { label = q; offset = o })
   lands_up q o chars child low =
       let f = v.trees in
       let off : p.label ≢ h = λ e. (
@@ -219,7 +219,7 @@ module _ (s : State) (h : ℕ) (b : Began s h) (v : State) (way : Underway s h f
       }
 
   -- a text or comment of the document has a parent
-  text_child : has_chars_at v.trees p.label ≡ true → (q : ℕ) × (parent_of v.trees p.label ≡ Some q)
+  pub text_child : has_chars_at v.trees p.label ≡ true → (q : ℕ) × (parent_of v.trees p.label ≡ Some q)
   text_child chars = by (parent_of v.trees p.label) refl
     where
       by : (o : Option ℕ) → parent_of v.trees p.label ≡ o → (q : ℕ) × (parent_of v.trees p.label ≡ Some q)
@@ -236,7 +236,7 @@ module _ (s : State) (h : ℕ) (b : Began s h) (v : State) (way : Underway s h f
   childless : has_chars_at v.trees p.label ≡ true → parent_of v.trees p.label ≡ None → ⊥
   childless chars root = let c = text_child chars in let e : None ≡ Some c.0 = sym root ∙ c.1 in cc
 
-  here_lands : has_chars_at v.trees p.label ≡ false → Lands p
+  pub here_lands : has_chars_at v.trees p.label ≡ false → Lands p
   here_lands none = record {
     placed = placed_from v.trees p (record { inside = inside; fits = fits none });
     good = record {

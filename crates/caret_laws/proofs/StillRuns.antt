@@ -18,7 +18,7 @@ use Rattle.edit_model.specs.State.{State}
 use Rattle.edit_model.specs.Confined.{is_open, may_grow, may_select}
 use Rattle.edit_model.specs.Edit.{Edit, Insert, Remove, Move, Replace, Set, Unset, is_made_edit, points_after, index_before, parent_or_0, changed, with_change, edited}
 use Rattle.edit_model.specs.Action as action
-use Rattle.edit_model.specs.Action.{Action, made, words_content, grown, scratched, acted}
+use Rattle.edit_model.specs.Action.{Action, made, words_content, grown, scratched, acted, element_content}
 use Rattle.edit_model.specs.Laws.{LeavesStates}
 use Rattle.edit_model.specs.Run.{Reaches, here, onward, Run, ◌>>=◌, answer, look, given, for_each, final, edit, make_element, perform}
 use Rattle.edit_model.proofs.Documents.{has_children}
@@ -267,7 +267,7 @@ module _ (s : State) (h : ℕ) (keeping : Bool) (b : Began s h) where
     selects_acted : (a : Action) → IsStill a → Selects u → Selects (acted a u)
     unfolding acted
     selects_acted (action.Change e) still sel = selects_edit e sel
-    selects_acted (action.MakeElement name attributes) still sel = same_points (action.MakeElement name attributes) (made_points (Element name attributes)) sel
+    selects_acted (action.MakeElement name attributes) still sel = same_points (action.MakeElement name attributes) (made_points (element_content name attributes)) sel
     selects_acted (action.MakeWords chars) still sel = same_points (action.MakeWords chars) (made_points (words_content chars)) sel
     selects_acted (action.Select anchor focus) still sel = absurd still
     selects_acted (action.Extend focus) still sel = absurd still

@@ -3,4 +3,8 @@ pub mod TailRun
 pub mod TailLaws
 pub mod SingleParagraph
 pub mod ParagraphLaws
+pub mod SolidOrder
+pub mod ErasingLaws
 pub mod LineBreakLaws
+pub mod ImageLaws
+pub mod TypingLaws
