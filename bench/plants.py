@@ -1,10 +1,11 @@
 #!/usr/bin/env python3
 """Which wrong bodies the contracts of crates let through, compared with docs/OPEN.md: bench/plants.py [--minutes N] [CRATE ..]
 
-Without names it tries every crate that OPEN.md has a table of. In each crate it runs `rt plant`, which puts wrong bodies in place of
+Without names it tries every crate that OPEN.md says was tried. In each crate it runs `rt plant`, which puts wrong bodies in place of
 public functions and prints those that their contracts don't refuse. Each has to have its row in OPEN.md, with the reason why it may
-stay. The status is 1 where one has no row, or where a row's body is refused by now. `rt plant` proves the crate first, so this takes as
-long as the crate's proof, and a few seconds for each function.
+stay. A law, a function whose own body is empty, gets no plants and needs no row. The status is 1 where a wrong body has no row, or where
+a row's body is refused by now. `rt plant` proves the crate first, so this takes as long as the crate's proof, and a few seconds for each
+function.
 """
 import argparse
 import re
@@ -14,23 +15,29 @@ from pathlib import Path
 
 ROOT = Path(__file__).resolve().parent.parent
 LIST = ROOT / "docs" / "OPEN.md"
-SURVIVOR = re.compile(r"(proves|no-ensures|untested)\s+(src/\S+):\d+ (.*)")
+SURVIVOR = re.compile(r"(proves|no-ensures|untested)\s+(src/\S+):(\d+) (.*)")
 REASON = re.compile(r"  \((?:and in \d+ more impls|[^(){}]*)\)$")
 
 
 def read_list():
-    """The rows of OPEN.md: by crate, the calls with the bodies that they may have."""
-    rows, crate = {}, None
+    """What OPEN.md says of each crate that was tried: the calls with the bodies that they may have."""
+    rows, crate, by_plants = {}, None, False
     for line in LIST.read_text(encoding="utf-8").splitlines():
         if line.startswith("## "):
-            crate = None
+            by_plants, crate = line == "## By plants", None
         elif line.startswith("### "):
             crate = line[4:]
-            rows[crate] = set()
-        elif crate and line.startswith("| `"):
-            cells = [cell.strip().strip("`").replace("\\|", "|") for cell in re.split(r"(?<!\\)\|", line)[1:-1]]
-            rows[crate].add((cells[0], cells[1]))
+        elif by_plants and line.startswith("| `"):
+            first, second = [cell.strip().replace("\\|", "|") for cell in re.split(r"(?<!\\)\|", line)[1:3]]
+            names = re.findall("`([^`]+)`", first)
+            rows.setdefault(crate or names[0], set()).update((call, second.strip("`")) for call in names if crate)
     return rows
+
+
+def is_law(file, line):
+    """Whether the function at this line has an empty body."""
+    rest = map(str.strip, file.read_text(encoding="utf-8").splitlines()[line:])
+    return next((it for it in rest if it.startswith("{")), "") == "{}"
 
 
 def survivors(crate, minutes):
@@ -41,9 +48,10 @@ def survivors(crate, minutes):
     if ran.returncode or f"plants crate={crate} " not in ran.stdout:
         sys.exit(f"bench/plants.py: {crate} could not be planted: {ran.stderr.strip()[-400:]}")
     found = set()
-    for kind, _, text in (match.groups() for match in map(SURVIVOR.fullmatch, ran.stdout.splitlines()) if match):
+    for kind, file, line, text in (match.groups() for match in map(SURVIVOR.fullmatch, ran.stdout.splitlines()) if match):
         call, _, body = REASON.sub("", text).partition(": ")
-        found.add((call.removesuffix("()"), body if kind == "proves" else kind))
+        if kind != "untested" or not is_law(ROOT / "crates" / crate / file, int(line)):
+            found.add((call.removesuffix("()"), body if kind == "proves" else kind))
     return found
 
 
