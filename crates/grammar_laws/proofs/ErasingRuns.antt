@@ -1,5 +1,5 @@
 -- Deleting the selection keeps to the grammar.
-use Rattle.std.proofs.Common.{◌≡◌, ℕ, ◌+◌, ◌<◌, Bool, true, refl, arith, List, [], ◌∷◌, slice_get, Option, Some, None, IfSome}
+use Rattle.std.proofs.Common.{◌≡◌, ℕ, ◌+◌, Bool, true, refl, arith, List, [], ◌∷◌, slice_get, Option, Some, None, IfSome}
 use Rattle.live_range.specs.declared.places.Point.{Point}
 use Rattle.inline_value.specs.Recording.{Recorded, restore_values}
 use Rattle.edit_model.specs.Edit.{Replace}

@@ -4,10 +4,9 @@ use Rattle.std.specs.Prelude.{nat_lt, codes, ◌&&◌, if◌then◌else◌}
 use Rattle.std.proofs.lemmas.Bool.{and_parts}
 use Rattle.dom_model.specs.declared.Content.{Content}
 use Rattle.dom_model.specs.declared.Content.TheVariants.{Document, Element, Words, Remark}
-use Rattle.dom_model.specs.Change.{Change}
 use Rattle.dom_model.specs.declared.attributes.Attribute.{Attribute}
 use Rattle.dom_model.specs.AttributeList.{are_distinct}
-use Rattle.dom_model.specs.Contents.{is_parent_at, with_chars, with_attributes}
+use Rattle.dom_model.specs.Contents.{is_parent_at}
 use Rattle.dom_model.specs.Editing.{editing_host}
 use Rattle.dom_model.specs.Forest.{Forest, IsWithin, count_of, parent_of}
 use Rattle.dom_model.proofs.AttributeLemmas.{distinct-nothing}
@@ -18,7 +17,6 @@ use Rattle.live_range.specs.LivePoints.{LivePoints}
 use Rattle.live_range.specs.declared.places.Pair.{Pair}
 use Rattle.live_range.specs.declared.places.Point.{Point}
 use Rattle.point_order.specs.PointOrder.{is_in_document}
-use Rattle.forest_changes.specs.Change as forest
 use Rattle.forest_changes.specs.Named.{Each}
 use Rattle.edit_model.specs.State.{State}
 use Rattle.edit_model.specs.Confined.{is_editable_for, may_select, may_grow, may_send}
@@ -41,12 +39,12 @@ use Rattle.edit_model.proofs.TailRuns.{fit_steps}
 use Rattle.edit_model.proofs.TailOutside.{host_of}
 use Rattle.edit_model.proofs.TailStates.{host_between}
 use Rattle.making_laws.proofs.Named.{IsNamed, named_within}
-use Rattle.step_text.specs.StepLine.{is_attribute_name, IsTag}
-use Rattle.grammar_laws.specs.Proper.{AllNodes, IsText, IsList, IsProper, IsProperChange, IsProperSetting, IsProperNode, IsProperState}
+use Rattle.step_text.specs.StepLine.{is_attribute_name}
+use Rattle.grammar_laws.specs.Proper.{AllNodes, IsText, IsPageTag, IsProper, IsProperChange, IsProperSetting, IsProperNode, IsProperState}
 use Rattle.grammar_laws.specs.Runs.{IsProperEdit, IsProperAction, ProperOn}
 use Rattle.grammar_laws.proofs.Lists.{list_set, list_unset}
 use Rattle.grammar_laws.proofs.Nodes.{nodes_linked, nodes_unlinked, nodes_leaf, nodes_revised}
-use Rattle.grammar_laws.proofs.Reading.{tag_proper, list_proper, chars_proper}
+use Rattle.grammar_laws.proofs.Reading.{tag_proper, list_proper}
 use Rattle.grammar_laws.proofs.Texts.{each_if, each_append, each_replicate, each_set_at, text_spliced}
 
 -- ---- contents
@@ -59,13 +57,13 @@ replaced_proper at count put own (Remark chars) h = h
 
 set_proper : (name value : List ℕ) → is_attribute_name name ≡ true → IsText value → (c : Content) → IsProper c → IsProper (with_set name value c)
 set_proper name value named own Document h = tt
-set_proper name value named own (Element tag list) h = (let k = list_set list name value named own (h.1, h.2) in (h.0, k.0, k.1))
+set_proper name value named own (Element tag list) h = (let k = list_set list name value named own (h.0.1, h.0.2) in ((h.0.0, k.0, k.1), h.1))
 set_proper name value named own (Words chars) h = h
 set_proper name value named own (Remark chars) h = h
 
 unset_proper : (name : List ℕ) (c : Content) → IsProper c → IsProper (with_unset name c)
 unset_proper name Document h = tt
-unset_proper name (Element tag list) h = (let k = list_unset list name (h.1, h.2) in (h.0, k.0, k.1))
+unset_proper name (Element tag list) h = (let k = list_unset list name (h.0.1, h.0.2) in ((h.0.0, k.0, k.1), h.1))
 unset_proper name (Words chars) h = h
 unset_proper name (Remark chars) h = h
 
@@ -76,9 +74,9 @@ words_proper chars own = by_test (nat_lt (length chars) (2 ^ 32))
     by_test true = own
     by_test false = refl
 
-element_proper : (b : Bool) (name : List ℕ) (list : List Attribute) → IsTag name list → IsProper (Element name (if b then list else []))
+element_proper : (b : Bool) (name : List ℕ) (list : List Attribute) → IsPageTag name list → IsProper (Element name (if b then list else []))
 element_proper true name list own = own
-element_proper false name list own = (own.0, tt, distinct-nothing)
+element_proper false name list own = ((own.0.0, tt, distinct-nothing), own.1)
 
 -- ---- an edit
 
@@ -170,7 +168,7 @@ proper_scratched pair s p =
 
 copy_proper : (f : Forest Content) (k : ℕ) → AllNodes IsProper f → IsNamed f k → IsProper (copy_of f k)
 unfolding copy_of
-copy_proper f k h named = (let list = list_unset (attribute_list_of f k) (codes "id") (list_proper f h k) in (tag_proper f h k named, list.0, list.1))
+copy_proper f k h named = (let list = list_unset (attribute_list_of f k) (codes "id") (list_proper f h k) in let own = tag_proper f h k named in ((own.0, list.0, list.1), own.1))
 
 -- the node of the point may have children
 from_open : (s : State) (from : Point) (end target : ℕ) → may_extract s from end target ≡ true → is_parent_at s.trees from.label ≡ true
@@ -231,30 +229,3 @@ proper_acted (action.Extract from end target) s is h p = proper_extracted s from
 pub proper_along : {s t : State} (r : Reaches s t) → IsValid s → IsProperState s → ProperOn r → IsProperState t
 proper_along here is p h = p
 proper_along (onward {t = t} q a) is p h = proper_acted a t (valid_along q is) h.1 (proper_along q is p h.0)
-
--- ---- a change of a forest
-
-chars_put : (words : List ℕ) → IsText words → (c : Content) → IsProper c → IsProper (with_chars words c)
-chars_put words own Document h = tt
-chars_put words own (Element name list) h = h
-chars_put words own (Words chars) h = own
-chars_put words own (Remark chars) h = own
-
-list_put : (list : _) → IsList list → (c : Content) → IsProper c → IsProper (with_attributes list c)
-list_put list own Document h = tt
-list_put list own (Element name old) h = (h.0, own.0, own.1)
-list_put list own (Words chars) h = h
-list_put list own (Remark chars) h = h
-
-pub splice_text : (f : Forest Content) (n at count : ℕ) (put : List ℕ) → IsText put → AllNodes IsProper f → IsText (forest.spliced_at f n at count put)
-splice_text f n at count put h k = text_spliced _ at count put (chars_proper f k n) h
-
-pub nodes_applied : (x : Change) (f : Forest Content) → IsProperChange x → AllNodes IsProper f → AllNodes IsProper (forest.applied x f)
-unfolding forest.applied
-nodes_applied (forest.Remove n) f h k = nodes_unlinked IsProper f n k
-nodes_applied (forest.Insert n p b) f h k = nodes_linked IsProper f p b n k
-nodes_applied (forest.Move n p b) f h k = nodes_linked IsProper _ p b n (nodes_unlinked IsProper f n k)
-nodes_applied (forest.SetText n words) f h k = nodes_revised IsProper f n (with_chars words) (chars_put words h) k
-nodes_applied (forest.Splice n at rest taken put) f h k =
-    (let own = splice_text f n at (length taken) put h k in nodes_revised IsProper f n (with_chars (forest.spliced_at f n at (length taken) put)) (chars_put _ own) k)
-nodes_applied (forest.SetAttributes n list) f h k = nodes_revised IsProper f n (with_attributes list) (list_put list h) k

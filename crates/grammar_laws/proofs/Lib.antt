@@ -4,6 +4,7 @@ pub mod Lists
 pub mod Nodes
 pub mod Reading
 pub mod Keeping
+pub mod Spelled
 pub mod ProperRuns
 pub mod Styles
 pub mod Values

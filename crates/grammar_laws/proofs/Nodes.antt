@@ -1,5 +1,5 @@
 -- What holds of each node of a forest, as trees are moved, made and revised.
-use Rattle.std.proofs.Common.{◌≡◌, ℕ, Bool, true, false, cond, eqb, nat_lt, List, [], ◌∷◌, Option, Some, None, IfSome}
+use Rattle.std.proofs.Common.{ℕ, Bool, true, false, cond, eqb, nat_lt, List, [], ◌∷◌, Option, Some, None, IfSome}
 use Rattle.std.specs.Option.{option_map, option_or}
 use Rattle.dom_model.specs.Forest.{Forest, Seen, seek, either, tops, is_label, join, tree_of, without, put_before, put_under, put_rising, link, unlink, with_leaf, content_of}
 use Rattle.dom_model.specs.Forest.Forest.{Nil, Tree}
@@ -81,6 +81,12 @@ module _ {C : Type 0} (P : C → Type 0) where
       by_seen : (o : Option (Seen C)) → IfSome o (λ (s : Seen C). P s.content) → IfSome (option_map (λ (s : Seen C). s.content) o) P
       by_seen None g = tt
       by_seen (Some s) g = g
+
+-- ---- a property that another has in it
+
+pub nodes_also : {C : Type 0} (P Q : C → Type 0) → ((c : C) → P c → Q c) → (f : Forest C) → AllNodes P f → AllNodes Q f
+nodes_also P Q go Nil h = tt
+nodes_also P Q go (Tree l c ks rest) h = (go c h.0, nodes_also P Q go ks h.1, nodes_also P Q go rest h.2)
 
 -- ---- the ancestors of a node
 

@@ -17,14 +17,13 @@ use Rattle.edit_model.specs.Run.{Reaches, here, onward, reaches_trans, Run, fina
 use Rattle.edit_model.proofs.Steps.{value-bind, value-answer, value-look}
 use Rattle.edit_model.proofs.ValidRuns.{valid_along}
 use Rattle.forest_changes.specs.Named.{Each}
-use Rattle.step_text.specs.StepLine.{is_element_name}
 use Rattle.making_laws.specs.Names.{is_made_name, is_set_name}
 use Rattle.making_laws.proofs.TameRuns.{made_br}
 use Rattle.grammar_laws.specs.Proper.{IsText, IsList, IsProperState}
 use Rattle.grammar_laws.specs.Runs.{IsProperEdit, IsProperAction, ProperOn, Proper}
 use Rattle.grammar_laws.proofs.Keeping.{proper_along}
 use Rattle.grammar_laws.proofs.Lists.{list_none}
-use Rattle.grammar_laws.proofs.Names.{made_name, set_name}
+use Rattle.grammar_laws.proofs.Names.{IsPageName, made_name, set_name}
 use Rattle.grammar_laws.proofs.Reading.{list_proper, chars_proper}
 use Rattle.grammar_laws.proofs.Texts.{text_drop}
 
@@ -184,9 +183,9 @@ pub proper_words : (chars : List ℕ) → IsText chars → Proper (make_words ch
 unfolding make_words act
 proper_words chars h = record { stays = λ s is proper. (tt, h) }
 
-pub make_at : (s : State) (name : List ℕ) (attributes : List Attribute) → is_element_name name ≡ true → IsList attributes → At s (make_element name attributes)
+pub make_at : (s : State) (name : List ℕ) (attributes : List Attribute) → IsPageName name → IsList attributes → At s (make_element name attributes)
 unfolding make_element act
-make_at s name attributes h g = (tt, (h, g.0, g.1))
+make_at s name attributes h g = (tt, ((h.0, g.0, g.1), h.1))
 
 pub proper_make : (name : List ℕ) (attributes : List Attribute) → is_made_name name ≡ true → IsList attributes → Proper (make_element name attributes)
 proper_make name attributes h sets = record { stays = λ s is proper. make_at s name attributes (made_name name h) sets }

@@ -1,5 +1,5 @@
 -- Splitting the parent of a list keeps to the grammar: the parent that is copied is an element, since it has a child and is editable.
-use Rattle.std.proofs.Common.{◌≡◌, ℕ, ◌<◌, Bool, true, false, ◌&&◌, ◌||◌, not, if◌then◌else◌, List, [], ◌∷◌, Option, Some, None, is_none, refl, ◌∙◌}
+use Rattle.std.proofs.Common.{◌≡◌, ℕ, Bool, true, false, ◌&&◌, ◌||◌, not, if◌then◌else◌, List, [], ◌∷◌, Option, Some, None, is_none, refl, ◌∙◌}
 use Rattle.std.specs.Prelude.{codes}
 use Rattle.dom_model.specs.Forest.{either, first_in, last_in, parent_of, children_of}
 use Rattle.dom_model.proofs.Links.{parent_count}

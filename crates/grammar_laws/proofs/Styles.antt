@@ -1,5 +1,5 @@
 -- Declarations, colours and sizes whose texts are of scalar values.
-use Rattle.std.proofs.Common.{◌≡◌, ℕ, ◌+◌, ◌*◌, ◌-◌, ◌≤◌, ◌<◌, Bool, true, false, true≢false, cond, not, nat_lt, nat_le, List, [], ◌∷◌, ◌++◌, Option, Some, None, IfSome, refl, ◌∙◌, arith}
+use Rattle.std.proofs.Common.{◌≡◌, ℕ, ◌+◌, ◌*◌, ◌<◌, Bool, true, false, cond, not, nat_lt, nat_le, List, [], ◌∷◌, ◌++◌, Option, Some, None, IfSome, refl, arith}
 use Rattle.std.specs.Prelude.{◌/◌, ◌%◌, ◌&&◌, ◌||◌, ◌==◌, decimal, codes, bytes_eq, fold, if◌then◌else◌}
 use Rattle.std.specs.Char.{to_ascii_lowercase, is_ascii_digit, is_ascii_hexdigit}
 use Rattle.std.specs.List.{list_all, onto_first, slice_split}

@@ -34,11 +34,10 @@ use Rattle.inline_value.specs.Overrides.{overrides_of}
 use Rattle.delete_core.specs.declared.deletion.TheConstants.Manner.{KEEP_WRAPPERS}
 use Rattle.delete_core.specs.Whitespace.{canonicalize}
 use Rattle.making_laws.specs.Names.{made_names, is_made_name}
-use Rattle.step_text.specs.StepLine.{is_element_name}
 use Rattle.grammar_laws.specs.Proper.{IsText, IsProperState}
 use Rattle.grammar_laws.specs.Runs.{Proper}
 use Rattle.grammar_laws.proofs.Lists.{list_none, list_unset}
-use Rattle.grammar_laws.proofs.Names.{made_name}
+use Rattle.grammar_laws.proofs.Names.{IsPageName, made_name}
 use Rattle.grammar_laws.proofs.Reading.{tag_proper, list_proper}
 use Rattle.grammar_laws.proofs.Texts.{IsLetter, AreLetters, letters, text}
 use Rattle.grammar_laws.proofs.Values.{overrides_proper}
@@ -178,15 +177,15 @@ proper_put_second q c d = search (proper_parts, proper_insert_after, proper_clos
 -- ---- inserting a paragraph
 
 module _ (s : State) (is : IsValid s) (proper : IsProperState s) (c : ℕ) (named : IsNamed s.trees c) where
-  either_name : (b : Bool) (x y : List ℕ) → is_element_name x ≡ true → is_element_name y ≡ true → is_element_name (if b then x else y) ≡ true
+  either_name : (b : Bool) (x y : List ℕ) → IsPageName x → IsPageName y → IsPageName (if b then x else y)
   either_name true x y h g = h
   either_name false x y h g = g
 
   -- the second container has the name of the first, or a name that commands make
-  second_proper : (q : Point) → is_element_name (second_name s q c) ≡ true
+  second_proper : (q : Point) → IsPageName (second_name s q c)
   unfolding second_name name_after
   second_proper q =
-      let own : is_element_name (tag_of s.trees c) ≡ true = tag_proper s.trees proper.nodes c named in
+      let own : IsPageName (tag_of s.trees c) = tag_proper s.trees proper.nodes c named in
       either_name (ends_line s q c) _ _
       (either_name (is_heading_at s c) _ _ (made_name _ (made_container s.flags.paragraphs))
       (either_name (has_name s.trees c (codes "dt")) _ _ (made_name (codes "dd") made_dd)

@@ -1,6 +1,6 @@
 -- The values that are read of a state of the grammar are texts of scalar values.
-use Rattle.std.proofs.Common.{◌≡◌, ℕ, ◌+◌, Bool, true, false, cond, List, [], ◌∷◌, ◌++◌, Option, Some, None, IfSome, refl}
-use Rattle.std.specs.Prelude.{decimal, codes, unwrap_or, is_some, if◌then◌else◌}
+use Rattle.std.proofs.Common.{ℕ, ◌+◌, Bool, true, false, cond, List, [], ◌∷◌, Option, Some, None, IfSome, refl}
+use Rattle.std.specs.Prelude.{decimal, codes, unwrap_or, is_some}
 use Rattle.std.specs.List.{find, list_any}
 use Rattle.std.specs.Option.{option_map, option_map_or, option_and_then, option_or}
 use Rattle.dom_model.specs.declared.Content.{Content}
@@ -16,7 +16,6 @@ use Rattle.css_value.specs.SizeKeywords.{size_keyword}
 use Rattle.css_value.specs.TextDecoration.{line_word}
 use Rattle.css_value.specs.Numbers.{legacy_size}
 use Rattle.css_value.specs.Values.{font_weight_of, font_style_of, font_size_of, font_style_keyword, pixels_text}
-use Rattle.css_value.specs.declared.decoration.DecorationLine.TheVariants.{Underline}
 use Rattle.css_value.specs.declared.values.FontStyle.{FontStyle}
 use Rattle.css_value.specs.declared.values.FontStyle.TheVariants as font_style_values
 use Rattle.html_names.specs.declared.commands.Command.{Command}
@@ -66,7 +65,7 @@ IsValue o = IfSome o IsText
 attribute_text : (c : Content) (name : List ℕ) → IsProper c → IsValue (attribute c name)
 unfolding attribute
 attribute_text Document name h = tt
-attribute_text (Element tag list) name h = value_text list name h.1
+attribute_text (Element tag list) name h = value_text list name h.0.1
 attribute_text (Words chars) name h = tt
 attribute_text (Remark chars) name h = tt
 

@@ -1,7 +1,8 @@
 -- What the grammar of pages asks of the nodes of a document, and of what edits put into it: the names
--- of elements and attributes are its names in lower case, characters are scalar values, and no
--- element has two attributes of a name. Comments may have any characters of these.
-use Rattle.std.specs.Prelude.{◌≡◌, ℕ, List, true}
+-- of elements and attributes are its names in lower case, no element has a name that pages may not
+-- have, characters are scalar values, no comment has `-->` in it, and no element has two attributes
+-- of a name.
+use Rattle.std.specs.Prelude.{◌≡◌, ℕ, List, true, false}
 use Rattle.std.specs.Str.{all_scalars}
 use Rattle.dom_model.specs.declared.attributes.Attribute.{Attribute}
 use Rattle.dom_model.specs.declared.Content.{Content}
@@ -14,6 +15,8 @@ use Rattle.forest_changes.specs.Named.{Each}
 use Rattle.edit_model.specs.State.{State}
 use Rattle.edit_model.specs.declared.settings.Setting.{Setting}
 use Rattle.edit_model.specs.declared.settings.Setting.TheVariants.{Text}
+use Rattle.page_grammar.specs.Names.{is_refused}
+use Rattle.page_laws.specs.Writable.{HasNoClose}
 use Rattle.step_text.specs.StepLine.{AreAttributes, IsTag}
 
 -- each content of a forest has the property
@@ -28,11 +31,15 @@ IsText chars = all_scalars chars ≡ true
 abbrev pub IsList : List Attribute → Type 0
 IsList list = AreAttributes list × IsDistinctNames list
 
+-- a tag of an element that a page may have
+abbrev pub IsPageTag : List ℕ → List Attribute → Type 0
+IsPageTag name attributes = IsTag name attributes × (is_refused name ≡ false)
+
 abbrev pub IsProper : Content → Type 0
 IsProper Document = Unit {0}
-IsProper (Element name attributes) = IsTag name attributes
+IsProper (Element name attributes) = IsPageTag name attributes
 IsProper (Words chars) = IsText chars
-IsProper (Remark chars) = IsText chars
+IsProper (Remark chars) = IsText chars × HasNoClose chars
 
 -- what a change puts
 abbrev pub IsProperChange : Change → Type 0

@@ -5,8 +5,8 @@ use Rattle.edit_model.specs.Edit.{Edit, Replace, Set}
 use Rattle.edit_model.specs.State.{State}
 use Rattle.edit_model.specs.Valid.{IsValid}
 use Rattle.edit_model.specs.Run.{Reaches, here, onward, Run}
-use Rattle.step_text.specs.StepLine.{is_attribute_name, IsTag}
-use Rattle.grammar_laws.specs.Proper.{IsText, IsProperSetting, IsProperState}
+use Rattle.step_text.specs.StepLine.{is_attribute_name}
+use Rattle.grammar_laws.specs.Proper.{IsText, IsPageTag, IsProperSetting, IsProperState}
 
 abbrev pub IsProperEdit : Edit → Type 0
 IsProperEdit (Replace n at count put) = IsText put
@@ -16,7 +16,7 @@ IsProperEdit _ = Unit {0}
 -- what the action makes, puts or sets is of the grammar
 abbrev pub IsProperAction : Action → Type 0
 IsProperAction (Change e) = IsProperEdit e
-IsProperAction (MakeElement name attributes) = IsTag name attributes
+IsProperAction (MakeElement name attributes) = IsPageTag name attributes
 IsProperAction (MakeWords chars) = IsText chars
 IsProperAction (Override command setting) = IsProperSetting setting
 IsProperAction _ = Unit {0}

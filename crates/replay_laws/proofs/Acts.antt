@@ -1,5 +1,5 @@
--- Each act of a session keeps what is tracked, where no entry has been dropped.
-use Rattle.std.proofs.Common.{◌≡◌, ℕ, zero, suc, ◌<◌, ◌≤◌, Bool, true, false, true≢false, codes, cond, not, List, [], ◌∷◌, length, Option, Some, None, refl, sym, ap, subst, ◌∙◌, arith}
+-- Each act of a session keeps what is tracked.
+use Rattle.std.proofs.Common.{◌≡◌, ℕ, zero, suc, ◌<◌, ◌≤◌, Bool, true, false, true≢false, codes, cond, not, List, [], ◌∷◌, length, Option, Some, None, refl, sym, ap, subst, arith}
 use Rattle.std.specs.Prelude.{nat_le, nat_lt, min, ◌&&◌, if◌then◌else◌}
 use Rattle.std.specs.List.{All}
 use Rattle.std.specs.Map.{remove_entry}
@@ -31,7 +31,7 @@ use Rattle.edit_model.specs.Confined.{may_select}
 use Rattle.edit_model.specs.Edit.{changed}
 use Rattle.edit_model.specs.Action as action
 use Rattle.edit_model.specs.Action.{selected, acted}
-use Rattle.edit_model.specs.History.{Entry, document_of, begun, undone_history, undone_history_by, redone_history, redone_history_by}
+use Rattle.edit_model.specs.History.{document_of, begun}
 use Rattle.edit_model.specs.Run.{Reaches, here, onward, Run, final}
 use Rattle.edit_model.specs.Valid.{IsForest, IsPlacedPair, IsValid}
 use Rattle.edit_model.proofs.CommandParts.{command_acted}
@@ -53,7 +53,7 @@ use Rattle.edit_session.specs.Replies.{replied, select_reply, is_crowded, mark_r
 use Rattle.replay_laws.specs.Sessions.{after_lines, IsOfSession}
 use Rattle.replay_laws.proofs.Leaving.{run_leaves}
 use Rattle.replay_laws.proofs.Still.{stays_alone}
-use Rattle.replay_laws.proofs.Tracking.{IsTracked, tracked_stopped, tracked_undone, tracked_redone, tracked_run, dropped_run}
+use Rattle.replay_laws.proofs.Tracking.{IsTracked, tracked_stopped, tracked_undone, tracked_redone, tracked_run}
 
 -- ---- points
 
@@ -110,7 +110,7 @@ marks_without P test (e ∷ es) h = by (test e.0) (marks_without P test es (All-
     by true rest = All-tail P e es h
     by false rest = All-cons P e (remove_entry test es) (All-head P e es h) rest
 
--- ---- what is tracked, where nothing has been dropped
+-- ---- what is tracked
 
 next_selected : (anchor focus : Point) (s : State) → (selected anchor focus s).next ≡ s.next
 unfolding selected changed
@@ -118,27 +118,24 @@ next_selected anchor focus s = let P : State → Type 0 = λ u. u.next ≡ s.nex
 
 module _ (page : Forest Content) (start cap : ℕ) where
   abbrev pub Keeps : Editing → Type 0
-  Keeps e = e.history.dropped ≡ false → IsTracked page start cap e
+  Keeps e = IsTracked page start cap e
 
   keeps_selecting : (e : Editing) (pair : Pair) → Keeps e → Keeps (selecting e pair)
   unfolding acted
-  keeps_selecting e pair keeps off =
+  keeps_selecting e pair tr =
       let a = action.Select pair.anchor pair.focus in
-      let tr = keeps off in
       let r : Reaches e.state (acted a e.state) = onward here a in
       tracked_stopped page start cap e (acted a e.state) tr (valid_along r tr.valid)
       (trees-selected pair.anchor pair.focus e.state) (next_selected pair.anchor pair.focus e.state) (command_acted a e.state).cap
 
   keeps_unselecting : (e : Editing) → Keeps e → Keeps (unselecting e)
   unfolding acted changed
-  keeps_unselecting e keeps off =
-      let tr = keeps off in
+  keeps_unselecting e tr =
       let r : Reaches e.state (acted action.Unselect e.state) = onward here action.Unselect in
       tracked_stopped page start cap e (acted action.Unselect e.state) tr (valid_along r tr.valid) refl refl refl
 
   keeps_marking : (e : Editing) (name : List ℕ) (pair : Pair) → (IsValid e.state → IsPlacedPair e.state.trees pair) → Keeps e → Keeps (marking e name pair)
-  keeps_marking e name pair placed keeps off =
-      let tr = keeps off in
+  keeps_marking e name pair placed tr =
       let is = tr.valid in
       tracked_stopped page start cap e (record e.state { points = with_mark name pair e.state.points }) tr
       (record {
@@ -149,8 +146,7 @@ module _ (page : Forest Content) (start cap : ℕ) where
       }) refl refl refl
 
   keeps_unmarking : (e : Editing) (name : List ℕ) → Keeps e → Keeps (unmarking e name)
-  keeps_unmarking e name keeps off =
-      let tr = keeps off in
+  keeps_unmarking e name tr =
       let is = tr.valid in
       tracked_stopped page start cap e (record e.state { points = without_mark name e.state.points }) tr
       (record {
@@ -161,28 +157,6 @@ module _ (page : Forest Content) (start cap : ℕ) where
       }) refl refl refl
 
   -- ---- through the history
-
-  pub dropped_undone : (e : Editing) → (undone e).history.dropped ≡ e.history.dropped
-  unfolding undone_history
-  dropped_undone e = by_entries e.history.undo
-    where
-      by_entries : (es : List Entry) → (undone_history_by es e.history).dropped ≡ e.history.dropped
-      by_entries [] = refl
-      by_entries (x ∷ xs) = refl
-
-  pub dropped_redone : (e : Editing) → (redone e).history.dropped ≡ e.history.dropped
-  unfolding redone_history
-  dropped_redone e = by_entries e.history.redo
-    where
-      by_entries : (es : List Entry) → (redone_history_by es e.history).dropped ≡ e.history.dropped
-      by_entries [] = refl
-      by_entries (x ∷ xs) = refl
-
-  keeps_undone : (e : Editing) → Keeps e → Keeps (undone e)
-  keeps_undone e keeps off = tracked_undone page start cap e (keeps (sym (dropped_undone e) ∙ off))
-
-  keeps_redone : (e : Editing) → Keeps e → Keeps (redone e)
-  keeps_redone e keeps off = tracked_redone page start cap e (keeps (sym (dropped_redone e) ∙ off))
 
   keeps_times : (n : ℕ) (turn : Editing → Editing) → ((e : Editing) → Keeps e → Keeps (turn e)) → (e : Editing) → Keeps e → Keeps (turned_times n turn e)
   unfolding turned_times
@@ -211,13 +185,12 @@ module _ (page : Forest Content) (start cap : ℕ) where
   some_label e tr = tr.valid.forest.below 0 tr.valid.forest.document
 
   keeps_run : (e : Editing) (host : Option ℕ) (keeping joining : Bool) (c : Command) (m : Run Bool) → (joining ≡ true → goes_on e.going ≡ true) → Keeps e → Keeps (after_run e joining c (ran host e.state keeping m))
-  keeps_run e host keeping joining c m joins keeps off =
+  keeps_run e host keeping joining c m joins tr =
       let s = e.state in
       let t = ran host s keeping m in
-      let tr = keeps (dropped_run e joining c t off) in
       let r = reached m (begun host keeping s) in
       let l = run_leaves s t host keeping tr.valid r in
-      tracked_run page start cap e joining c t joins tr l (stays_alone s t host keeping (some_label e tr) r) off
+      tracked_run page start cap e joining c t joins tr l (stays_alone s t host keeping (some_label e tr) r)
 
   after_command : (e : Editing) (joining : Bool) (v : List ℕ) (c : Command) → (joining ≡ true → goes_on e.going ≡ true) → Keeps e → After (command_outcome e None joining v c)
   unfolding command_outcome run_outcome
@@ -271,8 +244,8 @@ module _ (page : Forest Content) (start cap : ℕ) where
   keeps_act denied e (Unmark name) keeps = keeps_unmarking e name keeps
   keeps_act denied e (Exec name value) keeps = keeps_exec e (gated_outcome denied e name value) keeps (after_gated denied e name value keeps)
   keeps_act denied e (Query kind name) keeps = keeps
-  keeps_act denied e (Undo count) keeps = keeps_times (min count (length e.history.undo)) undone keeps_undone e keeps
-  keeps_act denied e (Redo count) keeps = keeps_times (min count (length e.history.redo)) redone keeps_redone e keeps
+  keeps_act denied e (Undo count) keeps = keeps_times (min count (length e.history.undo)) undone (tracked_undone page start cap) e keeps
+  keeps_act denied e (Redo count) keeps = keeps_times (min count (length e.history.redo)) redone (tracked_redone page start cap) e keeps
   keeps_act denied e (Probe path) keeps = keeps
   keeps_act denied e Html keeps = keeps
   keeps_act denied e Listing keeps = keeps
@@ -330,11 +303,11 @@ tracked_first page law loose depth some =
       joinable = λ on. absurd (true≢false (sym on));
       undo = tt;
       redo = tt;
-      past = refl;
+      past = λ _. refl;
       future = tt;
     }
 
-pub session_tracked : (page : Arena) (e : Editing) → IsArena page → IsOfSession page e → e.history.dropped ≡ false → IsTracked page.trees page.next page.cap e
+pub session_tracked : (page : Arena) (e : Editing) → IsArena page → IsOfSession page e → IsTracked page.trees page.next page.cap e
 session_tracked page e law s =
-    subst (λ (w : Editing). w.history.dropped ≡ false → IsTracked page.trees page.next page.cap w) s.is
-    (keeps_lines page.trees page.next page.cap s.denied (new_editing page s.depth) s.lines (λ _. tracked_first page law s.loose s.depth s.some_depth))
+    subst (λ (w : Editing). IsTracked page.trees page.next page.cap w) s.is
+    (keeps_lines page.trees page.next page.cap s.denied (new_editing page s.depth) s.lines (tracked_first page law s.loose s.depth s.some_depth))

@@ -1,5 +1,5 @@
 -- What is known of an entry of a history, and what a command adds to that.
-use Rattle.std.proofs.Common.{◌≡◌, ℕ, ◌+◌, ◌<◌, ◌≤◌, List, ◌++◌, Some, sym, subst, ◌∙◌, inl, inr, arith}
+use Rattle.std.proofs.Common.{◌≡◌, ℕ, ◌<◌, ◌≤◌, List, ◌++◌, Some, sym, subst, ◌∙◌, inl, inr, arith}
 use Rattle.dom_model.specs.declared.Content.{Content}
 use Rattle.dom_model.specs.Forest.{Forest, count_of}
 use Rattle.forest_changes.specs.Change.{Change, Remove, Insert, Move, SetText, Splice, SetAttributes}

@@ -13,3 +13,5 @@ pub mod ProperCommands
 pub mod ProperEntries
 pub mod ProperSessions
 pub mod Texts
+pub mod WrittenNodes
+pub mod ReadingBack

@@ -3,7 +3,7 @@ use Rattle.std.proofs.Common.{◌≡◌, ℕ, pred, ◌<◌, Bool, true, false, 
 use Rattle.std.specs.Prelude.{◌&&◌, nat_lt}
 use Rattle.std.specs.List.{AllByRecursion, list_all}
 use Rattle.std.specs.Str.{IsUtf8, is_utf8, chars}
-use Rattle.std.proofs.Math.Utf8.{encodes, scalar, scalars}
+use Rattle.std.proofs.Math.Utf8.{scalar, scalars}
 use Rattle.std.proofs.lemmas.Bool.Decides.{nat_tests, Decides-eqb}
 use Rattle.std.proofs.lemmas.Str.{chars-nil, chars-encodes, is_utf8-from_IsUtf8}
 use Rattle.dom_model.specs.declared.Content.{Content}
@@ -66,9 +66,9 @@ attributes_named (a ∷ list) h = (attribute_name a h.0, h.0.value, attributes_n
 
 node_proper : (c : Content) (ks : Forest Content) → IsWritableNode c ks → IsProper c
 node_proper Document ks h = tt
-node_proper (Element name list) ks h = (element_name name h.name, attributes_named list h.attributes, h.distinct)
+node_proper (Element name list) ks h = ((element_name name h.name, attributes_named list h.attributes, h.distinct), h.supported)
 node_proper (Words text) ks h = h.0
-node_proper (Remark text) ks h = h.0
+node_proper (Remark text) ks h = (h.0, h.1)
 
 nodes_proper : (d : ℕ) (f : Forest Content) → IsWritable d f → AllNodes IsProper f
 nodes_proper d Nil h = tt

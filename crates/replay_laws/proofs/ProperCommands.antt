@@ -5,7 +5,7 @@ use Rattle.html_names.specs.declared.commands.Command.{Command}
 use Rattle.html_names.specs.declared.commands.Command.TheVariants as command
 use Rattle.list_toggle.specs.declared.toggling.ListKind.TheVariants.{Ordered, Unordered}
 use Rattle.edit_model.specs.Action.{Flag}
-use Rattle.edit_model.specs.Run.{Run, ◌>>=◌, ◌>>◌, answer, done, given, set_flags}
+use Rattle.edit_model.specs.Run.{Run, ◌>>=◌, answer, done, given, set_flags}
 use Rattle.edit_model.specs.declared.settings.Flags.{Flags}
 use Rattle.edit_query.specs.Carets.{is_caret}
 use Rattle.forest_changes.specs.Named.{Each}

@@ -1,5 +1,5 @@
 -- The lines of an entry are of the grammar, where its document, what it made and what its edits put are.
-use Rattle.std.proofs.Common.{◌≡◌, ℕ, Bool, true, false, true≢false, cond, eqb, List, [], ◌∷◌, ◌++◌, length, map, Option, Some, None, IfSome, sym, ◌∙◌}
+use Rattle.std.proofs.Common.{◌≡◌, ℕ, Bool, true, false, true≢false, cond, eqb, List, [], ◌∷◌, length, map, Option, Some, None, IfSome, sym, ◌∙◌}
 use Rattle.std.specs.List.{flat_map}
 use Rattle.std.specs.Option.{option_map, option_map_or}
 use Rattle.dom_model.specs.declared.Content.{Content}
@@ -18,8 +18,8 @@ use Rattle.edit_doc.specs.Onward.{with_made, at_begin, LeadsOnward}
 use Rattle.step_text.specs.StepLine.{is_element_name}
 use Rattle.edit_engine.specs.Logs.{content_steps, made_steps, edit_step, entry_steps}
 use Rattle.grammar_laws.specs.Proper.{AllNodes, IsProper, IsProperChange, IsProperNode}
-use Rattle.grammar_laws.proofs.Keeping.{nodes_applied, splice_text}
 use Rattle.grammar_laws.proofs.Nodes.{node_at, nodes_leaf}
+use Rattle.grammar_laws.proofs.Spelled.{IsSpelled, nodes_applied, nodes_spelled, splice_text}
 use Rattle.replay_laws.proofs.Entries.{IsKnown}
 use Rattle.replay_laws.proofs.Labels.{IsInGrammar}
 use Rattle.replay_laws.proofs.Spelling.{AreKinds, kind_applied, told_kinds}
@@ -35,7 +35,7 @@ pub record IsProperEntry (x : Entry) : Type 0 where
 
 node_lines : (label : ℕ) (c : Content) → IsProper c → Each IsInGrammar (content_steps label c)
 node_lines label content.Document h = tt
-node_lines label (content.Element name list) h = (h, tt)
+node_lines label (content.Element name list) h = (h.0, tt)
 node_lines label (content.Words chars) h = (h, tt)
 node_lines label (content.Remark chars) h = tt
 
@@ -72,12 +72,12 @@ told_name (Some (content.Words chars)) t o h e = absurd (true≢false (sym t))
 told_name (Some (content.Remark chars)) t o h e = absurd (true≢false (sym t))
 told_name (Some (content.Element name list)) t None h e = absurd (let u : None ≡ Some (kinds.Element name) = e in cc)
 told_name (Some (content.Element name list)) t (Some content.Document) h e = absurd (let u : Some kinds.Document ≡ Some (kinds.Element name) = e in cc)
-told_name (Some (content.Element name list)) t (Some (content.Element own old)) h e = h.0
+told_name (Some (content.Element name list)) t (Some (content.Element own old)) h e = h.0.0
 told_name (Some (content.Element name list)) t (Some (content.Words chars)) h e = absurd (let u : Some kinds.Text ≡ Some (kinds.Element name) = e in cc)
 told_name (Some (content.Element name list)) t (Some (content.Remark chars)) h e = absurd (let u : Some kinds.Comment ≡ Some (kinds.Element name) = e in cc)
 
 module _ (told : ℕ → Option Content) (all : (l : ℕ) → IfSome (told l) IsProper) where
-  edit_lines : (xs : List Change) (f : Forest Content) → FitsForth applied Fits xs f → AreKinds told f → AllNodes IsProper f → Each IsProperChange xs
+  edit_lines : (xs : List Change) (f : Forest Content) → FitsForth applied Fits xs f → AreKinds told f → AllNodes IsSpelled f → Each IsProperChange xs
       → Each IsInGrammar (map edit_step (map (logged_edit told) (wholes xs f)))
   unfolding FitsForth wholes
   edit_lines [] f fits are nodes h = tt
@@ -99,5 +99,5 @@ unfolding entry_steps
 entry_lines start next from d x k leads h = (
   tt,
   each_join IsInGrammar (flat_map made_steps (map made_node x.made)) (map edit_step (map (logged_edit (content_in x)) (wholes x.edits (at_begin x)))) (made_lines x.made h.made)
-      (edit_lines (content_in x) (told_proper x h) x.edits (at_begin x) leads.fits (told_kinds start next from d x k leads) (nodes_made x.made x.before.document h.made h.before) h.edits),
+      (edit_lines (content_in x) (told_proper x h) x.edits (at_begin x) leads.fits (told_kinds start next from d x k leads) (nodes_spelled (at_begin x) (nodes_made x.made x.before.document h.made h.before)) h.edits),
 )

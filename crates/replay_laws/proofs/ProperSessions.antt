@@ -1,5 +1,5 @@
 -- Each act of a session keeps the document and the entries within the grammar, and so the log is.
-use Rattle.std.proofs.Common.{◌≡◌, ℕ, zero, suc, ◌<◌, Bool, true, false, cond, not, nat_lt, eqb, List, [], ◌∷◌, ◌++◌, length, map, reverse, codes, Option, Some, None, refl, sym, subst, ◌∙◌, inl, inr}
+use Rattle.std.proofs.Common.{◌≡◌, ℕ, zero, suc, Bool, true, false, cond, not, nat_lt, eqb, List, [], ◌∷◌, length, map, reverse, codes, Option, Some, None, refl, sym, subst, inl, inr}
 use Rattle.std.specs.Prelude.{min, if◌then◌else◌}
 use Rattle.std.specs.List.{flat_map}
 use Rattle.std.specs.Option.{option_map_or}
@@ -47,13 +47,13 @@ use Rattle.grammar_laws.proofs.Nodes.{nodes_tree}
 use Rattle.grammar_laws.proofs.ProperRuns.{proper_final}
 use Rattle.grammar_laws.proofs.Texts.{each_take}
 use Rattle.replay_laws.specs.Sessions.{after_lines, IsOfSession}
-use Rattle.replay_laws.proofs.Acts.{Keeps, dropped_undone, dropped_redone, keeps_line, tracked_first}
+use Rattle.replay_laws.proofs.Acts.{Keeps, keeps_line, tracked_first}
 use Rattle.replay_laws.proofs.Entries.{IsKnown}
 use Rattle.replay_laws.proofs.Labels.{IsInGrammar}
 use Rattle.replay_laws.proofs.ProperCommands.{action_proper}
 use Rattle.replay_laws.proofs.ProperEntries.{IsProperEntry, entry_lines}
 use Rattle.replay_laws.proofs.Spelling.{Leads, each_leads, each_back, each_both}
-use Rattle.replay_laws.proofs.Tracking.{IsTracked, dropped_run}
+use Rattle.replay_laws.proofs.Tracking.{IsTracked}
 
 -- the state of the editor, and all entries, are of the grammar
 pub record IsProperEditing (e : Editing) : Type 0 where
@@ -154,11 +154,7 @@ redone_proper e h = by_entries e.history.redo h.redo
     }
 
 module _ (page : Forest Content) (start cap : ℕ) where
-  -- where no entry has been dropped
-  abbrev Holds : Editing → Type 0
-  Holds e = e.history.dropped ≡ false → IsProperEditing e
-
-  times_proper : (n : ℕ) (turn : Editing → Editing) → ((e : Editing) → Holds e → Holds (turn e)) → (e : Editing) → Holds e → Holds (turned_times n turn e)
+  times_proper : (n : ℕ) (turn : Editing → Editing) → ((e : Editing) → IsProperEditing e → IsProperEditing (turn e)) → (e : Editing) → IsProperEditing e → IsProperEditing (turned_times n turn e)
   unfolding turned_times
   times_proper zero turn each e h = h
   times_proper (suc n) turn each e h = times_proper n turn each (turn e) (each e h)
@@ -166,17 +162,17 @@ module _ (page : Forest Content) (start cap : ℕ) where
   -- ---- commands
 
   abbrev After : Outcome → Type 0
-  After (Acted answer after) = Holds after
+  After (Acted answer after) = IsProperEditing after
   After _ = Unit {0}
 
-  after_by : (refused deep full answer : Bool) (x y : Editing) → Holds x → Holds y → After (cond refused Refused (cond deep Deep (cond full Full (cond answer (Acted true x) (Acted false y)))))
+  after_by : (refused deep full answer : Bool) (x y : Editing) → IsProperEditing x → IsProperEditing y → After (cond refused Refused (cond deep Deep (cond full Full (cond answer (Acted true x) (Acted false y)))))
   after_by true deep full answer x y first second = tt
   after_by false true full answer x y first second = tt
   after_by false false true answer x y first second = tt
   after_by false false false true x y first second = first
   after_by false false false false x y first second = second
 
-  command_proper : (e : Editing) (joining : Bool) (v : List ℕ) (c : Command) → IsText v → Keeps page start cap e → Holds e → After (command_outcome e None joining v c)
+  command_proper : (e : Editing) (joining : Bool) (v : List ℕ) (c : Command) → IsText v → Keeps page start cap e → IsProperEditing e → After (command_outcome e None joining v c)
   unfolding command_outcome run_outcome
   command_proper e joining v c own keeps h =
       let s = e.state in
@@ -185,16 +181,13 @@ module _ (page : Forest Content) (start cap : ℕ) where
       let m = run_at None (action_of c v) in
       let x = after_run e joining c (ran host s k m) in
       after_by (not (is_enabled_in host c)) (nat_lt depth_limit (page_depth s.trees)) (nat_lt s.cap (ran host s k m).next) (answered host s k m) x e
-      (λ off. (
-      let before = dropped_run e joining c (ran host s k m) off in
-      run_proper e host k joining c m (action_proper c v own) (keeps before).valid (h before)))
-      h
+      (run_proper e host k joining c m (action_proper c v own) keeps.valid h) h
 
-  named_proper : (e : Editing) (v : List ℕ) (o : Option Command) → IsText v → Keeps page start cap e → Holds e → After (option_map_or (λ c. command_outcome e None (joins_by false e.going c) v c) o Refused)
+  named_proper : (e : Editing) (v : List ℕ) (o : Option Command) → IsText v → Keeps page start cap e → IsProperEditing e → After (option_map_or (λ c. command_outcome e None (joins_by false e.going c) v c) o Refused)
   named_proper e v None own keeps h = tt
   named_proper e v (Some c) own keeps h = command_proper e (joins_by false e.going c) v c own keeps h
 
-  gated_proper : (denied : List (List ℕ)) (e : Editing) (name v : List ℕ) → IsText v → Keeps page start cap e → Holds e → After (gated_outcome denied e name v)
+  gated_proper : (denied : List (List ℕ)) (e : Editing) (name v : List ℕ) → IsText v → Keeps page start cap e → IsProperEditing e → After (gated_outcome denied e name v)
   unfolding gated_outcome outcome_by
   gated_proper denied e name v own keeps h = by_test (is_denied denied name)
     where
@@ -202,7 +195,7 @@ module _ (page : Forest Content) (start cap : ℕ) where
       by_test true = tt
       by_test false = named_proper e v (command_named name) own keeps h
 
-  exec_proper : (e : Editing) (o : Outcome) → Holds e → After o → Holds (exec_reply e o).after
+  exec_proper : (e : Editing) (o : Outcome) → IsProperEditing e → After o → IsProperEditing (exec_reply e o).after
   exec_proper e Refused h k = h
   exec_proper e Deep h k = h
   exec_proper e Full h k = h
@@ -210,31 +203,31 @@ module _ (page : Forest Content) (start cap : ℕ) where
 
   -- ---- acts
 
-  selecting_proper : (e : Editing) (pair : Pair) → Holds e → Holds (selecting e pair)
+  selecting_proper : (e : Editing) (pair : Pair) → IsProperEditing e → IsProperEditing (selecting e pair)
   unfolding acted
-  selecting_proper e pair h off = (let k = h off in record { state = proper_selected pair.anchor pair.focus e.state k.state; undo = k.undo; redo = k.redo })
+  selecting_proper e pair h = record { state = proper_selected pair.anchor pair.focus e.state h.state; undo = h.undo; redo = h.redo }
 
-  select_proper : (e : Editing) (o : Option Pair) → Holds e → Holds (select_reply e o).after
+  select_proper : (e : Editing) (o : Option Pair) → IsProperEditing e → IsProperEditing (select_reply e o).after
   select_proper e None h = h
   select_proper e (Some pair) h = selecting_proper e pair h
 
-  unselect_proper : (e : Editing) → Holds e → Holds (unselecting e)
+  unselect_proper : (e : Editing) → IsProperEditing e → IsProperEditing (unselecting e)
   unfolding acted
-  unselect_proper e h off = (let k = h off in record { state = proper_selection None e.state k.state; undo = k.undo; redo = k.redo })
+  unselect_proper e h = record { state = proper_selection None e.state h.state; undo = h.undo; redo = h.redo }
 
-  marking_proper : (e : Editing) (name : List ℕ) (pair : Pair) → Holds e → Holds (marking e name pair)
-  marking_proper e name pair h off = (let k = h off in record { state = same_proper e.state _ k.state refl refl refl refl; undo = k.undo; redo = k.redo })
+  marking_proper : (e : Editing) (name : List ℕ) (pair : Pair) → IsProperEditing e → IsProperEditing (marking e name pair)
+  marking_proper e name pair h = record { state = same_proper e.state _ h.state refl refl refl refl; undo = h.undo; redo = h.redo }
 
-  mark_proper : (e : Editing) (name : List ℕ) (o : Option Pair) → Holds e → Holds (mark_reply e name o).after
+  mark_proper : (e : Editing) (name : List ℕ) (o : Option Pair) → IsProperEditing e → IsProperEditing (mark_reply e name o).after
   mark_proper e name None h = h
   mark_proper e name (Some pair) h = by_test (is_crowded e name)
     where
-      by_test : (b : Bool) → Holds (if b then replied (codes "! 5 too many marks\n") e else replied (codes "ok\n") (marking e name pair)).after
+      by_test : (b : Bool) → IsProperEditing (if b then replied (codes "! 5 too many marks\n") e else replied (codes "ok\n") (marking e name pair)).after
       by_test true = h
       by_test false = marking_proper e name pair h
 
-  unmark_proper : (e : Editing) (name : List ℕ) → Holds e → Holds (unmarking e name)
-  unmark_proper e name h off = (let k = h off in record { state = same_proper e.state _ k.state refl refl refl refl; undo = k.undo; redo = k.redo })
+  unmark_proper : (e : Editing) (name : List ℕ) → IsProperEditing e → IsProperEditing (unmarking e name)
+  unmark_proper e name h = record { state = same_proper e.state _ h.state refl refl refl refl; undo = h.undo; redo = h.redo }
 
   -- the value of an act is a text
   value_text : (line name value : List ℕ) → Spells line (Exec name value) → IsText value
@@ -243,7 +236,7 @@ module _ (page : Forest Content) (start cap : ℕ) where
     | inr (bytes, is, spells) ↦ spelled_scalars false bytes value spells
   ]
 
-  act_proper : (denied : List (List ℕ)) (line : List ℕ) (e : Editing) (act : Act) → Spells line act → Keeps page start cap e → Holds e → Holds (act_reply denied e act).after
+  act_proper : (denied : List (List ℕ)) (line : List ℕ) (e : Editing) (act : Act) → Spells line act → Keeps page start cap e → IsProperEditing e → IsProperEditing (act_reply denied e act).after
   unfolding undo_reply redo_reply
   act_proper denied line e (Select anchor focus) spells keeps h = select_proper e (pair_at e.state.trees anchor focus) h
   act_proper denied line e Unselect spells keeps h = unselect_proper e h
@@ -251,8 +244,8 @@ module _ (page : Forest Content) (start cap : ℕ) where
   act_proper denied line e (Unmark name) spells keeps h = unmark_proper e name h
   act_proper denied line e (Exec name value) spells keeps h = exec_proper e (gated_outcome denied e name value) h (gated_proper denied e name value (value_text line name value spells) keeps h)
   act_proper denied line e (Query kind name) spells keeps h = h
-  act_proper denied line e (Undo count) spells keeps h = times_proper (min count (length e.history.undo)) undone (λ d k off. undone_proper d (k (sym (dropped_undone page start cap d) ∙ off))) e h
-  act_proper denied line e (Redo count) spells keeps h = times_proper (min count (length e.history.redo)) redone (λ d k off. redone_proper d (k (sym (dropped_redone page start cap d) ∙ off))) e h
+  act_proper denied line e (Undo count) spells keeps h = times_proper (min count (length e.history.undo)) undone undone_proper e h
+  act_proper denied line e (Redo count) spells keeps h = times_proper (min count (length e.history.redo)) redone redone_proper e h
   act_proper denied line e (Probe path) spells keeps h = h
   act_proper denied line e Html spells keeps h = h
   act_proper denied line e Listing spells keeps h = h
@@ -260,21 +253,21 @@ module _ (page : Forest Content) (start cap : ℕ) where
   act_proper denied line e Stat spells keeps h = h
   act_proper denied line e Log spells keeps h = h
 
-  read_proper : (denied : List (List ℕ)) (line : List ℕ) (e : Editing) (meaning : Line) → line_of line ≡ meaning → Keeps page start cap e → Holds e → Holds (read_reply denied e meaning).after
+  read_proper : (denied : List (List ℕ)) (line : List ℕ) (e : Editing) (meaning : Line) → line_of line ≡ meaning → Keeps page start cap e → IsProperEditing e → IsProperEditing (read_reply denied e meaning).after
   read_proper denied line e Long is keeps h = h
   read_proper denied line e Unknown is keeps h = h
   read_proper denied line e (Known None) is keeps h = h
   read_proper denied line e (Known (Some act)) is keeps h = act_proper denied line e act ((rests.acts line (Known (Some act))).0 is).1 keeps h
 
-  line_proper : (denied : List (List ℕ)) (e : Editing) (line : List ℕ) → Keeps page start cap e → Holds e → Holds (line_reply denied e line).after
+  line_proper : (denied : List (List ℕ)) (e : Editing) (line : List ℕ) → Keeps page start cap e → IsProperEditing e → IsProperEditing (line_reply denied e line).after
   unfolding line_reply
   line_proper denied e line keeps h = by_test (bytes_eq line [])
     where
-      by_test : (b : Bool) → Holds (if b then replied [] e else read_reply denied e (line_of line)).after
+      by_test : (b : Bool) → IsProperEditing (if b then replied [] e else read_reply denied e (line_of line)).after
       by_test true = h
       by_test false = read_proper denied line e (line_of line) refl keeps h
 
-  lines_proper : (denied : List (List ℕ)) (e : Editing) (lines : List (List ℕ)) → Keeps page start cap e → Holds e → Holds (after_lines denied e lines)
+  lines_proper : (denied : List (List ℕ)) (e : Editing) (lines : List (List ℕ)) → Keeps page start cap e → IsProperEditing e → IsProperEditing (after_lines denied e lines)
   unfolding after_lines
   lines_proper denied e [] keeps h = h
   lines_proper denied e (line ∷ lines) keeps h = lines_proper denied (line_reply denied e line).after lines (keeps_line page start cap denied e line keeps) (line_proper denied e line keeps h)
@@ -285,10 +278,10 @@ first_proper : (page : Arena) (depth : ℕ) → AllNodes IsProper page.trees →
 unfolding first_state
 first_proper page depth nodes = record { state = record { nodes = nodes; settings = settings_none; made = tt; edits = tt }; undo = tt; redo = tt }
 
-pub session_proper : (page : Arena) (e : Editing) → IsArena page → AllNodes IsProper page.trees → IsOfSession page e → e.history.dropped ≡ false → IsProperEditing e
+pub session_proper : (page : Arena) (e : Editing) → IsArena page → AllNodes IsProper page.trees → IsOfSession page e → IsProperEditing e
 session_proper page e law nodes s =
-    subst (λ (w : Editing). w.history.dropped ≡ false → IsProperEditing w) s.is
-    (lines_proper page.trees page.next page.cap s.denied (new_editing page s.depth) s.lines (λ _. tracked_first page law s.loose s.depth s.some_depth) (λ _. first_proper page s.depth nodes))
+    subst (λ (w : Editing). IsProperEditing w) s.is
+    (lines_proper page.trees page.next page.cap s.denied (new_editing page s.depth) s.lines (tracked_first page law s.loose s.depth s.some_depth) (first_proper page s.depth nodes))
 
 -- what holds of all lines of each entry
 each_line : (es : List Entry) → Each (λ (x : Entry). Each IsInGrammar (entry_steps (logged_entry x))) es → Each IsInGrammar (flat_map entry_steps (map logged_entry es))

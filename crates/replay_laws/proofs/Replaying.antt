@@ -1,5 +1,5 @@
 -- The log of a session begins with its page, and its steps replay on that.
-use Rattle.std.proofs.Common.{◌≡◌, ℕ, ◌≤◌, List, [], ◌∷◌, ◌++◌, reverse, Ok, refl, sym, ap, subst, ◌∙◌, arith}
+use Rattle.std.proofs.Common.{◌≡◌, ℕ, ◌≤◌, Bool, false, List, [], ◌∷◌, ◌++◌, reverse, Ok, refl, sym, ap, subst, ◌∙◌, arith}
 use Rattle.std.proofs.lemmas.List.{reverse-append}
 use Rattle.dom_model.specs.declared.Content.{Content}
 use Rattle.dom_model.specs.ArenaState.{ArenaState as Arena, IsValid as IsArena}
@@ -28,14 +28,16 @@ before_last : (ys : List Entry) (x : Entry) (f : Forest Content) → page_before
 before_last [] x f = refl
 before_last (y ∷ ys) x f = refl
 
-led_page : (page : Forest Content) (es : List Entry) (f : Forest Content) → LedFrom page es f → page_before (reverse es) f ≡ page
-led_page page [] f led = sym led
+led_page : (page : Forest Content) (es : List Entry) (f : Forest Content) → LedFrom false page es f → page_before (reverse es) f ≡ page
+led_page page [] f led = sym (led refl)
 led_page page (x ∷ es) f led =
     ap (λ (w : List Entry). page_before w f) (reverse-append (x ∷ []) es)
     ∙ (before_last (reverse es) x f ∙ led_page page es x.before.document led.1)
 
 pub begins_with_page : (page : Arena) (e : Editing) → IsArena page → BeginsWithPage page e
-begins_with_page page e law s off = (let tr = session_tracked page e law s off in led_page page.trees e.history.undo e.state.trees tr.past)
+begins_with_page page e law s off =
+    let tr = session_tracked page e law s in
+    led_page page.trees e.history.undo e.state.trees (subst (λ (b : Bool). LedFrom b page.trees e.history.undo e.state.trees) off tr.past)
 
 -- ---- labels
 
@@ -44,7 +46,7 @@ drawn_from start next x k = each_weaker start k.first x.made k.from k.drawn
 
 pub draws_new_labels : (page : Arena) (e : Editing) → IsArena page → DrawsNewLabels page e
 draws_new_labels page e law s off =
-    let tr = session_tracked page e law s off in
+    let tr = session_tracked page e law s in
     record {
       below = record { below = law.below };
       made = each_of (IsKnown page.next e.state.next) (λ (x : Entry). Each (IsFrom page.next) x.made) e.history.undo (drawn_from page.next e.state.next) tr.undo;
@@ -61,7 +63,7 @@ led_editor d e state history led =
     subst (λ (h : History). HasLed e.state h) history (subst (λ (s : State). HasLed s d.history) state led)
 
 pub spells_entries : (page : Arena) (e : Editing) → IsArena page → HasLed e.state e.history → SpellsEntries page e
-spells_entries page e law led s off = entries_spelled page.trees page.next page.cap e led.0 led.1 (session_tracked page e law s off) led.2
+spells_entries page e law led s off = entries_spelled page.trees page.next page.cap e led.0 led.1 (session_tracked page e law s) led.2
 
 -- ---- the log
 
@@ -77,7 +79,7 @@ state_capped d e same law = subst (λ (s : State). s.next ≤ s.cap) same law.ca
 pub session_replays : (page : Arena) (e : Editing) → IsArena page → e.state.next ≤ e.state.cap → LogReplays e
     → BeginsWithPage page e → DrawsNewLabels page e → SpellsEntries page e → SessionReplays page e
 session_replays page e law low replays begins draws spells cap high s off shallow =
-    let tr = session_tracked page e law s off in
+    let tr = session_tracked page e law s in
     let is = begins s off in
     let was : WasNext (page_of e) e.history.undo page.next = subst (λ (f : Forest Content). WasNext f e.history.undo page.next) (sym is) (draws s off) in
     let capped = law.capped in

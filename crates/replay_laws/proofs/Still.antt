@@ -2,7 +2,6 @@
 use Rattle.std.proofs.Common.{◌≡◌, ℕ, ◌<◌, Bool, List, [], ◌∷◌, length, Option, refl, ap, ◌∙◌, inl, inr, arith, length-append}
 use Rattle.std.proofs.lemmas.Bool.{cases_Bool}
 use Rattle.dom_model.specs.declared.Content.{Content}
-use Rattle.forest_changes.specs.Change.{Change}
 use Rattle.forest_changes.proofs.BesideLeaf.{tree_of-with_leaf}
 use Rattle.edit_model.specs.State.{State}
 use Rattle.edit_model.specs.Tail.{Step, Copy, Do}

@@ -158,13 +158,13 @@ module _ (front bytes : List ℕ) (page : Arena) (e : Editing) (block : block_of
             ∙ ap (transcript_of Done) (text_same t d.trees e.state.trees d.next first steps.document)))));
       }
 
-page_nodes : (bytes : List ℕ) (page : Arena) → IsReadAs bytes page → AllNodes IsProper page.trees
+pub page_nodes : (bytes : List ℕ) (page : Arena) → IsReadAs bytes page → AllNodes IsProper page.trees
 page_nodes bytes page r =
     (let is = (rests.pages page.cap bytes (Children r.children)).0 r.reading in subst (λ (f : Forest _). AllNodes IsProper f) (sym r.trees) (page_proper depth_limit page.cap bytes r.children is.0))
 
 pub session_text_replays : (page : Arena) (e : Editing) → IsArena page → HasLed e.state e.history → SessionReplays page e → SessionTextReplays page e
 session_text_replays page e law led replays front bytes block r s off shallow fits =
-    let tr = session_tracked page e law s off in
-    let proper = session_proper page e law (page_nodes bytes page r) s off in
+    let tr = session_tracked page e law s in
+    let proper = session_proper page e law (page_nodes bytes page r) s in
     let spelled = log_proper page.trees page.next page.cap e led.0 led.1 tr led.2 proper in
     text_replays front bytes page e block r law spelled fits (replays greatest_cap r.capped s off shallow)

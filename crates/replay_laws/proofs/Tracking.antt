@@ -1,5 +1,5 @@
 -- What is tracked of an editor along the acts of a session: how its entries lead from the document of the page.
-use Rattle.std.proofs.Common.{◌≡◌, ℕ, suc, ◌<◌, ◌≤◌, Bool, true, false, true≢false, cond, eqb, List, [], ◌∷◌, length, take, refl, sym, ap, subst, ◌∙◌, arith}
+use Rattle.std.proofs.Common.{◌≡◌, ℕ, zero, suc, ◌<◌, ◌≤◌, Bool, true, false, true≢false, cond, eqb, List, [], ◌∷◌, length, take, refl, sym, ap, subst, ◌∙◌, arith}
 use Rattle.std.specs.Prelude.{◌||◌, nat_le}
 use Rattle.std.proofs.lemmas.Bool.Decides.{nat_tests}
 use Rattle.std.proofs.lemmas.List.{take_all}
@@ -17,13 +17,14 @@ use Rattle.edit_engine.specs.Editing.{Editing, IsJoinable, stopped_at, undone, r
 use Rattle.edit_engine.specs.Execution.{after_run}
 use Rattle.edit_engine.specs.Going.{goes_on}
 use Rattle.edit_engine.proofs.GoingOn.{recorded_joinable}
+use Rattle.grammar_laws.proofs.Texts.{each_take}
 use Rattle.replay_laws.proofs.Entries.{IsKnown, known_later, entry_known, longer_known}
 use Rattle.replay_laws.proofs.Leaving.{Leaves}
 
--- the entries, the last one first, lead from the document of the page to this one
-abbrev pub LedFrom : Forest Content → List Entry → Forest Content → Type 0
-LedFrom page [] f = page ≡ f
-LedFrom page (x ∷ xs) f = (x.after.document ≡ f) × LedFrom page xs x.before.document
+-- the entries, the last one first, lead to this document, from that of the page unless one was dropped
+abbrev pub LedFrom : Bool → Forest Content → List Entry → Forest Content → Type 0
+LedFrom dropped page [] f = dropped ≡ false → page ≡ f
+LedFrom dropped page (x ∷ xs) f = (x.after.document ≡ f) × LedFrom dropped page xs x.before.document
 
 -- the entries, the next one first, lead on from this document
 abbrev pub LeadOn : List Entry → Forest Content → Type 0
@@ -39,22 +40,18 @@ pub record IsTracked (page : Forest Content) (start cap : ℕ) (e : Editing) : T
   pub joinable : goes_on e.going ≡ true → IsJoinable e.history
   pub undo : Each (IsKnown start e.state.next) e.history.undo
   pub redo : Each (IsKnown start e.state.next) e.history.redo
-  pub past : LedFrom page e.history.undo e.state.trees
+  pub past : LedFrom e.history.dropped page e.history.undo e.state.trees
   pub future : LeadOn e.history.redo e.state.trees
 
--- what was dropped before a command was dropped after it
-pub dropped_run : (e : Editing) (joining : Bool) (c : Command) (t : State) → (after_run e joining c t).history.dropped ≡ false → e.history.dropped ≡ false
-unfolding recorded with_entry joined
-dropped_run e joining c t off = by_edits (eqb (length t.edits) 0) joining off
-  where
-    by_or : (a b : Bool) → (a || b) ≡ false → a ≡ false
-    by_or true b e = absurd (true≢false e)
-    by_or false b e = refl
+-- without the oldest
+led_cut : (dropped : Bool) (page : Forest Content) (n : ℕ) (xs : List Entry) (f : Forest Content) → LedFrom dropped page xs f → LedFrom true page (take n xs) f
+led_cut dropped page zero xs f led = λ off. absurd (true≢false off)
+led_cut dropped page (suc n) [] f led = λ off. absurd (true≢false off)
+led_cut dropped page (suc n) (x ∷ xs) f led = (led.0, led_cut dropped page n xs x.before.document led.1)
 
-    by_edits : (b j : Bool) → (cond b e.history (cond j (joined t e.history) (with_entry (entry_of e.state t) e.history))).dropped ≡ false → e.history.dropped ≡ false
-    by_edits true j off = off
-    by_edits false true off = off
-    by_edits false false off = by_or e.history.dropped (nat_le e.history.depth (length e.history.undo)) off
+neither : (a b : Bool) → (a || b) ≡ false → (a ≡ false) × (b ≡ false)
+neither true b e = absurd (true≢false e)
+neither false b e = (refl, e)
 
 module _ (page : Forest Content) (start cap : ℕ) where
   abbrev pub Tracked : Editing → Type 0
@@ -72,7 +69,7 @@ module _ (page : Forest Content) (start cap : ℕ) where
     joinable = λ on. absurd (true≢false (sym on));
     undo = subst (λ (n : ℕ). Each (IsKnown start n) e.history.undo) (sym next) tr.undo;
     redo = subst (λ (n : ℕ). Each (IsKnown start n) e.history.redo) (sym next) tr.redo;
-    past = subst (λ (f : Forest Content). LedFrom page e.history.undo f) (sym trees) tr.past;
+    past = subst (λ (f : Forest Content). LedFrom e.history.dropped page e.history.undo f) (sym trees) tr.past;
     future = subst (λ (f : Forest Content). LeadOn e.history.redo f) (sym trees) tr.future;
   }
 
@@ -82,7 +79,7 @@ module _ (page : Forest Content) (start cap : ℕ) where
   unfolding undone_state undone_history at_view
   tracked_undone e tr = by_entries e.history.undo tr.undo tr.past
     where
-      by_entries : (es : List Entry) → Each (IsKnown start e.state.next) es → LedFrom page es e.state.trees
+      by_entries : (es : List Entry) → Each (IsKnown start e.state.next) es → LedFrom e.history.dropped page es e.state.trees
           → Tracked (record { state = undone_state_by es e.state; history = undone_history_by es e.history; going = going_past es e.going })
       by_entries [] known past = tr
       by_entries (x ∷ xs) known past = record {
@@ -114,7 +111,7 @@ module _ (page : Forest Content) (start cap : ℕ) where
         joinable = λ on. absurd (true≢false (sym on));
         undo = (known.0, tr.undo);
         redo = known.1;
-        past = (refl, subst (λ (f : Forest Content). LedFrom page e.history.undo f) (sym future.0) tr.past);
+        past = (refl, subst (λ (f : Forest Content). LedFrom e.history.dropped page e.history.undo f) (sym future.0) tr.past);
         future = future.1;
       }
 
@@ -132,7 +129,7 @@ module _ (page : Forest Content) (start cap : ℕ) where
     record Records (k : History) : Type 0 where
       undo : Each (IsKnown start t.next) k.undo
       redo : Each (IsKnown start t.next) k.redo
-      past : LedFrom page k.undo (document_of t.trees)
+      past : LedFrom k.dropped page k.undo (document_of t.trees)
       future : LeadOn k.redo (document_of t.trees)
       depth : 0 < k.depth
 
@@ -146,30 +143,33 @@ module _ (page : Forest Content) (start cap : ℕ) where
         record {
           undo = later h.undo tr.undo;
           redo = later h.redo tr.redo;
-          past = subst (λ (f : Forest Content). LedFrom page h.undo f) (sym doc) tr.past;
+          past = subst (λ (f : Forest Content). LedFrom h.dropped page h.undo f) (sym doc) tr.past;
           future = subst (λ (f : Forest Content). LeadOn h.redo f) (sym doc) tr.future;
           depth = tr.depth;
         }
 
     -- with an entry of its own
-    with_own : (h.dropped || nat_le h.depth (length h.undo)) ≡ false → Records (with_entry (entry_of s t) h)
+    with_own : Records (with_entry (entry_of s t) h)
     unfolding with_entry view_of
-    with_own off =
-        let fits : take h.depth (entry_of s t ∷ h.undo) ≡ entry_of s t ∷ h.undo = take_all h.depth (entry_of s t ∷ h.undo) (let room = within h.dropped (nat_le h.depth (length h.undo)) refl off in omega (arith, room)) in
+    with_own =
         let own = entry_known start s t tr.valid tr.alone tr.low l in
         record {
-          undo = subst (λ (w : List Entry). Each (IsKnown start t.next) w) (sym fits) (own, later h.undo tr.undo);
+          undo = each_take (IsKnown start t.next) h.depth (entry_of s t ∷ h.undo) (own, later h.undo tr.undo);
           redo = tt;
-          past = subst (λ (w : List Entry). LedFrom page w (document_of t.trees)) (sym fits)
-              (refl, subst (λ (f : Forest Content). LedFrom page h.undo f) (sym tr.alone) tr.past);
+          past = by_drop (h.dropped || nat_le h.depth (length h.undo)) refl
+              (refl, subst (λ (f : Forest Content). LedFrom h.dropped page h.undo f) (sym tr.alone) tr.past);
           future = tt;
           depth = tr.depth;
         }
       where
-        within : (a b : Bool) → nat_le h.depth (length h.undo) ≡ b → (a || b) ≡ false → suc (length h.undo) ≤ h.depth
-        within true b is none = absurd (true≢false none)
-        within false true is none = absurd (true≢false none)
-        within false false is none = grind (arith, nat_tests, is)
+        by_drop : (b : Bool) → (h.dropped || nat_le h.depth (length h.undo)) ≡ b → LedFrom h.dropped page (entry_of s t ∷ h.undo) (document_of t.trees) → LedFrom b page (take h.depth (entry_of s t ∷ h.undo)) (document_of t.trees)
+        by_drop true e led = led_cut h.dropped page h.depth (entry_of s t ∷ h.undo) (document_of t.trees) led
+        by_drop false e led =
+            let off = neither h.dropped (nat_le h.depth (length h.undo)) e in
+            let room : suc (length h.undo) ≤ h.depth = grind (arith, nat_tests, off.1) in
+            let fits : take h.depth (entry_of s t ∷ h.undo) ≡ entry_of s t ∷ h.undo = take_all h.depth (entry_of s t ∷ h.undo) (omega (arith, room)) in
+            let all : LedFrom false page (entry_of s t ∷ h.undo) (document_of t.trees) = subst (λ (b : Bool). LedFrom b page (entry_of s t ∷ h.undo) (document_of t.trees)) off.0 led in
+            subst (λ (w : List Entry). LedFrom false page w (document_of t.trees)) (sym fits) all
 
     -- with the last entry longer
     with_last : IsJoinable h → Records (joined t h)
@@ -179,7 +179,7 @@ module _ (page : Forest Content) (start cap : ℕ) where
         ahead : h.redo ≡ [] → (f : Forest Content) → LeadOn h.redo f
         ahead none f = subst (λ (w : List Entry). LeadOn w f) (sym none) tt
 
-        by_entries : (es : List Entry) → 0 < length es → Each (IsKnown start s.next) es → LedFrom page es s.trees → Records (record h { undo = joined_in t es })
+        by_entries : (es : List Entry) → 0 < length es → Each (IsKnown start s.next) es → LedFrom h.dropped page es s.trees → Records (record h { undo = joined_in t es })
         by_entries [] some known past = absurd (omega (arith, some))
         by_entries (x ∷ xs) some known past = record {
           undo = (longer_known start s t tr.valid tr.alone tr.low l x known.0 past.0, later xs known.1);
@@ -189,20 +189,19 @@ module _ (page : Forest Content) (start cap : ℕ) where
           depth = tr.depth;
         }
 
-    kept : (recorded joining s t h).dropped ≡ false → Records (recorded joining s t h)
+    kept : Records (recorded joining s t h)
     unfolding recorded with_entry joined
-    kept off = by_edits (eqb (length t.edits) 0) joining refl joins off
+    kept = by_edits (eqb (length t.edits) 0) joining refl joins
       where
-        by_edits : (b j : Bool) → eqb (length t.edits) 0 ≡ b → (j ≡ true → goes_on e.going ≡ true) → (cond b h (cond j (joined t h) (with_entry (entry_of s t) h))).dropped ≡ false
-            → Records (cond b h (cond j (joined t h) (with_entry (entry_of s t) h)))
-        by_edits true j none on off = as_before (let z : length t.edits ≡ 0 = grind (arith, nat_tests, none) in z)
-        by_edits false true some on off = with_last (tr.joinable (on refl))
-        by_edits false false some on off = with_own off
+        by_edits : (b j : Bool) → eqb (length t.edits) 0 ≡ b → (j ≡ true → goes_on e.going ≡ true) → Records (cond b h (cond j (joined t h) (with_entry (entry_of s t) h)))
+        by_edits true j none on = as_before (let z : length t.edits ≡ 0 = grind (arith, nat_tests, none) in z)
+        by_edits false true some on = with_last (tr.joinable (on refl))
+        by_edits false false some on = with_own
 
-    pub tracked_run : (after_run e joining c t).history.dropped ≡ false → Tracked (after_run e joining c t)
+    pub tracked_run : Tracked (after_run e joining c t)
     unfolding rested
-    tracked_run off =
-        let r = kept off in
+    tracked_run =
+        let r = kept in
         record {
           valid = valid_rested t l.valid;
           alone = document_again t.trees t.next l.valid.forest;

@@ -3,3 +3,4 @@ pub mod Beginnings
 pub mod Steps
 pub mod Lines
 pub mod Texts
+pub mod ReadBack

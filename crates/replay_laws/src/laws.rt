@@ -1,7 +1,8 @@
-//! The laws of logs.
+//! The laws of logs, and of what sessions leave.
 
 ghost use Rattle.replay_laws.specs.Beginnings.{BeginsWithPage, DrawsNewLabels, SpellsEntries};
 ghost use Rattle.replay_laws.specs.Lines.{LinesReplay, StepsAreLines};
+ghost use Rattle.replay_laws.specs.ReadBack.{LabelsSuffice, SessionReadsBack};
 ghost use Rattle.replay_laws.specs.Steps.{SessionReplays};
 ghost use Rattle.replay_laws.specs.Texts.{SessionTextReplays};
 
@@ -46,4 +47,15 @@ pub fn log_texts_replay(page: &Arena, editor: &Editor)
     page.valid();
     editor.document().led_onward();
     logs_replay(page, editor);
+}
+
+/// The document that a session leaves, printed as HTML and read again, is the same but that texts
+/// side by side are joined and empty ones gone, where no void element has children, and the depth
+/// and the length are within what is read. Labels below the cap of the session suffice for it.
+pub fn documents_read_back(page: &Arena, editor: &Editor)
+    ensures same { SessionReadsBack page.now editor.now.editing }
+    ensures labels { LabelsSuffice page.now editor.now.editing }
+{
+    page.valid();
+    editor.document().valid();
 }

@@ -4,4 +4,6 @@
 
 mod laws;
 
-pub use laws::{log_texts_replay, logs_begin_with_the_page, logs_replay, steps_are_lines};
+pub use laws::{
+    documents_read_back, log_texts_replay, logs_begin_with_the_page, logs_replay, steps_are_lines,
+};

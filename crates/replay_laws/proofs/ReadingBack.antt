@@ -1,0 +1,73 @@
+-- The document that a session leaves is read back.
+use Rattle.std.proofs.Common.{◌≡◌, ℕ, suc, ◌+◌, ◌≤◌, List, [], ◌∷◌, subst, sym, arith}
+use Rattle.dom_model.specs.declared.Content.{Content}
+use Rattle.dom_model.specs.declared.Content.TheVariants.{Document, Element, Words, Remark}
+use Rattle.dom_model.specs.ArenaState.{ArenaState as Arena, IsValid as IsArena}
+use Rattle.dom_model.specs.Forest.{Forest, total}
+use Rattle.dom_model.specs.Forest.Forest.{Nil, Tree}
+use Rattle.dom_model.specs.Places.{kids_in}
+use Rattle.dom_model.proofs.Few.{total-few}
+use Rattle.edit_model.specs.Valid.{IsForest}
+use Rattle.edit_model.proofs.Documents.{document_shape}
+use Rattle.edit_engine.specs.Editing.{Editing}
+use Rattle.page_laws.specs.Tidy.{label_after, words_before, with_words, tidied}
+use Rattle.page_laws.proofs.ReadBack.{document_reading_back}
+use Rattle.replay_laws.specs.ReadBack.{SessionReadsBack, LabelsSuffice}
+use Rattle.replay_laws.proofs.Acts.{session_tracked}
+use Rattle.replay_laws.proofs.ProperSessions.{session_proper}
+use Rattle.replay_laws.proofs.Texts.{page_nodes}
+use Rattle.replay_laws.proofs.WrittenNodes.{kids_written}
+
+-- ---- labels
+
+abbrev size : Forest Content → ℕ
+size f = total (λ _ _. 1) f
+
+after_all : (n : ℕ) (f : Forest Content) → label_after n f ≡ n + size f
+after_all n Nil = omega arith
+after_all n (Tree l c ks rest) = (let a = after_all (suc n) ks in let b = after_all (label_after (suc n) ks) rest in omega (arith, a, b))
+
+before_few : (l : ℕ) (t : List ℕ) (f : Forest Content) → size (words_before l t f) ≤ size f + 1
+before_few l t Nil = omega arith
+before_few l t (Tree m Document ks rest) = omega arith
+before_few l t (Tree m (Element name list) ks rest) = omega arith
+before_few l t (Tree m (Words u) ks rest) = omega arith
+before_few l t (Tree m (Remark u) ks rest) = omega arith
+
+words_few : (l : ℕ) (t : List ℕ) (f : Forest Content) → size (with_words l t f) ≤ size f + 1
+words_few l [] f = omega arith
+words_few l (x ∷ xs) f = before_few l (x ∷ xs) f
+
+tidied_few : (f : Forest Content) → size (tidied f) ≤ size f
+tidied_few Nil = omega arith
+tidied_few (Tree l Document ks rest) = omega (arith, tidied_few ks, tidied_few rest)
+tidied_few (Tree l (Element name list) ks rest) = omega (arith, tidied_few ks, tidied_few rest)
+tidied_few (Tree l (Words t) ks rest) = omega (arith, words_few l t (tidied rest), tidied_few rest)
+tidied_few (Tree l (Remark t) ks rest) = omega (arith, tidied_few rest)
+
+-- fewer than were drawn
+labels_few : (f : Forest Content) (next : ℕ) → IsForest f next → label_after 1 (tidied (kids_in f)) ≤ next
+labels_few f next is =
+    let shape = document_shape f next is in
+    let ks = shape.1 in
+    let few = subst (λ (g : Forest Content). size g ≤ next) shape.3 (total-few f next is.distinct is.below) in
+    let all = after_all 1 (tidied ks) in
+    let less = tidied_few ks in
+    subst (λ (g : Forest Content). label_after 1 (tidied (kids_in g)) ≤ next) (sym shape.3) (omega (arith, few, all, less))
+
+pub labels_suffice : (page : Arena) (e : Editing) → IsArena page → e.state.next ≤ e.state.cap → LabelsSuffice page e
+labels_suffice page e law low s =
+    let tr = session_tracked page e law s in
+    let few = labels_few e.state.trees e.state.next tr.valid.forest in
+    let same = tr.capped in
+    omega (arith, few, low, same)
+
+-- ---- the document
+
+pub session_reads_back : (page : Arena) (e : Editing) → IsArena page → SessionReadsBack page e
+session_reads_back page e law bytes r s voids d c deep labels fits =
+    let tr = session_tracked page e law s in
+    let proper = session_proper page e law (page_nodes bytes page r) s in
+    let f = e.state.trees in
+    let back = document_reading_back d c f (kids_written d e.state.next f tr.valid.forest proper.state.nodes voids deep) labels fits in
+    record { children = back.0; nodes = back.1; reading = back.2 }

@@ -1,0 +1,50 @@
+-- The document that a session leaves, printed as HTML and read again.
+use Rattle.std.specs.Prelude.{◌≡◌, ℕ, ◌≤◌, Bool, true, false, List, length}
+use Rattle.dom_model.specs.declared.Content.{Content}
+use Rattle.dom_model.specs.declared.Content.TheVariants.{Element}
+use Rattle.dom_model.specs.ArenaState.{ArenaState as Arena}
+use Rattle.dom_model.specs.Document.{page_depth}
+use Rattle.dom_model.specs.Forest.{Forest}
+use Rattle.dom_model.specs.Forest.Forest.{Nil, Tree}
+use Rattle.dom_model.specs.Places.{kids_in}
+use Rattle.page_grammar.specs.Kind.{page_limit}
+use Rattle.page_grammar.specs.Names.{is_void}
+use Rattle.page_grammar.specs.Nodes.{nodes_of}
+use Rattle.page_grammar.specs.Page.{Siblings}
+use Rattle.page_grammar.specs.Reading.{Children, page_reading}
+use Rattle.page_laws.specs.Tidy.{label_after, tidied, numbered}
+use Rattle.page_write.specs.Html.{document_html}
+use Rattle.edit_engine.specs.Editing.{Editing}
+use Rattle.replay_laws.specs.Sessions.{IsOfSession}
+use Rattle.replay_laws.specs.Texts.{IsReadAs}
+
+-- an element for which HTML has no end tag
+abbrev pub is_void_element : Content → Bool
+is_void_element (Element name attributes) = is_void name
+is_void_element _ = false
+
+-- none of these has children
+abbrev pub VoidsAreEmpty : Forest Content → Type 0
+VoidsAreEmpty Nil = Unit {0}
+VoidsAreEmpty (Tree l c ks rest) =
+    (is_void_element c ≡ true → ks ≡ Nil) × VoidsAreEmpty ks × VoidsAreEmpty rest
+
+-- the document, printed as HTML, is read as the same nodes in the same order, but that texts side by
+-- side are joined, empty texts gone, and labels drawn anew
+pub record IsReadBack (d c : ℕ) (f : Forest Content) : Type 0 where
+  pub children : Siblings
+  pub nodes : nodes_of children ≡ numbered 1 (tidied (kids_in f))
+  pub reading : page_reading d c (document_html f) ≡ Children children
+
+-- So it is at the end of every session from a page that was read, where no void element has children,
+-- no node is deeper than the reader allows, labels below its cap suffice, and the HTML isn't longer
+-- than a page may be.
+abbrev pub SessionReadsBack : Arena → Editing → Type 0
+SessionReadsBack page e =
+    (bytes : List ℕ) → IsReadAs bytes page → IsOfSession page e → VoidsAreEmpty e.state.trees
+    → (d c : ℕ) → page_depth e.state.trees ≤ d → label_after 1 (tidied (kids_in e.state.trees)) ≤ c
+    → length (document_html e.state.trees) ≤ page_limit → IsReadBack d c e.state.trees
+
+-- labels below the cap of the session always suffice
+abbrev pub LabelsSuffice : Arena → Editing → Type 0
+LabelsSuffice page e = IsOfSession page e → label_after 1 (tidied (kids_in e.state.trees)) ≤ page.cap
