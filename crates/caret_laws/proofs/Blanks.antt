@@ -5,11 +5,11 @@ use Rattle.std.specs.Prelude.{slice_get}
 use Rattle.std.specs.List.{filter}
 use Rattle.std.specs.Option.{option_map, option_map_or, option_and_then}
 use Rattle.std.proofs.lemmas.Bool.{cases_Bool, lt-ltb, le-leb, ne_eqb}
-use Rattle.std.proofs.lemmas.Bool.Decides.{eqb_tells}
+use Rattle.std.proofs.lemmas.Bool.Decides.{eqb_tells, nat_tests}
 use Rattle.std.proofs.lemmas.Slice.Eq.{bytes_eq-Decides}
 use Rattle.dom_model.specs.declared.Content.{Content}
 use Rattle.dom_model.specs.declared.Content.TheVariants.{Document, Element, Words, Remark}
-use Rattle.dom_model.specs.Contents.{is_element, name_in, length_in, length_of, name_of}
+use Rattle.dom_model.specs.Contents.{is_element, name_in, with_chars, length_in, length_of, name_of}
 use Rattle.dom_model.specs.Editing.{is_true_state, host_by, offered, host_from, editing_host, is_host}
 use Rattle.dom_model.specs.Forest.{Forest, either, is_label, tree_of, parent_of, children_of, content_of, IsDistinct, IsWithin}
 use Rattle.dom_model.specs.Forest.Forest.{Nil, Tree}
@@ -78,6 +78,16 @@ rewritten_revised f next law n at count chars put text = record {
     untouched : (l : ℕ) → n ≢ l → (o : Option Content) → option_map (λ c. cond (eqb n l) (with_replaced at count put c) c) o ≡ o
     untouched l off None = refl
     untouched l off (Some c) = rw (ne_eqb n l off) refl
+
+-- the content of a node but for its characters
+abbrev pub body_at : Forest Content → ℕ → Option Content
+body_at f l = option_map (with_chars []) (content_of f l)
+
+bodies_rewritten : (f g : Forest Content) (n : ℕ) (xs ys : List ℕ) → Rewritten f g n xs ys → (l : ℕ) → body_at g l ≡ body_at f l
+bodies_rewritten f g n xs ys r l = elim (eqb_tells n l) [
+  | inl (_, e) ↦ subst (λ k. body_at g k ≡ body_at f k) e (ap (option_map (with_chars [])) r.own ∙ sym (ap (option_map (with_chars [])) r.was))
+  | inr (_, off) ↦ ap (option_map (with_chars [])) (r.others l off)
+]
 
 index_same : (f g : Forest Content) (n : ℕ) (xs ys : List ℕ) → Rewritten f g n xs ys → (l : ℕ) → index_of g l ≡ index_of f l
 index_same f g n xs ys r l =
@@ -235,6 +245,24 @@ names_replaced f n at count put l =
 
 -- ---- states
 
+-- a point of a node stays at the start of the node and at its end, and where it is but for a text; what is a text was one
+pub record Edges (s t : State) (a x : Point) : Type 0 where
+  pub start : a.offset ≡ 0 → x.offset ≡ 0
+  pub end : a.offset ≡ length_of s.trees a.label → x.offset ≡ length_of t.trees x.label
+  pub rest : ((chars : List ℕ) → content_of s.trees a.label ≢ Some (Words chars)) → x ≡ a
+  pub text : (chars : List ℕ) → content_of t.trees x.label ≡ Some (Words chars) → (ys : List ℕ) × (content_of s.trees a.label ≡ Some (Words ys))
+
+edges_here : (s : State) (a : Point) → Edges s s a a
+edges_here s a = record { start = λ e. e; end = λ e. e; rest = λ _. refl; text = λ chars e. (chars, e) }
+
+edges_trans : (s t u : State) (a x y : Point) → Edges s t a x → Edges t u x y → Edges s u a y
+edges_trans s t u a x y p q = record {
+  start = λ e. q.start (p.start e);
+  end = λ e. q.end (p.end e);
+  rest = λ none. (q.rest (λ chars e. (let w = p.text chars e in none w.0 w.1)) ∙ p.rest none);
+  text = λ chars e. (let w = q.text chars e in p.text w.0 w.1);
+}
+
 -- the points of the selection stay at their nodes, and together where they are; what stands before them and after them stays,
 -- besides blanks, and the one stays behind the other in a text
 pub record Moved (s t : State) (a b : Point) : Type 0 where
@@ -247,6 +275,8 @@ pub record Moved (s t : State) (a b : Point) : Type 0 where
   pub anchor_front : (F B : List Leaf) → Front s a F B → Front t anchor F B
   pub focus_front : (F B : List Leaf) → Front s b F B → Front t focus F B
   pub ordered : a.label ≡ b.label → a.offset ≤ b.offset → anchor.offset ≤ focus.offset
+  pub anchor_edges : Edges s t a anchor
+  pub focus_edges : Edges s t b focus
 
 moved_trans : (s t u : State) (a b : Point) (m : Moved s t a b) → Moved t u m.anchor m.focus → Moved s u a b
 moved_trans s t u a b m n = record {
@@ -259,6 +289,8 @@ moved_trans s t u a b m n = record {
   anchor_front = λ F B k. n.anchor_front F B (m.anchor_front F B k);
   focus_front = λ F B k. n.focus_front F B (m.focus_front F B k);
   ordered = λ same low. n.ordered (m.at_anchor ∙ (same ∙ sym m.at_focus)) (m.ordered same low);
+  anchor_edges = edges_trans s t u a m.anchor n.anchor m.anchor_edges n.anchor_edges;
+  focus_edges = edges_trans s t u b m.focus n.focus m.focus_edges n.focus_edges;
 }
 
 -- a state in which blanks alone have come or gone
@@ -269,20 +301,28 @@ pub record Blanked (s t : State) : Type 0 where
   pub inside : (l : ℕ) → IsWithin s.trees 0 l → IsWithin t.trees 0 l
   pub hosts : (l : ℕ) → is_host t.trees l ≡ is_host s.trees l
   pub children : (l : ℕ) → children_of t.trees l ≡ children_of s.trees l
+  pub parents : (l : ℕ) → parent_of t.trees l ≡ parent_of s.trees l
   pub names : (l : ℕ) → name_of t.trees l ≡ name_of s.trees l
+  pub bodies : (l : ℕ) → body_at t.trees l ≡ body_at s.trees l
+  pub texts : (l : ℕ) (xs : List ℕ) → content_of s.trees l ≡ Some (Words xs) → (ys : List ℕ) × (content_of t.trees l ≡ Some (Words ys)) × (solid_chars ys ≡ solid_chars xs)
   pub longer : (l : ℕ) (xs : List ℕ) → content_of t.trees l ≡ Some (Words xs) → (ys : List ℕ) × (content_of s.trees l ≡ Some (Words ys)) × (length xs ≤ length ys)
+  pub others : (l : ℕ) → ((chars : List ℕ) → content_of s.trees l ≢ Some (Words chars)) → content_of t.trees l ≡ content_of s.trees l
   pub settings : (t.overrides ≡ s.overrides) ⊎ (t.overrides ≡ no_overrides)
 
 pub blanked_here : (s : State) → IsValid s → Blanked s s
 blanked_here s is = record {
   valid = is;
   order = refl;
-  moved = λ a b e. record { anchor = a; focus = b; selects = e; at_anchor = refl; at_focus = refl; together = λ same. same; anchor_front = λ F B k. k; focus_front = λ F B k. k; ordered = λ same low. low };
+  moved = λ a b e. record { anchor = a; focus = b; selects = e; at_anchor = refl; at_focus = refl; together = λ same. same; anchor_front = λ F B k. k; focus_front = λ F B k. k; ordered = λ same low. low; anchor_edges = edges_here s a; focus_edges = edges_here s b };
   inside = λ l h. h;
   hosts = λ l. refl;
   children = λ l. refl;
+  parents = λ l. refl;
   names = λ l. refl;
+  bodies = λ l. refl;
+  texts = λ l xs e. (xs, e, refl);
   longer = λ l xs e. (xs, e, omega arith);
+  others = λ l none. refl;
   settings = inl refl;
 }
 
@@ -300,11 +340,18 @@ blanked_trans s t u p q = record {
   inside = λ l h. q.inside l (p.inside l h);
   hosts = λ l. q.hosts l ∙ p.hosts l;
   children = λ l. q.children l ∙ p.children l;
+  parents = λ l. q.parents l ∙ p.parents l;
   names = λ l. q.names l ∙ p.names l;
+  bodies = λ l. q.bodies l ∙ p.bodies l;
+  texts = λ l xs e. (
+      let m = p.texts l xs e in
+      let n = q.texts l m.0 m.1 in
+      (n.0, n.1, n.2 ∙ m.2));
   longer = λ l xs e. (
       let m = q.longer l xs e in
       let n = p.longer l m.0 m.1 in
       (n.0, n.1, omega (arith, m.2, n.2)));
+  others = λ l none. (let same = p.others l none in q.others l (λ chars e. none chars (sym same ∙ e)) ∙ same);
   settings = settings_both s t u p.settings q.settings;
 }
 
@@ -366,8 +413,34 @@ module _ (u : State) (is : IsValid u) (n o count : ℕ) (new chars : List ℕ) (
       by true = refl
       by false = refl
 
+  -- the start and the end of the text
+  module _ (at_end : after_replacement o count (length new) (length chars) ≡ length (spliced chars o count new)) where
+    edges_own : (a : Point) → a.label ≡ n → Edges u t a (with_offset a (after_replacement o count (length new) a.offset))
+    edges_own a at_n =
+        let was : content_of u.trees a.label ≡ Some (Words chars) = ap (content_of u.trees) at_n ∙ text in
+        let now : content_of t.trees a.label ≡ Some (Words (spliced chars o count new)) = ap (content_of t.trees) at_n ∙ rewritten.own in
+        record {
+          start = λ e. ap (after_replacement o count (length new)) e ∙ (let low = le-leb 0 o (omega arith) in rw low refl);
+          end = λ e. ap (after_replacement o count (length new)) (e ∙ length_words u.trees a.label chars was) ∙ (at_end ∙ sym (length_words t.trees a.label (spliced chars o count new) now));
+          rest = λ none. absurd (none chars was);
+          text = λ xs e. (chars, was);
+        }
+
+    edges_other : (a : Point) → a.label ≢ n → Edges u t a a
+    edges_other a off =
+        let same = rewritten.others a.label (λ e. off (sym e)) in
+        record {
+          start = λ e. e;
+          end = λ e. e ∙ sym (length_parts u.trees t.trees a.label same (rewritten.children a.label));
+          rest = λ none. refl;
+          text = λ xs e. (xs, sym same ∙ e);
+        }
+
+    edges_then : (a : Point) → Edges u t a (adjusted event a)
+    edges_then a = elim (eqb_tells a.label n) [ inl (v, at_n) ↦ rw v (edges_own a at_n) | inr (v, off) ↦ rw v (edges_other a off) ]
+
   -- what stands before a place in a text, and after it
-  module _ (same : solid_chars (spliced chars o count new) ≡ solid_chars chars) (places : (i : ℕ) → i ≤ length chars → SamePlace chars i (spliced chars o count new) (after_replacement o count (length new) i)) where
+  module _ (same : solid_chars (spliced chars o count new) ≡ solid_chars chars) (places : (i : ℕ) → i ≤ length chars → SamePlace chars i (spliced chars o count new) (after_replacement o count (length new) i)) (at_end : after_replacement o count (length new) (length chars) ≡ length (spliced chars o count new)) where
     abbrev change : Content → Content
     change c = with_replaced o count new c
 
@@ -435,7 +508,17 @@ module _ (u : State) (is : IsValid u) (n o count : ℕ) (new chars : List ℕ) (
       anchor_front = front_then a;
       focus_front = front_then b;
       ordered = rises a b;
+      anchor_edges = edges_then at_end a;
+      focus_edges = edges_then at_end b;
     }
+
+  texts_edit : solid_chars (spliced chars o count new) ≡ solid_chars chars → (l : ℕ) (xs : List ℕ) → content_of u.trees l ≡ Some (Words xs) → (ys : List ℕ) × (content_of t.trees l ≡ Some (Words ys)) × (solid_chars ys ≡ solid_chars xs)
+  texts_edit same l xs e = elim (eqb_tells n l) [
+    | inr (_, off) ↦ (xs, rewritten.others l off ∙ e, refl)
+    | inl (_, at_l) ↦ (
+        let is_xs : chars ≡ xs = words_same chars xs (sym text ∙ (ap (content_of u.trees) at_l ∙ e)) in
+        (spliced chars o count new, subst (λ k. content_of t.trees k ≡ Some (Words (spliced chars o count new))) at_l rewritten.own, same ∙ ap solid_chars is_xs))
+  ]
 
   solid_order_edit : solid_chars (spliced chars o count new) ≡ solid_chars chars → KeepsOrderUpToBlanks u t
   solid_order_edit same = ap (λ g. solid_leaves (tree_of g 0)) trees_t ∙ solid_replaced u.trees u.next is.forest n o count new chars text same
@@ -454,16 +537,20 @@ module _ (u : State) (is : IsValid u) (n o count : ℕ) (new chars : List ℕ) (
       by true = inr refl
       by false = inl refl
 
-  blanked_edit : length (spliced chars o count new) ≤ length chars → (same : solid_chars (spliced chars o count new) ≡ solid_chars chars) → ((i : ℕ) → i ≤ length chars → SamePlace chars i (spliced chars o count new) (after_replacement o count (length new) i)) → Blanked u t
-  blanked_edit low same places = record {
+  blanked_edit : length (spliced chars o count new) ≤ length chars → (same : solid_chars (spliced chars o count new) ≡ solid_chars chars) → ((i : ℕ) → i ≤ length chars → SamePlace chars i (spliced chars o count new) (after_replacement o count (length new) i)) → after_replacement o count (length new) (length chars) ≡ length (spliced chars o count new) → Blanked u t
+  blanked_edit low same places at_end = record {
     valid = valid_edited (Replace n o count new) u is;
     order = solid_order_edit same;
-    moved = moved_then same places;
+    moved = moved_then same places at_end;
     inside = rewritten.inside;
     hosts = hosts_edit;
     children = rewritten.children;
+    parents = rewritten.parents;
     names = names_edit;
+    bodies = bodies_rewritten u.trees t.trees n chars (spliced chars o count new) rewritten;
+    texts = texts_edit same;
     longer = longer_rewritten u t n chars (spliced chars o count new) rewritten low;
+    others = λ l none. rewritten.others l (λ e. none chars (subst (λ k. content_of u.trees k ≡ Some (Words chars)) e text));
     settings = settings_then;
   }
 
@@ -500,6 +587,19 @@ cut_places o c xs e blank i low = subst (λ ys. SamePlace xs i ys (after_replace
 put_places : (b o : ℕ) (xs : List ℕ) → is_blank b ≡ true → (i : ℕ) → i ≤ length xs → SamePlace xs i (spliced xs o 0 (b ∷ [])) (after_replacement o 0 1 i)
 put_places b o xs blank i low = subst (λ ys. SamePlace xs i ys (after_replacement o 0 1 i)) (sym (put_is b o xs)) (put_place b o i xs blank low)
 
+-- the end of a text stays its end
+cut_end : (o l : ℕ) → o < l → after_replacement o 1 0 l + 1 ≡ l
+cut_end o l low = grind (arith, nat_tests)
+
+put_end : (o l : ℕ) → o < l → after_replacement o 0 1 l ≡ l + 1
+put_end o l low = grind (arith, nat_tests)
+
+ends_cut : (o c : ℕ) (xs : List ℕ) → slice_get xs o ≡ Some c → after_replacement o 1 0 (length xs) ≡ length (spliced xs o 1 [])
+ends_cut o c xs e = (let l = ap length (cut_is o xs) in omega (arith, l, length_cut c o xs e, cut_end o (length xs) (get_low o c xs e)))
+
+ends_put : (b o c : ℕ) (xs : List ℕ) → slice_get xs o ≡ Some c → after_replacement o 0 1 (length xs) ≡ length (spliced xs o 0 (b ∷ []))
+ends_put b o c xs e = (let l = ap length (put_is b o xs) in omega (arith, l, length_put b c o xs e, put_end o (length xs) (get_low o c xs e)))
+
 -- the character that a new one is put before comes after it
 put_then : (b c o : ℕ) (xs : List ℕ) → slice_get xs o ≡ Some c → slice_get (spliced xs o 0 (b ∷ [])) (o + 1) ≡ Some c
 put_then b c o xs e = rw (put_is b o xs, add-one) (by o xs e)
@@ -524,7 +624,7 @@ cut_out u n o c is room found blank = elim (cases_Bool (is_made_edit (Replace n 
       let t = edited (Replace n o 1 []) u in
       let r : Rewritten u.trees t.trees n w.0 (cut o w.0) = subst (λ xs. Rewritten u.trees t.trees n w.0 xs) (cut_is o w.0) (rewritten u is n o 1 [] w.0 w.1 may) in
       record {
-        blanked = blanked_edit u is n o 1 [] w.0 w.1 may (let e = ap length (cut_is o w.0) in omega (arith, e, length_cut c o w.0 w.2)) (ap solid_chars (cut_is o w.0) ∙ solid_cut c o w.0 w.2 blank) (cut_places o c w.0 w.2 blank);
+        blanked = blanked_edit u is n o 1 [] w.0 w.1 may (let e = ap length (cut_is o w.0) in omega (arith, e, length_cut c o w.0 w.2)) (ap solid_chars (cut_is o w.0) ∙ solid_cut c o w.0 w.2 blank) (cut_places o c w.0 w.2 blank) (ends_cut o c w.0 w.2);
         room = room_then u t n w.0 (cut o w.0) room r (omega (arith, length_cut c o w.0 w.2));
         trails = λ x here q. trail_cut u.trees t.trees u.next is.forest n o w.0 r x (at n o) here q (trail_here u.trees (at n o));
       })
@@ -571,17 +671,24 @@ swap_out u n o b c is room found blank was = elim (cases_Bool (is_own u n)) [
       let front : solid_chars (spliced w.0 o 0 (b ∷ [])) ≡ solid_chars w.0 = ap solid_chars (put_is b o w.0) ∙ solid_put b o w.0 blank in
       let back : solid_chars (spliced (spliced w.0 o 0 (b ∷ [])) (o + 1) 1 []) ≡ solid_chars (spliced w.0 o 0 (b ∷ [])) =
       ap solid_chars more ∙ (swapped_solid w.0 w.2 ∙ sym front) in
-      let second = blanked_edit v is_v n (o + 1) 1 [] (spliced w.0 o 0 (b ∷ [])) r.own may' (omega (arith, short, long)) back (cut_places (o + 1) c (spliced w.0 o 0 (b ∷ [])) (put_then b c o w.0 w.2) was) in
+      let second = blanked_edit v is_v n (o + 1) 1 [] (spliced w.0 o 0 (b ∷ [])) r.own may' (omega (arith, short, long)) back (cut_places (o + 1) c (spliced w.0 o 0 (b ∷ [])) (put_then b c o w.0 w.2) was) (ends_cut (o + 1) c (spliced w.0 o 0 (b ∷ [])) (put_then b c o w.0 w.2)) in
       record {
         blanked = record {
           valid = second.valid;
           order = second.order ∙ solid_order_edit u is n o 0 (b ∷ []) w.0 w.1 may front;
-          moved = λ a z e. (let m = moved_then u is n o 0 (b ∷ []) w.0 w.1 may front (put_places b o w.0 blank) a z e in moved_trans u v t a z m (second.moved m.anchor m.focus m.selects));
+          moved = λ a z e. (let m = moved_then u is n o 0 (b ∷ []) w.0 w.1 may front (put_places b o w.0 blank) (ends_put b o c w.0 w.2) a z e in moved_trans u v t a z m (second.moved m.anchor m.focus m.selects));
           inside = λ l i. second.inside l (r.inside l i);
           hosts = λ l. second.hosts l ∙ hosts_edit u is n o 0 (b ∷ []) w.0 w.1 may l;
           children = λ l. second.children l ∙ r.children l;
+          parents = λ l. second.parents l ∙ r.parents l;
+          texts = λ l xs e. (
+              let m = texts_edit u is n o 0 (b ∷ []) w.0 w.1 may front l xs e in
+              let k = second.texts l m.0 m.1 in
+              (k.0, k.1, k.2 ∙ m.2));
           names = λ l. second.names l ∙ names_edit u is n o 0 (b ∷ []) w.0 w.1 may l;
+          bodies = bodies_rewritten u.trees t.trees n w.0 (swapped b o w.0) whole;
           longer = longer_rewritten u t n w.0 (swapped b o w.0) whole (omega (arith, length_swapped b o w.0));
+          others = λ l none. whole.others l (λ e. none w.0 (subst (λ k. content_of u.trees k ≡ Some (Words w.0)) e whole.was));
           settings = settings_both u v t (settings_then u is n o 0 (b ∷ []) w.0 w.1 may) second.settings;
         };
         room = room_then u t n w.0 (swapped b o w.0) room whole (omega (arith, length_swapped b o w.0));

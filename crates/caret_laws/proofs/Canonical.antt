@@ -114,7 +114,7 @@ module _ (f : Forest Content) (next : ℕ) (law : IsForest f next) where
       by (Some r) e h = (law.nodes l r e).leaf (let is : r.content ≡ Words chars = (let t : Some r.content ≡ Some (Words chars) = h in cc) in ap may_have_children is)
 
   -- beside a character no child stands
-  no_child_at : (l o i c k : ℕ) → char_at f (at l o) ≡ Some c → child_at f l i ≡ Some k → ⊥
+  pub no_child_at : (l o i c k : ℕ) → char_at f (at l o) ≡ Some c → child_at f l i ≡ Some k → ⊥
   no_child_at l o i c k found child =
       let w = char_there f l o c found in
       let none = ap (λ ks. slice_get ks i) (no_children l w.0 w.1) in
@@ -122,12 +122,12 @@ module _ (f : Forest Content) (next : ℕ) (law : IsForest f next) where
       cc
 
   -- at the end of a node stands no child and no character
-  no_child_end : (l o k : ℕ) → o ≡ length_of f l → child_at f l o ≡ Some k → ⊥
+  pub no_child_end : (l o k : ℕ) → o ≡ length_of f l → child_at f l o ≡ Some k → ⊥
   no_child_end l o k end child =
       let c = index_is f law.distinct l k o child in
       omega (arith, index_below f next law l k c.0, c.1, end)
 
-  no_char_end : (l o c : ℕ) → o ≡ length_of f l → char_at f (at l o) ≡ Some c → ⊥
+  pub no_char_end : (l o c : ℕ) → o ≡ length_of f l → char_at f (at l o) ≡ Some c → ⊥
   no_char_end l o c end found =
       let w = char_there f l o c found in
       let long : length_of f l ≡ length w.0 = ap (λ (k : Option Content). option_map_or (λ d. length_in d (children_of f l)) k 0) w.1 in

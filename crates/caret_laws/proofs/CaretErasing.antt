@@ -40,7 +40,7 @@ use Rattle.delete_core.specs.Places.{at, start_in, end_in, before_in, after_in, 
 use Rattle.delete_core.specs.Whitespace.{canonicalize}
 use Rattle.text_insertion.specs.Start.{erase}
 use Rattle.caret_laws.specs.SolidOrder.{solid_leaves, StandsAt, HasRoom}
-use Rattle.caret_laws.proofs.Blanks.{blanked_here, blanked_trans, caret_then}
+use Rattle.caret_laws.proofs.Blanks.{body_at, Edges, blanked_here, blanked_trans, caret_then}
 use Rattle.caret_laws.proofs.Canonical.{Ends, ends_answer, ends_look, ends_bind, ends_perform, mapped_is, same_number, child_apart, walk_keeps, Settled, canonical}
 use Rattle.caret_laws.proofs.Fronts.{TextAt, Front}
 use Rattle.caret_laws.proofs.Trails.{own_index, index_is, not_back, Step, into, out, Trail, on, trail_here, trail_step, trail_trans}
@@ -98,11 +98,11 @@ module _ (f : Forest Content) (next : ℕ) (law : IsForest f next) where
             })
       ]
 
-  to_last : (x : Point) → Trail f x (last_equivalent f x)
+  pub to_last : (x : Point) → Trail f x (last_equivalent f x)
   unfolding last_equivalent
   to_last x = walk_keeps (λ y. Trail f x y) (next_point f) (λ y z p e. on y p (next_step f y z e)) (bound.turn_bound f) x (trail_here f x)
 
-  from_first : (x : Point) → IsWithin f 0 x.label → Trail f (first_equivalent f x) x × IsWithin f 0 (first_equivalent f x).label
+  pub from_first : (x : Point) → IsWithin f 0 x.label → Trail f (first_equivalent f x) x × IsWithin f 0 (first_equivalent f x).label
   unfolding first_equivalent
   from_first x here =
       walk_keeps (λ y. Trail f y x × IsWithin f 0 y.label) (previous_point f)
@@ -130,14 +130,14 @@ caret_start f q = by (is_before f q q)
     by true = refl
     by false = refl
 
-caret_end : (f : Forest Content) (q : Point) → end_of f (record { anchor = q; focus = q }) ≡ q
+pub caret_end : (f : Forest Content) (q : Point) → end_of f (record { anchor = q; focus = q }) ≡ q
 caret_end f q = by (is_before f q q)
   where
     by : (v : Bool) → (if v then q else q) ≡ q
     by true = refl
     by false = refl
 
-caret_inside : (u : State) (q : Point) → IsValid u → StandsAt u q → IsWithin u.trees 0 q.label
+pub caret_inside : (u : State) (q : Point) → IsValid u → StandsAt u q → IsWithin u.trees 0 q.label
 caret_inside u q is caret =
     let placed : IfSome (Some (record { anchor = q; focus = q })) (IsPlacedPair u.trees) = subst (λ o. IfSome o (IsPlacedPair u.trees)) caret is.placed.selection in
     (placed_is u.trees q placed.anchor).inside
@@ -211,6 +211,15 @@ front_trees s t p F B same k = record {
   after = k.after;
 }
 
+-- where the trees stay, a point that stays is where it was
+edges_trees : (s t : State) (a q : Point) → t.trees ≡ s.trees → q ≡ a → Edges s t a q
+edges_trees s t a q same at_a = record {
+  start = λ e. ap (λ (x : Point). x.offset) at_a ∙ e;
+  end = λ e. ap (λ (x : Point). x.offset) at_a ∙ (e ∙ (ap (λ f. length_of f a.label) (sym same) ∙ ap (λ (x : Point). length_of t.trees x.label) (sym at_a)));
+  rest = λ none. at_a;
+  text = λ chars e. (chars, ap (λ f. content_of f a.label) (sym same) ∙ (ap (λ (x : Point). content_of t.trees x.label) (sym at_a) ∙ e));
+}
+
 abbrev Pair_same : Point → Point → Point → Type 0
 Pair_same q a b = (q ≡ a) × (q ≡ b)
 
@@ -219,7 +228,7 @@ pair_same q a b x y left right e =
     let same : x ≡ y = (let t = e in cc) in
     (ap (λ (p : Pair). p.anchor) (sym left ∙ (same ∙ right)), ap (λ (p : Pair). p.focus) (sym left ∙ (same ∙ right)))
 
-settled_select : (q : Point) (u : State) → IsValid u → HasRoom u → StandsAt u q → Settled u (selected q q u)
+pub settled_select : (q : Point) (u : State) → IsValid u → HasRoom u → StandsAt u q → Settled u (selected q q u)
 unfolding acted
 settled_select q u is room caret =
     let same : (selected q q u).trees ≡ u.trees = trees-selected q q u in
@@ -239,12 +248,18 @@ settled_select q u is room caret =
               anchor_front = λ F B k. front_trees u (selected q q u) q F B same (subst (λ x. Front u x F B) (sym pair_is.0) k);
               focus_front = λ F B k. front_trees u (selected q q u) q F B same (subst (λ x. Front u x F B) (sym pair_is.1) k);
               ordered = λ _ _. omega arith;
+              anchor_edges = edges_trees u (selected q q u) a q same pair_is.0;
+              focus_edges = edges_trees u (selected q q u) b q same pair_is.1;
             });
         inside = λ l h. subst (λ g. IsWithin g 0 l) (sym same) h;
         hosts = λ l. ap (λ g. is_host g l) same;
         children = λ l. ap (λ g. children_of g l) same;
+        parents = λ l. ap (λ g. parent_of g l) same;
+        texts = λ l xs e. (xs, ap (λ g. content_of g l) same ∙ e, refl);
         names = λ l. ap (λ g. name_of g l) same;
+        bodies = λ l. ap (λ g. body_at g l) same;
         longer = λ l xs e. (xs, subst (λ g. content_of g l ≡ Some (Words xs)) same e, omega arith);
+        others = λ l none. ap (λ g. content_of g l) same;
         settings = settings_selected q q u;
       };
       room = λ l chars e. room l chars (subst (λ g. content_of g l ≡ Some (Words chars)) same e);

@@ -35,7 +35,7 @@ use Rattle.caret_laws.proofs.PutElements.{Fine, left, is_kept_state, made_order,
 
 -- ---- a br is put in
 
-bare_insert : (p : ℕ) (b : Option ℕ) (x : ℕ) (u : State) → IsValid u → leaves (tree_of u.trees x) ≡ [] → KeepsOrder u (edited (Insert p b x) u)
+pub bare_insert : (p : ℕ) (b : Option ℕ) (x : ℕ) (u : State) → IsValid u → leaves (tree_of u.trees x) ≡ [] → KeepsOrder u (edited (Insert p b x) u)
 unfolding is_made_edit trees_after
 bare_insert p b x u is bare = by_made (Insert p b x) u (λ may. (
     let t = inserts u p b x may in
@@ -45,7 +45,7 @@ insert_is : (x : ℕ) (p : Point) (u : State) → final (insert_at x p) u ≡ ed
 unfolding insert_at
 insert_is x p u = rw (final-look, final-bind, final-edit, final-answer) refl
 
-start_keeps : (x : ℕ) (u : State) → IsValid u → leaves (tree_of u.trees x) ≡ [] → KeepsOrder u (final (insert_at_start x) u)
+pub start_keeps : (x : ℕ) (u : State) → IsValid u → leaves (tree_of u.trees x) ≡ [] → KeepsOrder u (final (insert_at_start x) u)
 unfolding insert_at_start
 start_keeps x u is bare = subst (λ t. KeepsOrder u t) (sym (final-look _ u)) (by (active_start u))
   where
@@ -53,21 +53,21 @@ start_keeps x u is bare = subst (λ t. KeepsOrder u t) (sym (final-look _ u)) (b
     by None = subst (λ t. KeepsOrder u t) (sym (final-answer tt u)) (keeps_refl (tree_of u.trees 0))
     by (Some p) = subst (λ t. KeepsOrder u t) (sym (insert_is x p u)) (bare_insert p.label (child_at u.trees p.label p.offset) x u is bare)
 
-abbrev Br : Content
+abbrev pub Br : Content
 Br = Element (codes "br") []
 
-br_bare : (u : State) → IsValid u → leaves (tree_of (made Br u).trees u.next) ≡ []
+pub br_bare : (u : State) → IsValid u → leaves (tree_of (made Br u).trees u.next) ≡ []
 unfolding made
 br_bare u is = new_bare (codes "br") [] (kept u) (is_kept_state u is) refl
 
-br_valid : (u : State) → IsValid u → IsValid (made Br u)
+pub br_valid : (u : State) → IsValid u → IsValid (made Br u)
 br_valid u is = subst IsValid (final-make_element (codes "br") [] u) (final_valid (make_element (codes "br") []) u is)
 
 another_is : (u : State) → final (make_break >>= insert_at_start) u ≡ final (insert_at_start u.next) (made Br u)
 unfolding make_break
 another_is u = rw (final-bind, final-make_element, value-make_element) refl
 
-another_keeps : (u : State) → IsValid u → KeepsOrder u (final (make_break >>= insert_at_start) u)
+pub another_keeps : (u : State) → IsValid u → KeepsOrder u (final (make_break >>= insert_at_start) u)
 another_keeps u is = subst (λ t. KeepsOrder u t) (sym (another_is u)) (keeps_trans (made_order Br u is) (start_keeps u.next (made Br u) (br_valid u is) (br_bare u is)))
 
 repeat_keeps : (x : ℕ) (u : State) → IsValid u → KeepsOrder u (final (repeat_break x) u)

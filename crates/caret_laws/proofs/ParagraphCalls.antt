@@ -111,7 +111,7 @@ module _ (s : State) (is : IsValid s) (x : ℕ) where
 -- ---- a new node is put after c
 
 -- the insertion is made or left out, or there is no parent
-after_is : (c d : ℕ) (v : State) (o : Option ℕ) → parent_of v.trees c ≡ o → final (insert_after c d) v ≡ option_map_or (λ p. edited (Insert p (next_of v.trees c) d) v) o v
+pub after_is : (c d : ℕ) (v : State) (o : Option ℕ) → parent_of v.trees c ≡ o → final (insert_after c d) v ≡ option_map_or (λ p. edited (Insert p (next_of v.trees c) d) v) o v
 unfolding insert_after
 after_is c d v None e = rw (final-look, e, final-answer) refl
 after_is c d v (Some p) e = rw (final-look, e, final-bind, final-edit, final-answer) refl

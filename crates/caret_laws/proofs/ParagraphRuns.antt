@@ -205,8 +205,8 @@ module _ (s : State) (h : ℕ) (b : Began s h) where
   -- ---- steps 3 and 4
 
   -- the container of a line is editable or new, and the selection stays at nodes that are inside
-  record Contains (t : State) (x : ℕ) (u : State) : Type 0 where
-    stays : Stays s h false b u
+  pub record Contains (t : State) (x : ℕ) (u : State) : Type 0 where
+    pub stays : Stays s h false b u
     own : (is_editable_for u x ≡ true) ⊎ (s.next ≤ x)
 
   module _ (t : State) (k : Stays s h false b t) where
@@ -224,7 +224,7 @@ module _ (s : State) (h : ℕ) (b : Began s h) where
           own = inr (later x new);
         }
 
-    added_none : value add_container t ≡ None
+    pub added_none : value add_container t ≡ None
     unfolding add_container
     added_none = value-look _ t ∙ by (takes_container t)
       where
@@ -244,7 +244,7 @@ module _ (s : State) (h : ℕ) (b : Began s h) where
     unfolding is_own_container
     own_editable c test = (and_parts (is_editable_for t c) (is_single_line t.trees c) test).0
 
-    contained : (c x : ℕ) → value (own_container c) t ≡ Some x → Contains t x (final (own_container c) t)
+    pub contained : (c x : ℕ) → value (own_container c) t ≡ Some x → Contains t x (final (own_container c) t)
     unfolding own_container
     contained c x e = subst (λ u. Contains t x u) (sym (final-look _ t)) (by (is_own_container t c) refl (sym (value-look _ t) ∙ e))
       where

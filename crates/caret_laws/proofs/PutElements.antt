@@ -166,7 +166,7 @@ made_order c u is = same_document u (made c u) (document-with_leaf u.trees u.nex
 
 -- ---- the text that the caret stands in is split, or left
 
-text_words : (o : Option Content) → option_map_or is_words_content o false ≡ true → (chars : List ℕ) × (o ≡ Some (Words chars))
+pub text_words : (o : Option Content) → option_map_or is_words_content o false ≡ true → (chars : List ℕ) × (o ≡ Some (Words chars))
 text_words None h = absurd (true≢false (sym h))
 text_words (Some Document) h = absurd (true≢false (sym h))
 text_words (Some (Element name attributes)) h = absurd (true≢false (sym h))

@@ -153,7 +153,7 @@ module _ (s : State) (h : ℕ) (b : Began s h) where
       record { way = way; inside = here.inside; near = open_near s h false b t way p.label (inside_open t p.label held); fits = λ _. here.fits }
 
   module _ (t : State) (p : Point) (k : Nearby t p) where
-    to_landed : (x : Point) → Lands s h b t k.way p k.inside k.near k.fits x → Landed (final (collapse x) t)
+    pub to_landed : (x : Point) → Lands s h b t k.way p k.inside k.near k.fits x → Landed (final (collapse x) t)
     unfolding acted selected may_select changed
     to_landed x lands =
         let select : final (collapse x) t ≡ with_selection (Some (record { anchor = x; focus = x })) t = final-perform (action.Select x x) t ∙ rw lands.placed refl in
@@ -189,7 +189,7 @@ module _ (s : State) (h : ℕ) (b : Began s h) where
     abbrev split : State
     split = final (split_words p.label p.offset) t
 
-    split_nearby : has_chars_at t.trees p.label ≡ true → Nearby split p × (has_chars_at split.trees p.label ≡ true)
+    pub split_nearby : has_chars_at t.trees p.label ≡ true → Nearby split p × (has_chars_at split.trees p.label ≡ true)
     unfolding final
     split_nearby chars =
         let is = valid_way s h false b t k.way in
@@ -205,7 +205,7 @@ module _ (s : State) (h : ℕ) (b : Began s h) where
           still,
         )
 
-    cut_words : cuts_text t.trees p ≡ true → has_chars_at t.trees p.label ≡ true
+    pub cut_words : cuts_text t.trees p ≡ true → has_chars_at t.trees p.label ≡ true
     unfolding cuts_text is_words
     cut_words e = words_chars (content_of t.trees p.label) (and_parts (option_map_or is_words_content (content_of t.trees p.label) false) _ e).0
 

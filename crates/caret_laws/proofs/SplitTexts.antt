@@ -53,7 +53,7 @@ use Rattle.caret_laws.proofs.Trees.{inside_open}
 
 -- ---- actions that take nothing out of the document
 
-abbrev Remaining : Action → State → Type 0
+abbrev pub Remaining : Action → State → Type 0
 Remaining (action.Change (Remove n)) s = ⊥
 Remaining _ s = Unit {0}
 
@@ -113,10 +113,10 @@ unfolding split_words
 each_split n at = each_look Remaining _ (λ s is. each_given Remaining (parent_of s.trees n) (answer n) _ (each_answer Remaining n) (λ p. each_under p s n at))
 
 -- a text is split where it is cut
-cut : Point → Run (Unit {0})
+unfoldable pub cut : Point → Run (Unit {0})
 cut p = look λ s. if cuts_text s.trees p then split_words p.label p.offset >> done else done
 
-each_cut : (p : Point) → Each Remaining (cut p)
+pub each_cut : (p : Point) → Each Remaining (cut p)
 unfolding cut
 each_cut p = each_look Remaining _ (λ s is. each_if Remaining (cuts_text s.trees p) _ done (each_bind Remaining _ _ (each_split p.label p.offset) (λ _. each_answer Remaining tt)) (each_answer Remaining tt))
 
@@ -128,7 +128,7 @@ steady_leave : (p : Point) → Steady (leave_text p)
 unfolding leave_text
 steady_leave p = search steady_parts
 
-split_is : (p : Point) (t : State) → final (split_text p) t ≡ final (leave_text p) (final (cut p) t)
+pub split_is : (p : Point) (t : State) → final (split_text p) t ≡ final (leave_text p) (final (cut p) t)
 unfolding split_text cut
 split_is p t = final-bind _ _ t
 
@@ -256,7 +256,7 @@ module _ (s : State) (h : ℕ) (b : Began s h) (v : State) (way : Underway s h f
   lands_at false true (Some q) text is up = lands_up q (index_of v.trees p.label) is up (omega arith)
   lands_at false false o text is up = here_lands is
 
-  lands : Lands (left_text v.trees p)
+  pub lands : Lands (left_text v.trees p)
   unfolding left_text out_of_text is_words before_node after_node
   lands =
       let words = option_map_or is_words_content (content_of v.trees p.label) false in
@@ -293,7 +293,7 @@ module _ (s : State) (h : ℕ) (b : Began s h) (v : State) (way : Underway s h f
 
 -- ---- the whole
 
-if_inside_is : (u : State) (o : Option Point) (p : Point) → if_point_inside u o ≡ Some p → (o ≡ Some p) × (is_inside u p.label ≡ true)
+pub if_inside_is : (u : State) (o : Option Point) (p : Point) → if_point_inside u o ≡ Some p → (o ≡ Some p) × (is_inside u p.label ≡ true)
 if_inside_is u None p e = absurd (let t : None ≡ Some p = e in cc)
 if_inside_is u (Some q) p e = by (is_inside u q.label) refl e
   where

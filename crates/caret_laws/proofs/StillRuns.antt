@@ -92,7 +92,7 @@ leaves_still (action.Extract from end target) h = absurd h
 
 -- ---- what can have children stays so
 
-parent_kind : (f g : Forest Content) (l : ℕ) → kind_of g l ≡ kind_of f l → is_parent_at f l ≡ true → is_parent_at g l ≡ true
+pub parent_kind : (f g : Forest Content) (l : ℕ) → kind_of g l ≡ kind_of f l → is_parent_at f l ≡ true → is_parent_at g l ≡ true
 parent_kind f g l same h = by (content_of f l) (content_of g l) same h
   where
     of_kind : Kind → Bool

@@ -62,7 +62,7 @@ pub same_high : (f : Forest Content) (x z : Point) → x.label ≡ z.label → z
 unfolding is_before
 same_high f x z is high = rw (is, eqb_refl_true z.label) (le-ltb x.offset z.offset high)
 
-same_low : (f : Forest Content) (x z : Point) → x.label ≡ z.label → is_before f x z ≡ true → x.offset < z.offset
+pub same_low : (f : Forest Content) (x z : Point) → x.label ≡ z.label → is_before f x z ≡ true → x.offset < z.offset
 same_low f x z is e = elim (cases_lt x.offset z.offset) [
   | inl low ↦ low
   | inr high ↦ absurd (true≢false (sym e ∙ same_high f x z is high))
@@ -101,7 +101,7 @@ module _ (f : Forest Content) (once : IsDistinct f) where
       let child = parent_among p k (get_times (children_of f p) i k found) in
       (child, place_of k p child ∙ place_is (children_of f p) i k (λ j. times-children_of f p j once) found)
 
-  same_index : (p j k : ℕ) → parent_of f j ≡ Some p → parent_of f k ≡ Some p → index_of f j ≡ index_of f k → j ≡ k
+  pub same_index : (p j k : ℕ) → parent_of f j ≡ Some p → parent_of f k ≡ Some p → index_of f j ≡ index_of f k → j ≡ k
   same_index p j k cj ck e =
       let t : Some j ≡ Some k = sym (own_index j p cj) ∙ (ap (child_at f p) e ∙ own_index k p ck) in
       cc
@@ -180,7 +180,7 @@ module _ (f : Forest Content) (next : ℕ) (law : IsForest f next) where
   abbrev once : IsDistinct f
   once = law.distinct
 
-  there_is : (l : ℕ) → IsWithin f 0 l → 0 < count_of f l
+  pub there_is : (l : ℕ) → IsWithin f 0 l → 0 < count_of f l
   there_is l h = omega (arith, h, total-without (λ m _. cond (eqb m l) 1 0) f 0)
 
   -- a point outside a node's tree lies on one side of it
@@ -214,7 +214,7 @@ module _ (f : Forest Content) (next : ℕ) (law : IsForest f next) where
 
   module _ (z : Point) (there : IsWithin f 0 z.label) where
     -- where z is outside the tree of p, and in it
-    by_tree : {A : Type 0} (p : ℕ) → IsWithin f 0 p → (LiesAfter f z p → A) → (LiesBefore f z p → A) → (z.label ≡ p → A) → ((m : ℕ) → parent_of f m ≡ Some p → IsWithin f m z.label → A) → A
+    pub by_tree : {A : Type 0} (p : ℕ) → IsWithin f 0 p → (LiesAfter f z p → A) → (LiesBefore f z p → A) → (z.label ≡ p → A) → ((m : ℕ) → parent_of f m ≡ Some p → IsWithin f m z.label → A) → A
     by_tree p here after before own below = elim (none_or_some (count_of (tree_of f p) z.label)) [
       | inl none ↦ elim (beside (suc (depth_of f p)) p z (omega arith) here there (λ w. omega (arith, none, w))) [ inl lies ↦ after lies | inr lies ↦ before lies ]
       | inr inside ↦ elim (eqb_tells z.label p) [

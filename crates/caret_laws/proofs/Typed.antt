@@ -6,7 +6,7 @@ use Rattle.std.proofs.lemmas.Bool.{and_parts, cases_Bool, or_cases, eq-eqb, le-l
 use Rattle.std.proofs.lemmas.Bool.Decides.{eqb_tells}
 use Rattle.std.proofs.lemmas.List.Elements.{filter-append}
 use Rattle.dom_model.specs.declared.Content.{Content}
-use Rattle.dom_model.specs.declared.Content.TheVariants.{Document, Element, Words, Remark}
+use Rattle.dom_model.specs.declared.Content.TheVariants.{Words}
 use Rattle.dom_model.specs.Contents.{is_element, may_have_children, has_chars, has_chars_at, is_break, length_of}
 use Rattle.dom_model.specs.Editing.{is_true_state, is_false_state, editing_host, is_host, is_editable}
 use Rattle.dom_model.specs.Forest.{Forest, Seen, is_label, count_of, tree_of, parent_of, first_of, next_of, content_of, unlink, preorder, IsWithin}
@@ -60,6 +60,7 @@ use Rattle.caret_laws.proofs.InsideRuns.{Began, Underway, Near, open_near, near_
 use Rattle.caret_laws.proofs.PutElements.{made_tree, start_caret}
 use Rattle.caret_laws.proofs.PutThings.{Landed, Nearby, nearby_caret, here_landed, then_state, newly_there, stands, contents, insert_is, loose_made}
 use Rattle.caret_laws.proofs.Solid.{put, put_is, length_any, solid_chars, solid_order}
+use Rattle.caret_laws.proofs.TextRoom.{words_there}
 use Rattle.caret_laws.proofs.Trees.{made_open, inside_open}
 use Rattle.caret_laws.proofs.Underways.{way_steady}
 
@@ -87,13 +88,6 @@ pair_selected : (a b : Point) (u : State) → is_placed u.trees a ≡ true → i
 unfolding selected may_select
 pair_selected a b u pa pb = rw (pa, pb) refl
 
-pub words_there : (o : Option Content) → option_map_or is_words_content o false ≡ true → (chars : List ℕ) × (o ≡ Some (Words chars))
-words_there None h = absurd (true≢false (sym h))
-words_there (Some Document) h = absurd (true≢false (sym h))
-words_there (Some (Element name attributes)) h = absurd (true≢false (sym h))
-words_there (Some (Words chars)) h = (chars, refl)
-words_there (Some (Remark chars)) h = absurd (true≢false (sym h))
-
 no_words : (o : Option Content) → (option_map_or has_chars o false ≡ true → option_map_or is_words_content o false ≡ true) → option_map_or is_words_content o false ≡ false → option_map_or has_chars o false ≡ false
 no_words o comment none = elim (cases_Bool (option_map_or has_chars o false)) [
   | inl e ↦ absurd (true≢false (sym (comment e) ∙ none))
@@ -108,6 +102,20 @@ collapsed_is f k e = left_true (is_break f k) _ _ e
     left_true : (a b c : Bool) → ((a && b) && c) ≡ true → a ≡ true
     left_true true b c e = refl
     left_true false b c e = absurd (true≢false (sym e))
+
+-- a sole child that is a collapsed line break bears nothing that is kept, where it's removed
+abbrev pub SoleIsBare : State → ℕ → Type 0
+SoleIsBare t n =
+    (k : ℕ) → first_of t.trees n ≡ Some k → (is_none (next_of t.trees k) && is_collapsed_break t.trees k) ≡ true → is_made_edit (Remove k) t ≡ true
+    → has_no_kept_leaves (tree_of t.trees k) ≡ true
+
+-- so it is where no br has children
+pub empty_sole : (t : State) (n : ℕ) → IsValid t → BreaksAreEmpty t → SoleIsBare t n
+unfolding is_collapsed_break
+empty_sole t n is empty k first e may =
+    let br = collapsed_is t.trees k (and_parts (is_none (next_of t.trees k)) (is_collapsed_break t.trees k) e).1 in
+    let there = (parent_count t.trees k n is.forest.distinct (parent_of-first t.trees is.forest.distinct n k first)).0 in
+    break_bare t k is there br (empty k br)
 
 module _ (s : State) (h : ℕ) (b : Began s h) where
   -- The character is in a text at the end of what is selected, behind what the document bore before it. Each text has room for r
@@ -310,7 +318,7 @@ module _ (s : State) (h : ℕ) (b : Began s h) where
     steady_removal : (k : ℕ) → Steady (remove k)
     steady_removal k = search steady_parts
 
-    module _ (k : ℕ) (first : first_of t.trees p.label ≡ Some k) (none : has_no_kept_leaves (tree_of t.trees k) ≡ true) where
+    module _ (k : ℕ) (first : first_of t.trees p.label ≡ Some k) (none : is_made_edit (Remove k) t ≡ true → has_no_kept_leaves (tree_of t.trees k) ≡ true) where
       child : parent_of t.trees k ≡ Some p.label
       child = parent_of-first t.trees is_t.forest.distinct p.label k first
 
@@ -341,7 +349,7 @@ module _ (s : State) (h : ℕ) (b : Began s h) where
             let trees : u.trees ≡ unlink t.trees k = trees_made (Remove k) t may in
             record {
               way = subst (λ v. Underway s h false v) (final-edit (Remove k) t) (way_steady s h b (remove k) t (steady_removal k) way);
-              order = solid_order t u (bare_remove k t none is_t);
+              order = solid_order t u (bare_remove k t (none may) is_t);
               place = adjusted event p;
               caret = ap (λ q. q.selection) (points_made (Remove k) t may) ∙ ap (option_map (adjusted_pair event)) caret;
               label = stays;
@@ -351,18 +359,15 @@ module _ (s : State) (h : ℕ) (b : Began s h) where
             })
       ]
 
-    dropped_sole : BreaksAreEmpty t → Dropped t (final (drop_sole_break p.label) t) p
-    unfolding drop_sole_break is_collapsed_break
-    dropped_sole empty = subst (λ u. Dropped t u p) (sym (final-look _ t)) (by (first_of t.trees p.label) refl)
+    dropped_sole : SoleIsBare t p.label → Dropped t (final (drop_sole_break p.label) t) p
+    unfolding drop_sole_break
+    dropped_sole bare = subst (λ u. Dropped t u p) (sym (final-look _ t)) (by (first_of t.trees p.label) refl)
       where
         chosen : (k : ℕ) → first_of t.trees p.label ≡ Some k → (v : Bool) → (is_none (next_of t.trees k) && is_collapsed_break t.trees k) ≡ v → Dropped t (final (if v then remove k >> done else done) t) p
         chosen k first false e = subst (λ u. Dropped t u p) (sym (final-answer tt t)) dropped_none
         chosen k first true e =
-            let br = collapsed_is t.trees k (and_parts (is_none (next_of t.trees k)) (is_collapsed_break t.trees k) e).1 in
-            let there = (parent_count t.trees k p.label is_t.forest.distinct (parent_of-first t.trees is_t.forest.distinct p.label k first)).0 in
-            let bare = break_bare t k is_t there br (empty k br) in
             let run : final (remove k >> done) t ≡ edited (Remove k) t = rw (final-bind, final-edit, final-answer) refl in
-            subst (λ u. Dropped t u p) (sym run) (dropped_first k first bare)
+            subst (λ u. Dropped t u p) (sym run) (dropped_first k first (bare k first e))
 
         by : (o : Option ℕ) → first_of t.trees p.label ≡ o → Dropped t (final (given o done λ k. if (is_none (next_of t.trees k) && is_collapsed_break t.trees k) then remove k >> done else done) t) p
         by None e = subst (λ u. Dropped t u p) (sym (final-answer tt t)) dropped_none
@@ -480,7 +485,7 @@ module _ (s : State) (h : ℕ) (b : Began s h) where
       let m = put_words t way c r y F B k held room some in
       subst (λ u. (m : Put c r t u) × (m.before ≡ F) × (m.behind ≡ B)) (sym run) (m, refl, refl)
 
-  module _ (c r : ℕ) (t : State) (way : Underway s h false t) (y : Point) (caret : StandsAt t y) (held : is_inside t y.label ≡ true) (comment : has_chars_at t.trees y.label ≡ true → is_words t.trees y.label ≡ true) (room : HasRoomFor (suc r) t) (some : 0 < r) (small : 1 + r < 2 ^ 32) (empty : BreaksAreEmpty t) where
+  module _ (c r : ℕ) (t : State) (way : Underway s h false t) (y : Point) (caret : StandsAt t y) (held : is_inside t y.label ≡ true) (comment : has_chars_at t.trees y.label ≡ true → is_words t.trees y.label ≡ true) (room : HasRoomFor (suc r) t) (some : 0 < r) (small : 1 + r < 2 ^ 32) (bare : is_words t.trees y.label ≡ false → SoleIsBare t y.label) where
     is_p : IsValid t
     is_p = valid_way s h false b t way
 
@@ -515,7 +520,7 @@ module _ (s : State) (h : ℕ) (b : Began s h) where
     in_element : is_words t.trees y.label ≡ false → Put c r t (final NewText t)
     unfolding is_words acted
     in_element none =
-        let d = dropped_sole t way y caret near_y.inside empty in
+        let d = dropped_sole t way y caret near_y.inside (bare none) in
         let u = final (drop_sole_break y.label) t in
         let chars_u : has_chars_at u.trees y.label ≡ false = ap (λ (o : Option Content). option_map_or has_chars o false) (d.contents y.label) ∙ no_words (content_of t.trees y.label) comment none in
         let chars_d : has_chars_at u.trees d.place.label ≡ false = subst (λ l. has_chars_at u.trees l ≡ false) (sym d.label) chars_u in

@@ -30,7 +30,7 @@ use Rattle.edit_model.proofs.Documents.{within_below}
 use Rattle.edit_model.proofs.Points.{placed_is, placed_from}
 use Rattle.edit_model.proofs.Steps.{final-bind, final-answer, final-look, final-perform}
 use Rattle.edit_laws.specs.Kinds as kind
-use Rattle.edit_laws.specs.Kinds.{Kind, kind_in, kind_of}
+use Rattle.edit_laws.specs.Kinds.{kind_in}
 use Rattle.edit_laws.proofs.StayingKinds.{kind_along}
 use Rattle.edit_laws.proofs.SteadyRuns.{steady_perform}
 use Rattle.command_laws.proofs.DeleteRuns.{steady_erase}
@@ -58,7 +58,8 @@ use Rattle.caret_laws.proofs.PutElements.{start_caret}
 use Rattle.caret_laws.proofs.PutThings.{nearby_caret}
 use Rattle.caret_laws.proofs.Trails.{index_is, same_high}
 use Rattle.caret_laws.proofs.Trees.{inside_open}
-use Rattle.caret_laws.proofs.Typed.{Put, text_below, words_there, char_put, char_in_text}
+use Rattle.caret_laws.proofs.TextRoom.{words_there}
+use Rattle.caret_laws.proofs.Typed.{Put, text_below, empty_sole, char_put, char_in_text}
 use Rattle.caret_laws.proofs.Solid.{solid_chars}
 use Rattle.caret_laws.proofs.Underways.{way_steady}
 
@@ -134,7 +135,6 @@ module _ (s : State) (h : ℕ) (b : Began s h) where
     pub held : is_inside t p.label ≡ true
     pub comment : IsNoComment t p
     pub room : HasRoomFor r t
-    pub empty : BreaksAreEmpty t
 
   -- a caret in a text, with F before it and B behind it
   pub record InText (r : ℕ) (t : State) (p : Point) (F B : List Leaf) : Type 0 where
@@ -146,11 +146,11 @@ module _ (s : State) (h : ℕ) (b : Began s h) where
     pub plain : overrides_of t ≡ []
 
   -- where the caret goes into a text
-  record Reach (t : State) (x : Point) : Type 0 where
-    inside : IsWithin t.trees 0 x.label
-    held : is_inside t x.label ≡ true
-    comment : IsNoComment t x
-    placed : is_placed t.trees x ≡ true
+  pub record Reach (t : State) (x : Point) : Type 0 where
+    pub inside : IsWithin t.trees 0 x.label
+    pub held : is_inside t x.label ≡ true
+    pub comment : IsNoComment t x
+    pub placed : is_placed t.trees x ≡ true
 
   module _ (r : ℕ) (t : State) (p : Point) (k : Ready r t p) where
     is : IsValid t
@@ -181,7 +181,7 @@ module _ (s : State) (h : ℕ) (b : Began s h) where
           placed = placed_from f x (record { inside = subst (λ m. IsWithin f 0 m) (sym at_l) there; fits = subst (λ m. x.offset ≤ length_of f m) (sym at_l) low });
         }
 
-    reaches : Reach t (into_text t.trees p)
+    pub reaches : Reach t (into_text t.trees p)
     unfolding into_text end_before start_after
     reaches = by (either (option_map (end_in t.trees) (if_words t.trees (child_before t.trees p.label p.offset))) (option_map start_in (if_words t.trees (child_at t.trees p.label p.offset)))) refl
       where
@@ -202,7 +202,7 @@ module _ (s : State) (h : ℕ) (b : Began s h) where
   -- ---- the whitespace round the caret
 
   module _ (r : ℕ) (t : State) (way : Underway s h false t) (x : Point) (reach : Reach t x) (room : HasRoomFor r t) (some : 0 < r) where
-    t1 : State
+    unfoldable pub t1 : State
     t1 = final (collapse x) t
 
     select : t1 ≡ with_selection (Some (record { anchor = x; focus = x })) t
@@ -234,36 +234,36 @@ module _ (s : State) (h : ℕ) (b : Began s h) where
     inside1 : IsWithin t1.trees 0 x.label
     inside1 = subst (λ f. IsWithin f 0 x.label) (sym trees1) reach.inside
 
-    t2 : State
+    unfoldable pub t2 : State
     t2 = final (canonicalize true x) t1
 
-    settled : Settled t1 t2
+    pub settled : Settled t1 t2
     unfolding t2
     settled = canonical true x t1 is1 (λ l xs e. (let m = room1 l xs e in omega (arith, m, some))) inside1
 
-    way2 : Underway s h false t2
+    pub way2 : Underway s h false t2
     unfolding t2
     way2 = way_steady s h b (canonicalize true x) t1 (steady_canonicalize true x) way1
 
-    y : Caret t1 t2 x
+    pub y : Caret t1 t2 x
     y = caret_then t1 t2 x settled.blanked caret1
 
-    held2 : is_inside t2 y.place.label ≡ true
+    pub held2 : is_inside t2 y.place.label ≡ true
     held2 =
         let there : IsWithin t2.trees 0 y.place.label = subst (λ l. IsWithin t2.trees 0 l) (sym y.label) (settled.blanked.inside x.label inside1) in
         near_inside s h false b t2 way2 y.place.label (subst (λ l. Near s h false b l) (sym y.label) (open_near s h false b t way x.label (inside_open t x.label reach.held))) there
 
-    comment2 : IsNoComment t2 y.place
+    pub comment2 : IsNoComment t2 y.place
     unfolding t2
     comment2 =
         let known1 : 0 < count_of t1.trees x.label = (let i = inside1 in omega (arith, i, total-without (λ m _. cond (eqb m x.label) 1 0) t1.trees 0)) in
         let comment1 : IsNoComment t1 x = subst (λ f. has_chars_at f x.label ≡ true → is_words f x.label ≡ true) (sym trees1) reach.comment in
         comment_then (canonicalize true x) t1 x y.place is1 known1 y.label comment1
 
-    room2 : HasRoomFor r t2
+    pub room2 : HasRoomFor r t2
     room2 = room_kept r t1 t2 settled.blanked room1
 
-    order2 : KeepsOrderUpToBlanks t t2
+    pub order2 : KeepsOrderUpToBlanks t t2
     order2 = settled.blanked.order ∙ ap (λ f. solid_leaves (tree_of f 0)) trees1
 
     settings2 : (t2.overrides ≡ t.overrides) ⊎ (t2.overrides ≡ no_overrides)
@@ -272,7 +272,7 @@ module _ (s : State) (h : ℕ) (b : Began s h) where
     front2 : (F B : List Leaf) → Front t x F B → Front t2 y.place F B
     front2 F B f = y.front F B (front_trees t t1 x F B trees1 f)
 
-    empty2 : BreaksAreEmpty t → BreaksAreEmpty t2
+    pub empty2 : BreaksAreEmpty t → BreaksAreEmpty t2
     empty2 empty = empty_then t1 t2 settled.blanked (subst (λ f. (l : ℕ) → is_break f l ≡ true → children_of f l ≡ []) (sym trees1) empty)
 
   -- ---- what is put is closed
@@ -392,21 +392,24 @@ module _ (s : State) (h : ℕ) (b : Began s h) where
       (nothing_restored v3 (λ u _. Ends close_text u P)
       (closed c r v2 v3 m some plain2 P (done_so (u3 c r v2 v3 m some plain2) (mv c r v2 v3 m some plain2).focus (in_text c r v2 v3 m some plain2)))))))))
 
-  inside_run : (c : ℕ) (t : State) (p : Point) → StandsAt t p → is_inside t p.label ≡ true → c ≢ 10 → final (insert_char_inside c) t ≡ final (type_char c p) t
-  unfolding insert_char_inside start_inside insert_char_at
+  pub start_is : (t : State) (p : Point) → StandsAt t p → is_inside t p.label ≡ true → start_inside t ≡ Some p
+  unfolding start_inside
+  start_is t p caret held = ap (if_point_inside t) (start_caret t p caret) ∙ ap (λ v. if v then Some p else None) held
+
+  pub inside_run : (c : ℕ) (t : State) (p : Point) → StandsAt t p → is_inside t p.label ≡ true → c ≢ 10 → final (insert_char_inside c) t ≡ final (type_char c p) t
+  unfolding insert_char_inside insert_char_at
   inside_run c t p caret held off =
-      final-look _ t ∙ (ap (λ o. final (given (if_point_inside t o) done (insert_char_at c)) t) (start_caret t p caret)
-      ∙ (ap (λ v. final (given (if v then Some p else None) done (insert_char_at c)) t) held
-      ∙ ap (λ v. final (if v then (insert_paragraph >> done) else type_char c p) t) (ne_eqb c 10 off)))
+      final-look _ t ∙ (ap (λ o. final (given o done (insert_char_at c)) t) (start_is t p caret held)
+      ∙ ap (λ v. final (if v then (insert_paragraph >> done) else type_char c p) t) (ne_eqb c 10 off))
 
   -- the first one
-  first_comes : (c r : ℕ) (t : State) (p : Point) → Ready (suc r) t p → 0 < r → 1 + r < 2 ^ 32 → overrides_of t ≡ [] → c ≢ 10 → Comes c r t (final (insert_char_inside c) t)
-  first_comes c r t p k some small plain off =
+  first_comes : (c r : ℕ) (t : State) (p : Point) → Ready (suc r) t p → BreaksAreEmpty t → 0 < r → 1 + r < 2 ^ 32 → overrides_of t ≡ [] → c ≢ 10 → Comes c r t (final (insert_char_inside c) t)
+  first_comes c r t p k empty some small plain off =
       let x = into_text t.trees p in
       let reach = reaches (suc r) t p k in
       let v2 = t2 (suc r) t k.way x reach k.room (omega arith) in
       let q = y (suc r) t k.way x reach k.room (omega arith) in
-      let m = char_put s h b c r v2 (way2 (suc r) t k.way x reach k.room (omega arith)) q.place q.caret (held2 (suc r) t k.way x reach k.room (omega arith)) (comment2 (suc r) t k.way x reach k.room (omega arith)) (room2 (suc r) t k.way x reach k.room (omega arith)) some small (empty2 (suc r) t k.way x reach k.room (omega arith) k.empty) in
+      let m = char_put s h b c r v2 (way2 (suc r) t k.way x reach k.room (omega arith)) q.place q.caret (held2 (suc r) t k.way x reach k.room (omega arith)) (comment2 (suc r) t k.way x reach k.room (omega arith)) (room2 (suc r) t k.way x reach k.room (omega arith)) some small (λ _. empty_sole v2 q.place.label (valid_way s h false b v2 (way2 (suc r) t k.way x reach k.room (omega arith))) (empty2 (suc r) t k.way x reach k.room (omega arith) empty)) in
       subst (λ v. Comes c r t v) (sym (inside_run c t p k.caret k.held off))
       (run_typed c r t p k.way reach k.room some plain m (λ v _. Comes c r t v) (λ v place text. record {
         before = m.before;
@@ -486,8 +489,16 @@ module _ (s : State) (h : ℕ) (b : Began s h) where
 
   -- ---- the whole
 
-  erased_ready : (r : ℕ) (t : State) (p : Point) → Ready r t p → 0 < r → overrides_of t ≡ [] → (q : Point) × Ready r (final (erase KEEP_WRAPPERS) t) q × KeepsOrderUpToBlanks t (final (erase KEEP_WRAPPERS) t) × (overrides_of (final (erase KEEP_WRAPPERS) t) ≡ [])
-  erased_ready r t p k some plain =
+  -- the caret that is left
+  pub record Erased (r : ℕ) (t : State) : Type 0 where
+    pub place : Point
+    pub ready : Ready r (final (erase KEEP_WRAPPERS) t) place
+    pub order : KeepsOrderUpToBlanks t (final (erase KEEP_WRAPPERS) t)
+    pub settings : ((final (erase KEEP_WRAPPERS) t).overrides ≡ t.overrides) ⊎ ((final (erase KEEP_WRAPPERS) t).overrides ≡ no_overrides)
+    pub empty : BreaksAreEmpty t → BreaksAreEmpty (final (erase KEEP_WRAPPERS) t)
+
+  pub erased_ready : (r : ℕ) (t : State) (p : Point) → Ready r t p → 0 < r → Erased r t
+  erased_ready r t p k some =
       let is_t = valid_way s h false b t k.way in
       let u = final (erase KEEP_WRAPPERS) t in
       let d = erased KEEP_WRAPPERS p t is_t (λ l xs e. (let m = k.room l xs e in omega (arith, m, some))) k.caret in
@@ -495,39 +506,40 @@ module _ (s : State) (h : ℕ) (b : Began s h) where
       let way = way_steady s h b (erase KEEP_WRAPPERS) t (steady_erase KEEP_WRAPPERS) k.way in
       let near = nearby_caret s h b t p k.way k.caret k.held in
       let there : IsWithin u.trees 0 q.place.label = subst (λ l. IsWithin u.trees 0 l) (sym q.label) (d.blanked.inside p.label near.inside) in
-      let known : 0 < count_of t.trees p.label = (let i = near.inside in omega (arith, i, total-without (λ m _. cond (eqb m p.label) 1 0) t.trees 0)) in (
-        q.place,
-        record {
+      let known : 0 < count_of t.trees p.label = (let i = near.inside in omega (arith, i, total-without (λ m _. cond (eqb m p.label) 1 0) t.trees 0)) in
+      record {
+        place = q.place;
+        ready = record {
           way = way;
           caret = q.caret;
           held = near_inside s h false b u way q.place.label (subst (λ l. Near s h false b l) (sym q.label) near.near) there;
           comment = comment_then (erase KEEP_WRAPPERS) t p q.place is_t known q.label k.comment;
           room = room_kept r t u d.blanked k.room;
-          empty = empty_then t u d.blanked k.empty;
-        },
-        d.blanked.order,
-        plain_then t u d.blanked.settings plain,
-      )
+        };
+        order = d.blanked.order;
+        settings = d.blanked.settings;
+        empty = empty_then t u d.blanked;
+      }
 
   -- what the document has with some characters more, at one place
-  abbrev Gains : List ℕ → State → State → Type 0
+  abbrev pub Gains : List ℕ → State → State → Type 0
   Gains cs t v =
       (F : List Leaf) × (B : List Leaf) × (solid_leaves (tree_of t.trees 0) ≡ F ++ B)
       × (solid_leaves (tree_of v.trees 0) ≡ F ++ (solid_chars cs ++ B))
 
-  gains_after : (cs : List ℕ) (t u v : State) → KeepsOrderUpToBlanks t u → Gains cs u v → Gains cs t v
+  pub gains_after : (cs : List ℕ) (t u v : State) → KeepsOrderUpToBlanks t u → Gains cs u v → Gains cs t v
   gains_after cs t u v k g = (g.0, g.1, sym k ∙ g.2, g.3)
 
   one_gained : (c r : ℕ) (t v : State) → Comes c r t v → Gains (c ∷ []) t v
   one_gained c r t v k =
       (k.before, k.behind, k.was, front_whole v k.place (k.before ++ solid_chars (c ∷ [])) k.behind k.text.front ∙ append_assoc k.before (solid_chars (c ∷ [])) k.behind)
 
-  several_gained : (c : ℕ) (cs : List ℕ) (t : State) (p : Point) → Ready (suc (length cs + 1)) t p → length cs + 2 < 2 ^ 32 → overrides_of t ≡ [] → c ≢ 10 → HasNoBreaks cs → Gains (c ∷ cs) t (final (for_each (c ∷ cs) insert_char) t)
+  several_gained : (c : ℕ) (cs : List ℕ) (t : State) (p : Point) → Ready (suc (length cs + 1)) t p → BreaksAreEmpty t → length cs + 2 < 2 ^ 32 → overrides_of t ≡ [] → c ≢ 10 → HasNoBreaks cs → Gains (c ∷ cs) t (final (for_each (c ∷ cs) insert_char) t)
   unfolding for_each insert_char
-  several_gained c cs t p k small plain off fine =
-      let e = erased_ready (suc (length cs + 1)) t p k (omega arith) plain in
+  several_gained c cs t p k empty small plain off fine =
+      let e = erased_ready (suc (length cs + 1)) t p k (omega arith) in
       let u = final (erase KEEP_WRAPPERS) t in
-      let f = first_comes c (length cs + 1) u e.0 e.1 (omega arith) (omega (arith, small)) e.3 off in
+      let f = first_comes c (length cs + 1) u e.place e.ready (e.empty empty) (omega arith) (omega (arith, small)) (plain_then t u e.settings plain) off in
       let v = final (insert_char_inside c) u in
       let F = f.before in
       let B = f.behind in
@@ -538,20 +550,20 @@ module _ (s : State) (h : ℕ) (b : Began s h) where
       front_whole w more.0 ((F ++ solid_chars (c ∷ [])) ++ solid_chars cs) B more.1.front
       ∙ (ap (λ l. l ++ B) (append_assoc F (solid_chars (c ∷ [])) (solid_chars cs) ∙ ap (λ l. F ++ l) (sym (filter-append is_solid (Letter c ∷ []) (map Letter cs))))
       ∙ append_assoc F (solid_chars (c ∷ cs)) B) in
-      subst (λ x. Gains (c ∷ cs) t x) (sym run) (F, B, sym e.2 ∙ f.was, whole)
+      subst (λ x. Gains (c ∷ cs) t x) (sym run) (F, B, sym e.order ∙ f.was, whole)
 
-  chars_gained : (cs : List ℕ) (t : State) (p : Point) → Ready (suc (length cs)) t p → length cs + 2 < 2 ^ 32 → overrides_of t ≡ [] → HasNoBreaks cs → Gains cs t (final (insert_chars cs) t)
-  unfolding insert_chars insert_several start_inside
-  chars_gained [] t p k small plain fine =
+  chars_gained : (cs : List ℕ) (t : State) (p : Point) → Ready (suc (length cs)) t p → BreaksAreEmpty t → length cs + 2 < 2 ^ 32 → overrides_of t ≡ [] → HasNoBreaks cs → Gains cs t (final (insert_chars cs) t)
+  unfolding insert_chars insert_several
+  chars_gained [] t p k empty small plain fine =
       let f = solid_leaves (tree_of t.trees 0) in
       subst (λ v. Gains [] t v) (sym (final-answer tt t)) (f, [], sym (append-nil f), sym (append-nil f))
-  chars_gained (c ∷ []) t p k small plain fine = one_gained c 1 t (final (insert_char_inside c) t) (first_comes c 1 t p k (omega arith) (omega arith) plain fine.0)
-  chars_gained (c ∷ d ∷ cs) t p k small plain fine =
-      let there : start_inside t ≡ Some p = ap (if_point_inside t) (start_caret t p k.caret) ∙ ap (λ v. if v then Some p else None) k.held in
+  chars_gained (c ∷ []) t p k empty small plain fine = one_gained c 1 t (final (insert_char_inside c) t) (first_comes c 1 t p k empty (omega arith) (omega arith) plain fine.0)
+  chars_gained (c ∷ d ∷ cs) t p k empty small plain fine =
+      let there = start_is t p k.caret k.held in
       let run : final (insert_several (c ∷ d ∷ cs)) t ≡ final (for_each (c ∷ d ∷ cs) insert_char) t =
       final-look _ t ∙ ap (λ o. final (if is_none o then done else for_each (c ∷ d ∷ cs) insert_char) t) there in
       let ready : Ready (suc (length (d ∷ cs) + 1)) t p = subst (λ n. Ready (suc n) t p) (omega arith) k in
-      subst (λ v. Gains (c ∷ d ∷ cs) t v) (sym run) (several_gained c (d ∷ cs) t p ready (omega (arith, small)) plain fine.0 fine.1)
+      subst (λ v. Gains (c ∷ d ∷ cs) t v) (sym run) (several_gained c (d ∷ cs) t p ready empty (omega (arith, small)) plain fine.0 fine.1)
 
   -- the beginning of a command
   room_u : (n : ℕ) → HasRoomFor n s → HasRoomFor n (begun (Some h) false s)
@@ -566,24 +578,26 @@ module _ (s : State) (h : ℕ) (b : Began s h) where
   unfolding begun overrides_of
   plain_u plain = among_is (begun (Some h) false s) overriding_commands ∙ (sym (among_is s overriding_commands) ∙ plain)
 
-  gains_u : (cs : List ℕ) (t : State) → Gains cs (begun (Some h) false s) t → Gains cs s t
+  pub gains_u : (cs : List ℕ) (t : State) → Gains cs (begun (Some h) false s) t → Gains cs s t
   unfolding begun
   gains_u cs t k = k
+
+  pub begun_ready : (r : ℕ) (p : Point) → HasRoomFor r s → StandsAt s p → is_inside (begun (Some h) false s) p.label ≡ true → IsNoComment s p → Ready r (begun (Some h) false s) p
+  begun_ready r p room caret held comment = record {
+    way = record { way = here; leaves = tt };
+    caret = caret_begun s h b p caret;
+    held = held;
+    comment = comment_u p comment;
+    room = room_u r room;
+  }
 
   pub text_inserted : (p : Point) (cs : List ℕ) → HasRoomFor (suc (length cs)) s → length cs + 2 < 2 ^ 32 → BreaksAreEmpty s → StandsAt s p → is_inside (begun (Some h) false s) p.label ≡ true → IsNoComment s p → overrides_of s ≡ [] → HasNoBreaks cs → Gains cs s (final (insert_text cs) (begun (Some h) false s))
   unfolding insert_text
   text_inserted p cs room small empty caret held comment plain fine =
       let u = begun (Some h) false s in
-      let ready : Ready (suc (length cs)) u p = record {
-        way = record { way = here; leaves = tt };
-        caret = caret_begun s h b p caret;
-        held = held;
-        comment = comment_u p comment;
-        room = room_u (suc (length cs)) room;
-        empty = empty_begun s h b empty;
-      } in
-      let e = erased_ready (suc (length cs)) u p ready (omega arith) (plain_u plain) in
+      let ready = begun_ready (suc (length cs)) p room caret held comment in
+      let e = erased_ready (suc (length cs)) u p ready (omega arith) in
       let t = final (erase KEEP_WRAPPERS) u in
       let v = final (insert_chars cs) t in
       let run : final (insert_text cs) u ≡ v = rw (final-bind, final-bind, final-answer) refl in
-      gains_u cs (final (insert_text cs) u) (subst (λ w. Gains cs u w) (sym run) (gains_after cs u t v e.2 (chars_gained cs t e.0 e.1 small e.3 fine)))
+      gains_u cs (final (insert_text cs) u) (subst (λ w. Gains cs u w) (sym run) (gains_after cs u t v e.order (chars_gained cs t e.place e.ready (e.empty (empty_begun s h b empty)) small (plain_then u t e.settings (plain_u plain)) fine)))

@@ -4,7 +4,10 @@ pub mod TailLaws
 pub mod SingleParagraph
 pub mod ParagraphLaws
 pub mod SolidOrder
+pub mod Sparing
 pub mod ErasingLaws
 pub mod LineBreakLaws
 pub mod ImageLaws
+pub mod ParagraphOrder
+pub mod RuleLaws
 pub mod TypingLaws

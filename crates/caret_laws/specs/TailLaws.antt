@@ -1,9 +1,16 @@
--- The laws of extracting a tail by single edits.
-use Rattle.std.specs.Prelude.{◌≡◌, ℕ, true, false}
+-- The laws of extracting a tail: that it is single edits, and that it keeps the order of what the
+-- document bears.
+use Rattle.std.specs.Prelude.{◌≡◌, ◌≢◌, ℕ, Bool, true, false, [], Some}
+use Rattle.std.specs.Option.{option_map_or}
+use Rattle.dom_model.specs.declared.Content.{Content}
+use Rattle.dom_model.specs.Contents.{name_of}
+use Rattle.dom_model.specs.Forest.{Forest, IsWithin, children_of, next_of, tree_of}
 use Rattle.live_range.specs.declared.places.Point.{Point}
 use Rattle.point_order.specs.PointOrder.{is_within}
 use Rattle.edit_model.specs.State.{State}
+use Rattle.edit_model.specs.Kept.{leaves, is_thing}
 use Rattle.edit_model.specs.Action.{tail_of, may_extract, extracted}
+use Rattle.edit_model.specs.History.{document_of}
 use Rattle.edit_model.specs.Run.{final}
 use Rattle.edit_model.specs.Valid.{IsValid}
 use Rattle.caret_laws.specs.SingleEdits.{extracted_singly}
@@ -29,3 +36,25 @@ TailsAreRuns =
     (s : State) (from : Point) (end target : ℕ) → IsValid s → may_extract s from end target ≡ true
     → Leave (GoesAlone s) (tail_of s from end target)
     → final (extract_by_edits from end target) s ≡ extracted from end target s
+
+-- ---- the order
+
+-- an image or a rule stands at a label
+abbrev pub is_thing_at : Forest Content → ℕ → Bool
+is_thing_at f l = option_map_or is_thing (name_of f l) false
+
+-- below `end` neither x nor a node that holds x is an image or a rule
+abbrev pub AmidNoThing : State → ℕ → ℕ → Type 0
+AmidNoThing s end x =
+    (l : ℕ) → IsWithin s.trees end l → l ≢ end → IsWithin s.trees l x
+    → is_thing_at s.trees l ≡ false
+
+-- Where the target stands just after the node, without children, and bears nothing, the document
+-- bears the same afterwards, in the same order. The elements in which the point stands are copied,
+-- so an image or a rule among them would come twice.
+abbrev pub TailsKeepOrder : Type 0
+TailsKeepOrder =
+    (s : State) (from : Point) (end target : ℕ) → IsValid s → may_extract s from end target ≡ true
+    → next_of s.trees end ≡ Some target → children_of s.trees target ≡ []
+    → leaves (tree_of s.trees target) ≡ [] → AmidNoThing s end from.label
+    → leaves (document_of (extracted from end target s).trees) ≡ leaves (document_of s.trees)

@@ -6,12 +6,16 @@ mod erasing;
 mod images;
 mod line_breaks;
 mod paragraphs;
+mod rules;
 mod tails;
 mod typing;
 
 pub use erasing::erasing_keeps;
 pub use images::insert_image_adds;
 pub use line_breaks::{insert_line_break_keeps, line_breaks_keep};
-pub use paragraphs::{paragraphs_extract_singly, parts_extract_singly};
-pub use tails::{tails_are_runs, tails_are_single_edits, tails_of_nothing};
-pub use typing::insert_text_adds;
+pub use paragraphs::{
+    insert_paragraph_keeps, paragraphs_extract_singly, parting_keeps, parts_extract_singly,
+};
+pub use rules::{fitting_rules_spare, insert_horizontal_rule_adds};
+pub use tails::{tails_are_runs, tails_are_single_edits, tails_keep_order, tails_of_nothing};
+pub use typing::{insert_char_adds, insert_line_feed_keeps, insert_text_adds, insert_text_keeps};

@@ -1,6 +1,7 @@
-//! Extracting a tail is one action here, and single edits in the standard.
+//! Extracting a tail is one action here, and single edits in the standard. It keeps the order of what
+//! the document bears.
 
-ghost use Rattle.caret_laws.specs.TailLaws.{TailsAreSingleEdits, TailsOfNothing, TailsAreRuns};
+ghost use Rattle.caret_laws.specs.TailLaws.{TailsAreSingleEdits, TailsOfNothing, TailsAreRuns, TailsKeepOrder};
 
 /// Where a tail may be extracted, the action is the single edits of the standard, and none of them
 /// is left out.
@@ -18,4 +19,10 @@ pub fn tails_of_nothing()
 /// edits with the tests that they have everywhere ends in the same state.
 pub fn tails_are_runs()
     ensures { TailsAreRuns }
+{}
+
+/// Where the target stands just after the node, without children, and bears nothing, and no image
+/// or rule holds the point, the document bears the same afterwards, in the same order.
+pub fn tails_keep_order()
+    ensures { TailsKeepOrder }
 {}
