@@ -1,13 +1,13 @@
 -- What a call of one action gives of its run, where the action is made and where it is left out.
 use Rattle.std.proofs.Common.{◌≡◌, ℕ, ◌≤◌, true, false, List, Ok, Err, refl, sym, ap, ◌∙◌, arith}
-use Rattle.dom_model.specs.declared.Content.{Content}
-use Rattle.dom_model.specs.declared.Content.TheVariants.{Element}
-use Rattle.dom_model.specs.declared.attributes.Attribute.{Attribute}
-use Rattle.dom_model.specs.AttributeList.{IsDistinctNames}
-use Rattle.dom_model.specs.Forest.{Forest}
-use Rattle.dom_model.proofs.AttributeLemmas.{distinct_told}
-use Rattle.dom_model.proofs.NodesKept.{AreNodes}
-use Rattle.node_arena.specs.declared.NodeRef.{NodeRef}
+use Rattle.point_order.specs.DomModel.declared.Content.{Content}
+use Rattle.point_order.specs.DomModel.declared.Content.TheVariants.{Element}
+use Rattle.point_order.specs.DomModel.declared.attributes.Attribute.{Attribute}
+use Rattle.point_order.specs.DomModel.AttributeList.{IsDistinctNames}
+use Rattle.point_order.specs.DomModel.Forest.{Forest}
+use Rattle.point_order.proofs.DomModel.AttributeLemmas.{distinct_told}
+use Rattle.point_order.proofs.DomModel.NodesKept.{AreNodes}
+use Rattle.point_order.specs.NodeArena.declared.NodeRef.{NodeRef}
 use Rattle.edit_model.specs.declared.settings.EditFault.TheVariants.{Full}
 use Rattle.edit_model.specs.State.{State, IsPastCap}
 use Rattle.edit_model.specs.Edit.{Edit, is_made_edit, trees_after, points_after, changed, change_of, with_change, edited}
