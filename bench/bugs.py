@@ -10,7 +10,7 @@ their crate, and `rt must-fail` tries them there. It prints a line for each, whi
     bad          it can't be applied, or doesn't compile: mend it
     not tried    its check didn't end
 
-The status is 1 where one is let through, bad or not tried. docs/OPEN.md says what came of each that was tried. It takes as long as the proofs
+The status is 1 where one is let through, bad or not tried. bench/mutants.tsv says what each violates. It takes as long as the proofs
 of the crates, and up to a minute for each body.
 """
 import re

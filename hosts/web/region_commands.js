@@ -23,8 +23,8 @@ import { isBlock, isCaret, isCharacters, isSame, isText } from "./region_view.js
 /** @typedef {import("./region_view.js").View} View */
 
 /**
- * Each can be switched off by `false`. docs/FOR_MAKERS.md, "Where browsers do something else", has a
- * session for most of them.
+ * Each can be switched off by `false`. docs/SURPRISES.md, "Differences from browsers", has a session
+ * for most of them.
  * @typedef {object} Habits
  * @property {boolean} keepStyle Enter goes on in the style of the text before it, within blocks of
  *   one kind

@@ -20,9 +20,9 @@ describe("region.d.ts", async () => {
   });
 });
 
-describe("the page of docs/FOR_MAKERS.md", async () => {
-  const documents = new URL("../../../docs/FOR_MAKERS.md", import.meta.url);
-  const [, text] = (await readFile(documents, "utf8")).split("\n## In a web page\n");
+describe("the page of docs/WEB.md", async () => {
+  const documents = new URL("../../../docs/WEB.md", import.meta.url);
+  const [, text] = (await readFile(documents, "utf8")).split("\n## A region in ten lines\n");
   const [, markup] = /```html\n(.*?)```/s.exec(text);
 
   for (const { Browser, name, skip } of BROWSERS) {
