@@ -9,7 +9,7 @@ use Rattle.edit_io.specs.Handed.{handed_more}
 use Rattle.edit_engine.specs.ScriptRead.Reading.{number_of}
 use Rattle.edit_session.specs.Words.{Order, Run, Check, Replay, Bulk, reads_input, Choice, CapAt, UndoUpTo, Denying, Given, order_of, amount_of, choice_of, greatest_cap, greatest_undo, usual_undo, with_choice, AreSettings, IsOrder, none_given}
 use Rattle.edit_session.specs.Transcript.{Transcript, transcript_of, transcript, order_transcript, gives}
-use Rattle.edit_session.specs.Following.{Follows, RunFollows, IsAnswered, HasCap, Answered}
+use Rattle.edit_session.specs.Following.{Follows, RunFollows, IsAnswered, IsBegun, HasCap, Answered}
 use Rattle.edit_session.specs.declared.session.Status.{Status}
 use Rattle.edit_session.specs.declared.session.Status.TheVariants.{Done, Usage, ReadFault, WriteFault, Memory, PageRefused, TooLong, StepRefused}
 use Rattle.edit_session.specs.declared.words.Setting.{Setting}
@@ -229,7 +229,28 @@ answered_run old new h0 h1 bytes words order before after w0 w1 status asked is 
       written = rw e (f.whole same);
     }
 
+-- what was read begins to be answered
+pub begun_run : (old new : Option (List ℕ)) (h0 h1 : ℕ) (bytes : List ℕ) (words : List (List ℕ)) (order : Order) (before after : Option (List ℕ)) (w0 w1 : ℕ) (status : Status) → IsOrder words order → order_of words ≡ Some order → reads_input order ≡ true → Consumes old new bytes → IsAtEnd new → h1 ≡ handed_more h0 (length bytes) → length bytes ≤ 8388608 → Follows (gives order bytes) before after w0 w1 status
+    → IsBegun words old new h0 h1 before after
+begun_run old new h0 h1 bytes words order before after w0 w1 status asked is reads read end amount short f = record {
+  order = order;
+  ordered = asked;
+  text = bytes;
+  read = rw reads (read, end, amount);
+  written = rw (short_transcript words bytes order is short) f.written;
+}
+
 -- ---- an order that reads no input
+
+pub begun_unread : (left : Option (List ℕ)) (h : ℕ) (words : List (List ℕ)) (order : Order) (before after : Option (List ℕ)) (w0 w1 : ℕ) (status : Status) → IsOrder words order → order_of words ≡ Some order → reads_input order ≡ false → Follows (gives order []) before after w0 w1 status
+    → IsBegun words left left h h before after
+begun_unread left h words order before after w0 w1 status asked is unread f = record {
+  order = order;
+  ordered = asked;
+  text = [];
+  read = rw unread (refl, refl, refl);
+  written = rw (unread_transcript words [] order is unread) f.written;
+}
 
 pub told_unread : (left : Option (List ℕ)) (words : List (List ℕ)) (order : Order) (before after : Option (List ℕ)) (r w0 w1 : ℕ) (status : Status) → order_of words ≡ Some order → reads_input order ≡ false → Follows (gives order []) before after w0 w1 status
     → IfSome left (λ bytes. RunFollows (transcript words bytes) before after r r w0 w1 status)

@@ -69,6 +69,23 @@ pub record IsAnswered
   pub given : (transcript words text).status ≡ status
   pub written : Appends taken taken_after (transcript words text).text
 
+-- the statuses of a run that was cut off before its transcript was written whole
+abbrev pub IsCutOff : Status → Type 0
+IsCutOff WriteFault = Unit {0}
+IsCutOff Memory = Unit {0}
+IsCutOff s = ⊥
+
+-- The words ask for an order, its text was read, and what was written is a prefix of the transcript
+-- of that.
+pub record IsBegun
+    (words : List (List ℕ)) (left left_after : Option (List ℕ)) (handed handed_after : ℕ)
+    (taken taken_after : Option (List ℕ)) : Type 0 where
+  pub order : Order
+  pub ordered : IsOrder words order
+  pub text : List ℕ
+  pub read : WasRead (reads_input order) left left_after handed handed_after text
+  pub written : TakesPrefix taken taken_after (transcript words text).text
+
 -- ---- a whole run
 
 -- the cause is a read that failed
