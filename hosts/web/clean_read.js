@@ -113,11 +113,15 @@ export class PageReader {
   }
 
   /**
-   * The clean nodes of what a body holds.
-   * @param {Element} body
+   * The clean nodes of what a body holds. Where it is written from the right, a division says so.
+   * @param {HTMLElement} body
    */
   read(body) {
-    return this.#children(body, BODY);
+    const nodes = this.#children(body, BODY);
+    const isFromRight = [body, body.ownerDocument.documentElement].some(
+      (element) => element.getAttribute("dir")?.toLowerCase() === "rtl",
+    );
+    return isFromRight ? [makeElement("div", nodes, [["dir", "rtl"]])] : nodes;
   }
 
   /**
