@@ -212,6 +212,27 @@ function wordsOf(value, classes = []) {
 }
 
 /**
+ * The test for the values of an attribute; nothing where no value is shown.
+ * @param {string} name that of the element
+ * @param {string} attribute
+ * @returns {Test | undefined}
+ */
+function testOf(name, attribute) {
+  const ofName = Object.hasOwn(OF_NAMES, name) ? OF_NAMES[name] : {};
+  const table = [OF_ALL, ofName].find((tests) => Object.hasOwn(tests, attribute));
+  return table?.[attribute];
+}
+
+/**
+ * Whether an attribute of an element is shown where its value fits.
+ * @param {string} name that of the element
+ * @param {string} attribute
+ */
+export function isKnownAttribute(name, attribute) {
+  return attribute === "class" || testOf(name, attribute) !== undefined;
+}
+
+/**
  * An attribute of an element as it is shown; null where it isn't. `style` isn't: see `shownStyle`.
  * @param {string} name that of the element
  * @param {string} attribute
@@ -223,9 +244,7 @@ export function shownAttribute(name, attribute, value, allowed = {}) {
   if (attribute === "class") {
     return wordsOf(value, allowed.classes);
   }
-  const ofName = Object.hasOwn(OF_NAMES, name) ? OF_NAMES[name] : {};
-  const tests = [OF_ALL, ofName].find((table) => Object.hasOwn(table, attribute));
-  return tests?.[attribute](value, allowed) ? value : null;
+  return testOf(name, attribute)?.(value, allowed) ? value : null;
 }
 
 /**

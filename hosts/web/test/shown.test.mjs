@@ -82,6 +82,16 @@ describe("what is shown", () => {
     assert.equal(value("p", "class", "m-a xm-a m-a.", { classes: /m-[a-z]+/g }), "m-a");
     assert.equal(value("a", "href", "u"), null);
     assert.equal(value("a", "href", "u", { relative: true }), "u");
+    for (const [name, attribute, isKnown] of [
+      ["p", "class", true],
+      ["p", "lang", true],
+      ["img", "src", true],
+      ["p", "src", false],
+      ["p", "style", false],
+      ["p", "constructor", false],
+    ]) {
+      assert.equal(shown.isKnownAttribute(name, attribute), isKnown, `${name} ${attribute}`);
+    }
     const link = new Map([["href", "u"]]);
     assert.deepEqual(shown.addedAttributes("a", link), [["rel", "noopener noreferrer"]]);
     assert.deepEqual(shown.addedAttributes("a", new Map()), []);
