@@ -11,7 +11,7 @@ export interface Dropped {
   readonly element: string;
   /** That of the attribute or of the property. */
   readonly name?: string;
-  /** The attribute's. */
+  /** That of an attribute that is kept with other values. */
   readonly value?: string;
 }
 

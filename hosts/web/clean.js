@@ -4,7 +4,7 @@
  */
 import { PageRefused } from "./hedit_errors.js";
 import { PageKind } from "./hedit_constants.js";
-import { arrange } from "./clean_blocks.js";
+import { MOST_BYTES, arrange } from "./clean_blocks.js";
 import { tidy, tidyInline } from "./clean_lines.js";
 import { PageReader } from "./clean_read.js";
 import { isBlock, print } from "./clean_tree.js";
@@ -12,9 +12,6 @@ import { makeWordLists } from "./clean_word.js";
 
 /** @typedef {import("./clean_read.js").Settings} Settings */
 /** @typedef {import("./clean.js").CleanOptions} CleanOptions */
-
-/** The longest page, in bytes: the engine reads 4 MiB, and editing needs some of it. */
-const MOST_BYTES = 4 * 2 ** 20 - 4 * 2 ** 10;
 
 /** The engine reads 200 levels. */
 const MOST_DEPTH = 190;

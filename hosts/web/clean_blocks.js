@@ -20,8 +20,11 @@ import {
 /** @typedef {import("./clean_tree.js").CleanElement} CleanElement */
 /** @typedef {import("./clean_tree.js").CleanNode} CleanNode */
 
-/** More copies of inline elements than this make a page that is too long for the engine. */
-const MOST_COPIES = 600_000;
+/** The longest page, in bytes: the engine reads 4 MiB, and editing needs some of it. */
+export const MOST_BYTES = 4 * 2 ** 20 - 4 * 2 ** 10;
+
+/** The fewest bytes of an inline element. */
+const LEAST_BYTES = "<b></b>".length;
 
 const HEADINGS = namesOf("h1 h2 h3 h4 h5 h6");
 
@@ -121,8 +124,8 @@ class Spreader {
       return nodes;
     }
     this.#copies += around.length;
-    if (this.#copies > MOST_COPIES) {
-      throw new PageRefused(0, PageKind.TOO_LONG);
+    if (this.#copies * LEAST_BYTES > MOST_BYTES) {
+      throw new PageRefused(MOST_BYTES, PageKind.TOO_LONG);
     }
     return around.reduceRight(
       (inner, { name, attributes }) => [makeElement(name, inner, attributes)],
@@ -339,7 +342,9 @@ function ungroup(list, nodes) {
  * @returns {CleanNode[]}
  */
 function arrangeIn(parent, nodes) {
-  const arranged = ungroup(parent, nodes).flatMap((node) => (isBlock(node) ? arrangeBlock(/** @type {CleanElement} */ (node)) : [node]));
+  const arranged = ungroup(parent, nodes).flatMap((node) =>
+    isBlock(node) ? arrangeBlock(/** @type {CleanElement} */ (node)) : [node],
+  );
   if (ITEM_OF.has(parent)) {
     return makeItems(parent, arranged);
   }

@@ -1,5 +1,5 @@
 /** Reads a page that the browser parsed into the tree that `cleanPage` works on. */
-import { shownAttribute } from "./shown.js";
+import { isKnownAttribute, shownAttribute } from "./shown.js";
 import { StyleReader, fontColour, printStyle } from "./clean_style.js";
 import { CLEAN_BLOCKS, CLEAN_INLINES, hasBlock, isVoid, makeElement, namesOf } from "./clean_tree.js";
 
@@ -19,7 +19,7 @@ import { CLEAN_BLOCKS, CLEAN_INLINES, hasBlock, isVoid, makeElement, namesOf } f
  */
 
 /** Elements that go with all that is in them. */
-const DROPPED = namesOf(
+export const DROPPED = namesOf(
   "applet area audio base basefont bgsound canvas datalist embed fencedframe frame frameset head " +
     "iframe input keygen link map math meta meter noembed noframes noscript object optgroup option " +
     "param portal progress script select slot source style svg template textarea title track video xml",
@@ -65,9 +65,17 @@ const BARE = namesOf("reversed");
 
 const HTML = "http://www.w3.org/1999/xhtml";
 
+/** Characters that the engine and browsers read otherwise, or that aren't Unicode. */
+const UNREADABLE = /[\0\r\ud800-\udfff]/;
+
 /** @param {string} text */
-const wellFormed = (text) =>
-  text.replace(/\0/g, "").replace(/\r\n?/g, "\n").replace(/\p{Surrogate}/gu, "\ufffd");
+function wellFormed(text) {
+  if (!UNREADABLE.test(text)) {
+    return text;
+  }
+  const lines = text.replace(/\0/g, "").replace(/\r\n?/g, "\n");
+  return lines.replace(/\p{Surrogate}/gu, "\ufffd");
+}
 
 /**
  * Where a node is: how many elements are kept around it, whether one is a link, whether they are bold
@@ -226,16 +234,10 @@ export class PageReader {
    * @returns {[string, string][]}
    */
   #attributes(element, name, style, around) {
-    /** @type {[string, string][]} */
-    const kept = [];
-    for (const { name: attribute, value } of element.attributes) {
-      const clean = attribute === "style" ? null : this.#attribute(name, attribute, value);
-      if (clean !== null) {
-        kept.push([attribute, clean]);
-      } else if (attribute !== "style" && attribute !== "align") {
-        this.#tell({ kind: "attribute", element: element.localName, name: attribute, value });
-      }
-    }
+    const kept = element.getAttributeNames().flatMap((attribute) => {
+      const value = this.#attribute(element, name, attribute);
+      return value === null ? [] : [/** @type {[string, string]} */ ([attribute, value])];
+    });
     const said = style.declarations.filter((declaration) => tells(declaration, name, around));
     const text = printStyle([...said, ...impliedStyle(element, name, style)], CLEAN_BLOCKS.has(name));
     if (text) {
@@ -248,19 +250,37 @@ export class PageReader {
   }
 
   /**
-   * An attribute as it is kept; null where it isn't.
+   * An attribute as it is kept; null where it isn't. Others aren't looked up: an element may have
+   * thousands.
+   * @param {Element} element
+   * @param {string} name that of the clean one
+   * @param {string} attribute
+   */
+  #attribute(element, name, attribute) {
+    if (attribute === "style" || attribute === "align") {
+      return null;
+    }
+    const isKnown = isKnownAttribute(name, attribute);
+    const value = isKnown ? wellFormed(element.getAttribute(attribute) ?? "") : undefined;
+    const kept = value === undefined ? null : this.#value(name, attribute, value);
+    if (kept === null) {
+      this.#tell({ kind: "attribute", element: element.localName, name: attribute, value });
+    }
+    return kept;
+  }
+
+  /**
    * @param {string} name
    * @param {string} attribute
    * @param {string} given
    */
-  #attribute(name, attribute, given) {
-    const text = wellFormed(given);
-    const value = ADDRESSES.has(attribute) ? text.trim() : text;
+  #value(name, attribute, given) {
+    const value = ADDRESSES.has(attribute) ? given.trim() : given;
     if (attribute === "contenteditable") {
       return this.#settings.locked && value.toLowerCase() === "false" ? "false" : null;
     }
     if (attribute === "color") {
-      return name === "font" ? fontColour(value) || null : null;
+      return fontColour(value) || null;
     }
     const shown = shownAttribute(name, attribute, value, this.#settings);
     return shown !== null && BARE.has(attribute) ? "" : shown;
