@@ -73,13 +73,14 @@ def parsed(content: bytes) -> Session:
         about.append(lines.pop(0).removeprefix(b"# ").decode())
     if not lines or not lines[0].startswith(COMMAND):
         raise ValueError("no line `$ hedit ..` begins the session")
-    parting = next((at for at, line in enumerate(lines) if REPLY.fullmatch(line)), None)
-    if parting is None:
+    partings = ((at, found) for at, line in enumerate(lines) if (found := REPLY.fullmatch(line)))
+    parting, status = next(partings, (0, None))
+    if status is None:
         raise ValueError("no line `--- reply, status N` ends the input")
     return Session(
         arguments=tuple(shlex.split(lines[0].removeprefix(COMMAND).decode())),
         input=read_part(lines[1:parting]),
-        status=int(REPLY.fullmatch(lines[parting])[1]),
+        status=int(status[1]),
         reply=read_part(lines[parting + 1:]),
         about="\n".join(about),
     )
