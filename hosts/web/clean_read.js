@@ -74,7 +74,10 @@ function wellFormed(text) {
     return text;
   }
   const lines = text.replace(/\0/g, "").replace(/\r\n?/g, "\n");
-  return lines.replace(/\p{Surrogate}/gu, "\ufffd");
+  // WebKit's \p{Surrogate} misses half of a pair before U+E000 and later ones.
+  return lines.replace(/[\ud800-\udbff][\udc00-\udfff]|[\ud800-\udfff]/g, (found) =>
+    found.length === 2 ? found : "\ufffd",
+  );
 }
 
 /**

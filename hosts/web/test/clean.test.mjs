@@ -1,10 +1,10 @@
 /** What `cleanPage` makes of HTML from elsewhere, rule by rule. */
 import assert from "node:assert/strict";
 import { readFile } from "node:fs/promises";
-import { describe, it } from "node:test";
+import { describe } from "node:test";
 import { isShownElement } from "../shown.js";
 import { CLEAN_BLOCKS, CLEAN_INLINES } from "../clean_tree.js";
-import { BROWSERS } from "./browsers.mjs";
+import { BROWSERS, it } from "./browsers.mjs";
 import { CleaningPage } from "./clean_page.mjs";
 
 const LINK = "https://example.org/a?b=1&amp;c=2";
@@ -24,6 +24,7 @@ const RULES = {
     ["<b>a<i>b</b>c</i>", "<p><b>a<i>b</i></b><i>c</i></p>"],
     ["x\u0000y\r\nz&#13;w", "<p>xy z w</p>"],
     ["\ud800a\udc00😀", "<p>\ufffda\ufffd😀</p>"],
+    ["a\ud800\ue000\udc00\ufffd", "<p>a\ufffd\ue000\ufffd\ufffd</p>"],
     ["\ufeffa", "<p>a</p>"],
     ["", ""],
     [" \n ", ""],
@@ -167,7 +168,7 @@ const RULES = {
       '<p style="font-family: Arial; font-size: 12px; font-weight: bold; font-style: italic;">a</p>',
     ],
     [
-      "<span style='text-decoration: line-through underline red'>a</span>",
+      "<span style='text-decoration: line-through underline'>a</span>",
       '<p><span style="text-decoration: underline line-through;">a</span></p>',
     ],
     [

@@ -1,8 +1,8 @@
 /** What `cleanPage` makes of whole mails and of hostile pages, its options, and its limits. */
 import assert from "node:assert/strict";
 import { readFile, readdir } from "node:fs/promises";
-import { describe, it } from "node:test";
-import { BROWSERS } from "./browsers.mjs";
+import { describe } from "node:test";
+import { BROWSERS, it } from "./browsers.mjs";
 import { CleaningPage, read } from "./clean_page.mjs";
 import { serve } from "./server.mjs";
 
