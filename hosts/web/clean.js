@@ -54,6 +54,22 @@ function parseInert(html) {
  */
 const withBody = (html) => `<body>${html.replace(/^\ufeff/, "")}`;
 
+/** Elements whose names hide the properties of a form or of a document. */
+const HIDING = "button, embed, fieldset, form, iframe, img, input, object, output, select, textarea";
+
+/**
+ * Takes names away that hide properties of the document or of forms in it.
+ * @param {Document} document
+ */
+function takeNames(document) {
+  const { querySelectorAll } = Document.prototype;
+  const { removeAttribute } = Element.prototype;
+  for (const element of querySelectorAll.call(document, `:is(${HIDING}):is([id], [name])`)) {
+    removeAttribute.call(element, "id");
+    removeAttribute.call(element, "name");
+  }
+}
+
 /**
  * Cleans a page once.
  * @param {string} html
@@ -62,6 +78,7 @@ const withBody = (html) => `<body>${html.replace(/^\ufeff/, "")}`;
  */
 function cleanOnce(html, settings, parse) {
   const document = parse(withBody(html));
+  takeNames(document);
   if (/mso-list/i.test(html)) {
     makeWordLists(document);
   }
@@ -82,9 +99,13 @@ function cleanText(html, settings, parse) {
   return cleanOnce(markup, settings, parse);
 }
 
-/** @param {CleanOptions} options */
-function settingsOf({ classes, relative = false, locked = false, maxDepth = 100, inline = false, report }) {
-  const depth = Math.min(Math.max(Math.trunc(maxDepth), 1), MOST_DEPTH);
+/**
+ * @param {CleanOptions} options
+ * @returns {Settings}
+ */
+function settingsOf({ classes, relative = false, locked = false, inline = false, ...others }) {
+  const { maxDepth = 100, report } = others;
+  const depth = Math.min(Math.max(Math.trunc(maxDepth) || 1, 1), MOST_DEPTH);
   const words = classes instanceof RegExp ? classes : new Set(classes ?? []);
   return { classes: words, relative, locked, maxDepth: depth, inline, report };
 }

@@ -106,7 +106,9 @@ function showBlanks(text, keepsAll) {
     if (!keepsAll) {
       return line;
     }
-    const wide = line.replace(/\t/g, "    ").replace(/ {2,}/g, (run) => "\u00a0".repeat(run.length - 1) + " ");
+    const wide = line
+      .replace(/\t/g, "    ")
+      .replace(/ {2,}/g, (run) => `${"\u00a0".repeat(run.length - 1)} `);
     return index > 0 ? wide.replace(/^ /, "\u00a0") : wide;
   });
   return lines.flatMap((line, index) => (index > 0 ? [makeElement("br", []), line] : [line]));
@@ -179,7 +181,8 @@ export class PageReader {
       return [];
     }
     const name = nameOf(element, style);
-    if (name === null || around.depth >= this.#settings.maxDepth || (name === "a" && around.isLinked)) {
+    const isTooDeep = around.depth >= this.#settings.maxDepth;
+    if (name === null || isTooDeep || (name === "a" && around.isLinked)) {
       return this.#unwrapped(element, name, around, style);
     }
     const attributes = this.#attributes(element, name, style, around);
@@ -187,7 +190,8 @@ export class PageReader {
     if (name === "img" && !attributes.some(([attribute]) => attribute === "src")) {
       return this.#unwrapped(element, name, around, style);
     }
-    const children = isVoid(name) ? [] : this.#children(element, within(around, name, isLink, style));
+    const inner = within(around, name, isLink, style);
+    const children = isVoid(name) ? [] : this.#children(element, inner);
     if (name === "a" && !isLink) {
       return attributes.length > 0 ? [makeElement("span", children, attributes)] : children;
     }
@@ -212,7 +216,8 @@ export class PageReader {
     if (name !== null && isVoid(name)) {
       return [" "];
     }
-    const children = this.#children(element, within({ ...around, depth: around.depth - 1 }, name, false, style));
+    const { depth } = around;
+    const children = this.#children(element, { ...within(around, name, false, style), depth });
     const partsWords = name !== null && CLEAN_BLOCKS.has(name) && !children.some(hasBlock);
     return partsWords ? [" ", ...children, " "] : children;
   }
@@ -237,12 +242,14 @@ export class PageReader {
    * @returns {[string, string][]}
    */
   #attributes(element, name, style, around) {
-    const kept = element.getAttributeNames().flatMap((attribute) => {
+    const names = element.hasAttributes() ? element.getAttributeNames() : [];
+    const kept = names.flatMap((attribute) => {
       const value = this.#attribute(element, name, attribute);
       return value === null ? [] : [/** @type {[string, string]} */ ([attribute, value])];
     });
     const said = style.declarations.filter((declaration) => tells(declaration, name, around));
-    const text = printStyle([...said, ...impliedStyle(element, name, style)], CLEAN_BLOCKS.has(name));
+    const all = [...said, ...impliedStyle(element, name, style)];
+    const text = printStyle(all, CLEAN_BLOCKS.has(name));
     if (text) {
       kept.push(["style", text]);
     }
@@ -318,16 +325,19 @@ function nameOf(element, style) {
  * @returns {[string, string][]}
  */
 function impliedStyle(element, name, { declarations }) {
-  const isSaid = (/** @type {string} */ property) => declarations.some(([each]) => each === property);
-  if (element.localName === "big" && !isSaid("font-size")) {
-    return [["font-size", "large"]];
+  const isSaid = (/** @type {string} */ property) =>
+    declarations.some(([each]) => each === property);
+  if (element.localName === "big") {
+    return isSaid("font-size") ? [] : [["font-size", "large"]];
+  }
+  if (!CLEAN_BLOCKS.has(name) || NOT_ALIGNED.has(name) || isSaid("text-align")) {
+    return [];
   }
   const align = element.getAttribute("align")?.toLowerCase() ?? "";
-  const isAligned = CLEAN_BLOCKS.has(name) && !NOT_ALIGNED.has(name) && !isSaid("text-align");
-  if (isAligned && /^(?:left|right|center|justify)$/.test(align)) {
+  if (/^(?:left|right|center|justify)$/.test(align)) {
     return [["text-align", align]];
   }
-  return isAligned && element.localName === "center" ? [["text-align", "center"]] : [];
+  return element.localName === "center" ? [["text-align", "center"]] : [];
 }
 
 /**
@@ -367,7 +377,8 @@ function within(around, name, isLink, { weight, slope, whiteSpace }) {
     depth: around.depth + 1,
     isLinked: around.isLinked || isLink,
     isBold: around.isBold || isNamed(BOLD, BOLD_BLOCKS) || /^(?:bold|[6-9]00)/.test(weight),
-    isSlanted: around.isSlanted || isNamed(SLANTED, SLANTED_BLOCKS) || /^(?:italic|oblique)/.test(slope),
+    isSlanted:
+      around.isSlanted || isNamed(SLANTED, SLANTED_BLOCKS) || /^(?:italic|oblique)/.test(slope),
     blanks: blanksWithin(around.blanks, name, whiteSpace),
   };
 }
