@@ -1,6 +1,6 @@
 /**
- * Cleans HTML from elsewhere: what it gives is a page that the engine reads, that holds no more than
- * the tables of shown.js have, and that stays as it is when it is cleaned again.
+ * Cleans HTML from elsewhere. The result is a page that the engine reads. It has only elements,
+ * attributes, styles and addresses of the tables in shown.js, and cleaning it again changes nothing.
  */
 import { PageRefused } from "./hedit_errors.js";
 import { PageKind } from "./hedit_constants.js";
@@ -16,13 +16,13 @@ import { makeWordLists } from "./clean_word.js";
 /** The engine reads 200 levels. */
 const MOST_DEPTH = 190;
 
-/** How often a page is cleaned until it stays as it is. */
+/** How often a page is cleaned until it doesn't change. */
 const MOST_ROUNDS = 6;
 
 /** @type {((html: string) => string) | null} */
 let trust = null;
 
-/** A function that makes markup one that the page's policy lets a parser read. */
+/** Makes the function that turns markup into markup that the page's policy trusts. */
 function makeTrust() {
   /** @type {any} */
   const { trustedTypes } = globalThis;
@@ -34,13 +34,13 @@ function makeTrust() {
     const policy = trustedTypes.createPolicy("hedit", { createHTML: plain });
     return (/** @type {string} */ html) => policy.createHTML(html);
   } catch {
-    // The page doesn't let a policy of that name be made: a default one may let the text through.
+    // The page forbids a policy of that name, but its default policy may trust the text.
     return plain;
   }
 }
 
 /**
- * Parses markup. Nothing in the document runs or loads.
+ * Parses markup into a document in which nothing runs or loads.
  * @param {string} html
  */
 function parseInert(html) {
@@ -49,10 +49,27 @@ function parseInert(html) {
 }
 
 /**
- * Markup in a body, so that blanks at the start are kept; the mark that files begin with isn't text.
+ * Puts markup into a body, so that the parser keeps whitespace at the start. A byte order mark isn't
+ * text.
  * @param {string} html
  */
 const withBody = (html) => `<body>${html.replace(/^\ufeff/, "")}`;
+
+/** Elements whose names hide properties of a form or of the document. */
+const HIDING = "button, embed, fieldset, form, iframe, img, input, object, output, select, textarea";
+
+/**
+ * Removes names that hide properties of forms and of the document.
+ * @param {Document} document
+ */
+function removeNames(document) {
+  const { querySelectorAll } = Document.prototype;
+  const { removeAttribute } = Element.prototype;
+  for (const element of querySelectorAll.call(document, `:is(${HIDING}):is([id], [name])`)) {
+    removeAttribute.call(element, "id");
+    removeAttribute.call(element, "name");
+  }
+}
 
 /**
  * Cleans a page once.
@@ -62,6 +79,7 @@ const withBody = (html) => `<body>${html.replace(/^\ufeff/, "")}`;
  */
 function cleanOnce(html, settings, parse) {
   const document = parse(withBody(html));
+  removeNames(document);
   if (/mso-list/i.test(html)) {
     makeWordLists(document);
   }
@@ -70,7 +88,7 @@ function cleanOnce(html, settings, parse) {
 }
 
 /**
- * The text of a page, each line as a paragraph.
+ * Returns the text of a page, each line as a paragraph.
  * @param {string} html
  * @param {Settings} settings
  * @param {(html: string) => Document} parse
@@ -82,9 +100,13 @@ function cleanText(html, settings, parse) {
   return cleanOnce(markup, settings, parse);
 }
 
-/** @param {CleanOptions} options */
-function settingsOf({ classes, relative = false, locked = false, maxDepth = 100, inline = false, report }) {
-  const depth = Math.min(Math.max(Math.trunc(maxDepth), 1), MOST_DEPTH);
+/**
+ * @param {CleanOptions} options
+ * @returns {Settings}
+ */
+function settingsOf({ classes, relative = false, locked = false, inline = false, ...others }) {
+  const { maxDepth = 100, report } = others;
+  const depth = Math.min(Math.max(Math.trunc(maxDepth) || 1, 1), MOST_DEPTH);
   const words = classes instanceof RegExp ? classes : new Set(classes ?? []);
   return { classes: words, relative, locked, maxDepth: depth, inline, report };
 }
@@ -101,7 +123,7 @@ function checkLength(html) {
 }
 
 /**
- * Cleans HTML from elsewhere; clean.d.ts says more.
+ * Cleans HTML from elsewhere; see clean.d.ts.
  * @param {string} html
  * @param {CleanOptions} [options]
  * @returns {string}

@@ -1,17 +1,17 @@
 /**
- * The order of a clean page: which elements are in which. Inline elements hold no blocks, paragraphs
- * hold a line, and items and cells are in lists and tables.
+ * Arranges the elements of a clean page: inline elements hold no blocks, paragraphs hold one line, and
+ * items and cells are in lists and tables.
  */
 import { PageRefused } from "./hedit_errors.js";
 import { PageKind } from "./hedit_constants.js";
 import {
   hasBlock,
   hasContent,
-  isBlank,
   isBlock,
   isElement,
   isNamed,
   isVoid,
+  isWhitespace,
   makeElement,
   namesOf,
   seriesOf,
@@ -36,7 +36,7 @@ const LISTS = namesOf("ul ol");
 /** Items and cells: a paragraph that is alone there is unwrapped. */
 const ITEMS = namesOf("li dt dd td th caption");
 
-/** What a list or a part of a table holds. */
+/** The elements that a list or a part of a table may hold. */
 const HELD = /** @type {ReadonlyMap<string, ReadonlySet<string>>} */ (
   new Map([
     ["ul", namesOf("li ul ol")],
@@ -51,7 +51,7 @@ const HELD = /** @type {ReadonlyMap<string, ReadonlySet<string>>} */ (
   ])
 );
 
-/** What other nodes in a list become. */
+/** The item that other nodes in a list become. */
 const ITEM_OF = /** @type {ReadonlyMap<string, string>} */ (
   new Map([
     ["ul", "li"],
@@ -60,7 +60,10 @@ const ITEM_OF = /** @type {ReadonlyMap<string, string>} */ (
   ])
 );
 
-/** What items and parts of tables get around them elsewhere, or become. */
+/**
+ * The list that stray items get around them. Stray parts of tables become divisions, or are removed
+ * if they hold no text.
+ */
 const HOME_OF = /** @type {ReadonlyMap<string, string>} */ (
   new Map([
     ["li", "ul"],
@@ -77,14 +80,14 @@ const HOME_OF = /** @type {ReadonlyMap<string, string>} */ (
 // Inline elements around blocks.
 
 /**
- * Whether a node shows something that a format or a link can be seen of.
+ * Whether a node has characters or images: a format or a link of others can't be seen.
  * @param {CleanNode} node
  * @returns {boolean}
  */
 const isSeen = (node) =>
-  isElement(node) ? node.name === "img" || node.children.some(isSeen) : !isBlank(node);
+  isElement(node) ? node.name === "img" || node.children.some(isSeen) : !isWhitespace(node);
 
-/** Puts inline elements into the blocks that they hold. */
+/** Moves inline elements into the blocks that they hold. */
 class Spreader {
   #copies = 0;
 
@@ -137,7 +140,7 @@ class Spreader {
 // Blocks in blocks.
 
 /**
- * Series of inline nodes become paragraphs where they show something, and go otherwise.
+ * Makes paragraphs of inline nodes next to blocks, and removes whitespace between blocks.
  * @param {readonly CleanNode[]} nodes
  * @returns {CleanNode[]}
  */
@@ -151,7 +154,7 @@ function makeParagraphs(nodes) {
 }
 
 /**
- * Nodes that a list doesn't hold become items, and blanks between items go.
+ * Makes items of the nodes that a list may not hold, and removes whitespace between items.
  * @param {string} list
  * @param {readonly CleanNode[]} nodes
  * @returns {CleanNode[]}
@@ -170,12 +173,13 @@ function makeItems(list, nodes) {
 }
 
 /**
- * Items and parts of tables that are elsewhere get a list around them, or become blocks.
+ * Puts lists around stray items, and makes divisions of stray parts of tables.
  * @param {readonly CleanNode[]} nodes
  * @returns {CleanNode[]}
  */
 function houseStrays(nodes) {
-  const homeOf = (/** @type {CleanNode} */ node) => (isElement(node) ? HOME_OF.get(node.name) : undefined);
+  const homeOf = (/** @type {CleanNode} */ node) =>
+    isElement(node) ? HOME_OF.get(node.name) : undefined;
   return seriesOf(nodes, homeOf).flatMap(({ key, nodes: series }) => {
     if (key === undefined || key === "") {
       return key === undefined ? series : [];
@@ -192,8 +196,8 @@ function houseStrays(nodes) {
 }
 
 /**
- * A block that holds one line is parted around the blocks in it. What was a line of its own in a
- * heading is a heading too.
+ * Splits a block that holds one line around the blocks in it. A paragraph in a heading becomes a
+ * heading too.
  * @param {CleanElement} block
  * @returns {CleanNode[]}
  */
@@ -220,7 +224,7 @@ function partLine(block) {
 const arrangeList = (list) => (list.children.length > 0 ? [list] : []);
 
 /**
- * What a table or a part of one doesn't hold goes before it, and rows get a body around them.
+ * Moves nodes that a table or a part of one may not hold in front of it, and puts rows into a body.
  * @param {CleanElement} table
  * @returns {CleanNode[]}
  */
@@ -242,7 +246,7 @@ function arrangeTable(table) {
 }
 
 /**
- * Whether a paragraph says nothing that the block around it doesn't.
+ * Whether a node is a paragraph with no attributes that the block around it lacks.
  * @param {CleanNode} node
  * @param {CleanElement} block
  */
@@ -257,7 +261,7 @@ function isPlainIn(node, block) {
 }
 
 /**
- * A block that holds lines: what is inline beside blocks becomes paragraphs.
+ * Arranges a block that holds lines or blocks. A paragraph that is alone in an item is unwrapped.
  * @param {CleanElement} block
  * @returns {CleanNode[]}
  */
@@ -265,7 +269,9 @@ function arrangeContainer(block) {
   const { name, children } = block;
   const isList = (/** @type {CleanNode} */ node) => isElement(node) && LISTS.has(node.name);
   const isItemWithLists =
-    name === "li" && !isList(children[0] ?? "") && children.every((node) => !isBlock(node) || isList(node));
+    name === "li" &&
+    !isList(children[0] ?? "") &&
+    children.every((node) => !isBlock(node) || isList(node));
   if (!isItemWithLists && children.some(isBlock)) {
     block.children = makeParagraphs(children);
   }
@@ -278,7 +284,7 @@ function arrangeContainer(block) {
 }
 
 /**
- * A division of one line is a paragraph, and one that says nothing of its blocks is unwrapped.
+ * Makes a paragraph of a division with one line, and unwraps one without attributes.
  * @param {CleanElement} division
  * @returns {CleanNode[]}
  */
@@ -290,7 +296,7 @@ function arrangeDivision({ attributes, children }) {
 }
 
 /**
- * A quotation, an address or a caption goes where nothing is in it.
+ * Removes an empty quotation, address or caption.
  * @param {CleanElement} block
  * @returns {CleanNode[]}
  */
@@ -319,7 +325,7 @@ function arrangeBlock(block) {
 }
 
 /**
- * Divisions in a list that only group items are unwrapped.
+ * Unwraps divisions in a list that group its items.
  * @param {string} list
  * @param {readonly CleanNode[]} nodes
  * @returns {CleanNode[]}
@@ -352,9 +358,9 @@ function arrangeIn(parent, nodes) {
 }
 
 /**
- * Arranges what a page holds.
+ * Arranges the nodes of a page.
  * @param {readonly CleanNode[]} nodes
- * @param {boolean} isInline whether a page of one line stays without a paragraph around it
+ * @param {boolean} isInline whether a page of one line gets no paragraph around it
  * @returns {CleanNode[]}
  */
 export function arrange(nodes, isInline) {

@@ -1,22 +1,22 @@
-/** The lines of a clean page: their blanks, and what an empty line holds. */
-import { hasContent, isBlock, isElement, isVoid, makeElement, namesOf, seriesOf } from "./clean_tree.js";
+/** Tidies the lines of a clean page: their whitespace, and the `br` of an empty line. */
+import { isBlock, isElement, isVoid, makeElement, namesOf, seriesOf } from "./clean_tree.js";
 
 /** @typedef {import("./clean_tree.js").CleanElement} CleanElement */
 /** @typedef {import("./clean_tree.js").CleanNode} CleanNode */
 
-/** Blocks that show a line even where nothing is in them. */
+/** Blocks that show a line even if they are empty. */
 const LINES = namesOf("p h1 h2 h3 h4 h5 h6 pre li dt dd td th");
 
-/** Collapses the blanks of one line, as browsers show them. */
+/** Collapses the whitespace of one line, as browsers do. */
 class Line {
-  /** Whether a blank here isn't shown. */
-  #isAfterBlank = true;
+  /** Whether a space here collapses into the one before, or into the start of the line. */
+  #isAfterSpace = true;
 
   /**
-   * Where the text before ends with a blank.
+   * The text before, if it ends with a space.
    * @type {{ list: CleanNode[], index: number } | null}
    */
-  #blank = null;
+  #trailing = null;
 
   /** @param {CleanNode[]} nodes */
   collapse(nodes) {
@@ -38,10 +38,10 @@ class Line {
    */
   #text(given, list, index) {
     const text = given.replace(/[\t\n\f\r ]+/g, " ");
-    const shown = this.#isAfterBlank && text.startsWith(" ") ? text.slice(1) : text;
+    const shown = this.#isAfterSpace && text.startsWith(" ") ? text.slice(1) : text;
     if (shown !== "") {
-      this.#isAfterBlank = shown.endsWith(" ");
-      this.#blank = this.#isAfterBlank ? { list, index } : null;
+      this.#isAfterSpace = shown.endsWith(" ");
+      this.#trailing = this.#isAfterSpace ? { list, index } : null;
     }
     return shown;
   }
@@ -51,27 +51,27 @@ class Line {
     if (name === "br") {
       this.end();
     }
-    this.#isAfterBlank = name === "br";
-    this.#blank = null;
+    this.#isAfterSpace = name === "br";
+    this.#trailing = null;
   }
 
-  /** A blank at the start is shown too: something may be before it. */
+  /** Keeps a space at the start: other text may precede the line. */
   keepStart() {
-    this.#isAfterBlank = false;
+    this.#isAfterSpace = false;
   }
 
-  /** Takes the blank at the end away. */
+  /** Removes a space at the end. */
   end() {
-    if (this.#blank) {
-      const { list, index } = this.#blank;
+    if (this.#trailing) {
+      const { list, index } = this.#trailing;
       list[index] = /** @type {string} */ (list[index]).slice(0, -1);
-      this.#blank = null;
+      this.#trailing = null;
     }
   }
 }
 
 /**
- * Leaves out texts without characters, and inline elements without content.
+ * Removes empty texts, and inline elements without content.
  * @param {readonly CleanNode[]} nodes
  * @returns {CleanNode[]}
  */
@@ -90,7 +90,7 @@ function prune(nodes) {
 }
 
 /**
- * Whether a line shows nothing: editors write U+00A0 alone for that.
+ * Whether a line is empty. Editors also write an empty line as U+00A0 alone.
  * @param {CleanNode} node
  * @returns {boolean}
  */
@@ -109,7 +109,7 @@ function tidyLine(nodes) {
 }
 
 /**
- * A line feed that a pre begins with isn't shown: it becomes a break.
+ * Tidies what a `pre` holds. Parsers drop a line feed at its start, so that becomes a `br`.
  * @param {readonly CleanNode[]} nodes
  * @returns {CleanNode[]}
  */
@@ -149,7 +149,7 @@ export function tidy(nodes) {
 }
 
 /**
- * Tidies a page without blocks. Blanks at its ends stay, since it may become part of a line.
+ * Tidies a page without blocks. Spaces at its ends stay, since it may become part of a line.
  * @param {CleanNode[]} nodes
  * @returns {CleanNode[]}
  */

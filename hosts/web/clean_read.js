@@ -1,7 +1,14 @@
-/** Reads a page that the browser parsed into the tree that `cleanPage` works on. */
+/** Reads a parsed page into the tree that `cleanPage` works on. */
 import { isKnownAttribute, shownAttribute } from "./shown.js";
 import { StyleReader, fontColour, printStyle } from "./clean_style.js";
-import { CLEAN_BLOCKS, CLEAN_INLINES, hasBlock, isVoid, makeElement, namesOf } from "./clean_tree.js";
+import {
+  CLEAN_BLOCKS,
+  CLEAN_INLINES,
+  isNamed,
+  isVoid,
+  makeElement,
+  namesOf,
+} from "./clean_tree.js";
 
 /** @typedef {import("./clean_tree.js").CleanNode} CleanNode */
 /** @typedef {import("./clean_style.js").Style} Style */
@@ -18,14 +25,14 @@ import { CLEAN_BLOCKS, CLEAN_INLINES, hasBlock, isVoid, makeElement, namesOf } f
  * }} Settings
  */
 
-/** Elements that go with all that is in them. */
+/** Elements that are removed with their content. */
 export const DROPPED = namesOf(
   "applet area audio base basefont bgsound canvas datalist embed fencedframe frame frameset head " +
     "iframe input keygen link map math meta meter noembed noframes noscript object optgroup option " +
     "param portal progress script select slot source style svg template textarea title track video xml",
 );
 
-/** Elements that get another name. */
+/** The names that other elements get. */
 const RENAMED = new Map(
   Object.entries({
     abbr: "acronym",
@@ -40,12 +47,12 @@ const RENAMED = new Map(
   }).flatMap(([name, others]) => others.split(" ").map((other) => [other, name])),
 );
 
-/** Formats that a style may switch off again, as Google Docs does in each of its spans. */
+/** Formats that a style may switch off, as Google Docs does. */
 const BOLD = namesOf("b strong");
 
 const SLANTED = namesOf("i em cite dfn var");
 
-/** Elements that are bold too, or slanted, or decorated, or that aren't on the line of text. */
+/** Elements that are bold, slanted, decorated or raised too. */
 const BOLD_BLOCKS = namesOf("h1 h2 h3 h4 h5 h6 th");
 
 const SLANTED_BLOCKS = namesOf("address");
@@ -54,18 +61,21 @@ const DECORATED = namesOf("a u s ins del");
 
 const RAISED = namesOf("sub sup td th");
 
-/** Blocks that the attribute `align` moves as a whole, or not at all. */
+/** Blocks whose `align` doesn't align text. */
 const NOT_ALIGNED = namesOf("table hr ul ol li dl col colgroup");
 
-/** Attributes that addresses stand in: browsers read them without the blanks around. */
+/** Attributes with an address: browsers ignore whitespace around it. */
 const ADDRESSES = namesOf("href src");
 
-/** Attributes whose presence says all. */
+/** Attributes without a value. */
 const BARE = namesOf("reversed");
+
+/** Elements that mean nothing without attributes: they don't count as levels. */
+const BARE_ELEMENTS = namesOf("span font div");
 
 const HTML = "http://www.w3.org/1999/xhtml";
 
-/** Characters that the engine and browsers read otherwise, or that aren't Unicode. */
+/** Characters that the engine and browsers read differently, or that aren't Unicode. */
 const UNREADABLE = /[\0\r\ud800-\udfff]/;
 
 /** @param {string} text */
@@ -74,36 +84,42 @@ function wellFormed(text) {
     return text;
   }
   const lines = text.replace(/\0/g, "").replace(/\r\n?/g, "\n");
-  return lines.replace(/\p{Surrogate}/gu, "\ufffd");
+  // WebKit's \p{Surrogate} misses half of a pair before U+E000 and later ones.
+  return lines.replace(/[\ud800-\udbff][\udc00-\udfff]|[\ud800-\udfff]/g, (found) =>
+    found.length === 2 ? found : "\ufffd",
+  );
 }
 
 /**
- * Where a node is: how many elements are kept around it, whether one is a link, whether they are bold
- * or slanted, and how blanks are shown: as usual, as in `pre`, or as a style says outside of one.
+ * The context of a node: how many elements are kept around it, whether one is a link, is bold or is
+ * slanted, and how whitespace is shown. `pre` is that of the element, and the other values are those
+ * of `white-space-collapse`.
  * @typedef {{
  *   depth: number,
  *   isLinked: boolean,
  *   isBold: boolean,
  *   isSlanted: boolean,
- *   blanks: "normal" | "kept" | "pre" | "pre-line",
+ *   whiteSpace: "collapse" | "pre" | "preserve" | "preserve-breaks",
  * }} Surroundings
  */
 
 /** @type {Surroundings} */
-const BODY = { depth: 0, isLinked: false, isBold: false, isSlanted: false, blanks: "normal" };
+const BODY = { depth: 0, isLinked: false, isBold: false, isSlanted: false, whiteSpace: "collapse" };
 
 /**
- * A text with blanks that a style shows, as one that shows the same without that style.
+ * Rewrites whitespace that a style preserves: line feeds as `br`, and spaces as U+00A0.
  * @param {string} text
- * @param {boolean} keepsAll whether all blanks are shown, or line feeds alone
+ * @param {boolean} keepsSpaces whether spaces are preserved too
  * @returns {CleanNode[]}
  */
-function showBlanks(text, keepsAll) {
+function preserve(text, keepsSpaces) {
   const lines = text.split("\n").map((line, index) => {
-    if (!keepsAll) {
+    if (!keepsSpaces) {
       return line;
     }
-    const wide = line.replace(/\t/g, "    ").replace(/ {2,}/g, (run) => "\u00a0".repeat(run.length - 1) + " ");
+    const wide = line
+      .replace(/\t/g, "    ")
+      .replace(/ {2,}/g, (run) => `${"\u00a0".repeat(run.length - 1)} `);
     return index > 0 ? wide.replace(/^ /, "\u00a0") : wide;
   });
   return lines.flatMap((line, index) => (index > 0 ? [makeElement("br", []), line] : [line]));
@@ -121,15 +137,15 @@ export class PageReader {
   }
 
   /**
-   * The clean nodes of what a body holds. Where it is written from the right, a division says so.
+   * Returns the clean nodes of a body. If it is written from right to left, they are in a division.
    * @param {HTMLElement} body
    */
   read(body) {
     const nodes = this.#children(body, BODY);
-    const isFromRight = [body, body.ownerDocument.documentElement].some(
+    const isRightToLeft = [body, body.ownerDocument.documentElement].some(
       (element) => element.getAttribute("dir")?.toLowerCase() === "rtl",
     );
-    return isFromRight ? [makeElement("div", nodes, [["dir", "rtl"]])] : nodes;
+    return isRightToLeft ? [makeElement("div", nodes, [["dir", "rtl"]])] : nodes;
   }
 
   /**
@@ -159,9 +175,10 @@ export class PageReader {
    * @param {Surroundings} around
    * @returns {CleanNode[]}
    */
-  #text(data, { blanks }) {
+  #text(data, { whiteSpace }) {
     const text = wellFormed(data);
-    return blanks === "pre" || blanks === "pre-line" ? showBlanks(text, blanks === "pre") : [text];
+    const isPreserved = whiteSpace === "preserve" || whiteSpace === "preserve-breaks";
+    return isPreserved ? preserve(text, whiteSpace === "preserve") : [text];
   }
 
   /**
@@ -176,7 +193,8 @@ export class PageReader {
       return [];
     }
     const name = nameOf(element, style);
-    if (name === null || around.depth >= this.#settings.maxDepth || (name === "a" && around.isLinked)) {
+    const isTooDeep = around.depth >= this.#settings.maxDepth && name !== "br";
+    if (name === null || isTooDeep || (name === "a" && around.isLinked)) {
       return this.#unwrapped(element, name, around, style);
     }
     const attributes = this.#attributes(element, name, style, around);
@@ -184,16 +202,17 @@ export class PageReader {
     if (name === "img" && !attributes.some(([attribute]) => attribute === "src")) {
       return this.#unwrapped(element, name, around, style);
     }
-    const children = isVoid(name) ? [] : this.#children(element, within(around, name, isLink, style));
-    if (name === "a" && !isLink) {
-      return attributes.length > 0 ? [makeElement("span", children, attributes)] : children;
-    }
-    const isBare = attributes.length === 0 && (name === "span" || name === "font");
-    return isBare ? children : [makeElement(name, children, attributes)];
+    const clean = name === "a" && !isLink ? "span" : name;
+    const isBare = attributes.length === 0 && BARE_ELEMENTS.has(clean);
+    const inner = within(around, name, isLink, style);
+    const depth = isBare ? around.depth : inner.depth;
+    const children = isVoid(name) ? [] : this.#children(element, { ...inner, depth });
+    return isBare && clean !== "div" ? children : [makeElement(clean, children, attributes)];
   }
 
   /**
-   * What is left of an element that isn't kept: what it holds, or the text of an image.
+   * Returns the content of an element that isn't kept, or the text of an image. Blocks below the
+   * deepest level leave a line break.
    * @param {Element} element
    * @param {string | null} name
    * @param {Surroundings} around
@@ -206,16 +225,18 @@ export class PageReader {
       const text = element.getAttribute("alt");
       return text ? [wellFormed(text)] : [];
     }
-    if (name !== null && isVoid(name)) {
-      return [" "];
+    const inner = within(around, name === "pre" ? null : name, false, style);
+    const whiteSpace = name === "pre" ? "preserve" : inner.whiteSpace;
+    const children = this.#children(element, { ...inner, depth: around.depth, whiteSpace });
+    if (name === null || !CLEAN_BLOCKS.has(name)) {
+      return children;
     }
-    const children = this.#children(element, within({ ...around, depth: around.depth - 1 }, name, false, style));
-    const partsWords = name !== null && CLEAN_BLOCKS.has(name) && !children.some(hasBlock);
-    return partsWords ? [" ", ...children, " "] : children;
+    const isEnded = children.length > 0 && isNamed(children[children.length - 1], "br");
+    return [" ", ...children, ...(isEnded ? [] : [makeElement("br", [])])];
   }
 
   /**
-   * Whether an element goes with all that is in it.
+   * Whether an element is removed with its content.
    * @param {Element} element
    * @param {Style} style
    */
@@ -234,12 +255,14 @@ export class PageReader {
    * @returns {[string, string][]}
    */
   #attributes(element, name, style, around) {
-    const kept = element.getAttributeNames().flatMap((attribute) => {
+    const names = element.hasAttributes() ? element.getAttributeNames() : [];
+    const kept = names.flatMap((attribute) => {
       const value = this.#attribute(element, name, attribute);
       return value === null ? [] : [/** @type {[string, string]} */ ([attribute, value])];
     });
     const said = style.declarations.filter((declaration) => tells(declaration, name, around));
-    const text = printStyle([...said, ...impliedStyle(element, name, style)], CLEAN_BLOCKS.has(name));
+    const all = [...said, ...impliedStyle(element, name, style)];
+    const text = printStyle(all, CLEAN_BLOCKS.has(name));
     if (text) {
       kept.push(["style", text]);
     }
@@ -250,8 +273,8 @@ export class PageReader {
   }
 
   /**
-   * An attribute as it is kept; null where it isn't. Others aren't looked up: an element may have
-   * thousands.
+   * Returns an attribute as it is kept, or null. The values of unknown ones aren't looked up: an
+   * element may have thousands.
    * @param {Element} element
    * @param {string} name that of the clean one
    * @param {string} attribute
@@ -293,7 +316,7 @@ export class PageReader {
 }
 
 /**
- * The name of the clean element for another one; null where that isn't kept.
+ * Returns the name of the clean element for another one, or null if it isn't kept.
  * @param {Element} element
  * @param {Style} style
  */
@@ -308,27 +331,30 @@ function nameOf(element, style) {
 }
 
 /**
- * What an element says by its name or by `align`, as declarations.
+ * Returns the declarations that the name of an element or its `align` imply.
  * @param {Element} element
  * @param {string} name
  * @param {Style} style
  * @returns {[string, string][]}
  */
 function impliedStyle(element, name, { declarations }) {
-  const isSaid = (/** @type {string} */ property) => declarations.some(([each]) => each === property);
-  if (element.localName === "big" && !isSaid("font-size")) {
-    return [["font-size", "large"]];
+  const isSaid = (/** @type {string} */ property) =>
+    declarations.some(([each]) => each === property);
+  if (element.localName === "big") {
+    return isSaid("font-size") ? [] : [["font-size", "large"]];
+  }
+  if (!CLEAN_BLOCKS.has(name) || NOT_ALIGNED.has(name) || isSaid("text-align")) {
+    return [];
   }
   const align = element.getAttribute("align")?.toLowerCase() ?? "";
-  const isAligned = CLEAN_BLOCKS.has(name) && !NOT_ALIGNED.has(name) && !isSaid("text-align");
-  if (isAligned && /^(?:left|right|center|justify)$/.test(align)) {
+  if (/^(?:left|right|center|justify)$/.test(align)) {
     return [["text-align", align]];
   }
-  return isAligned && element.localName === "center" ? [["text-align", "center"]] : [];
+  return element.localName === "center" ? [["text-align", "center"]] : [];
 }
 
 /**
- * Whether a declaration changes anything: one that switches a format off has to be in that format.
+ * Whether a declaration changes anything: one that switches a format off needs that format around it.
  * @param {readonly [string, string]} declaration
  * @param {string} name that of the element
  * @param {Surroundings} around
@@ -350,7 +376,7 @@ function tells([property, value], name, { isBold, isSlanted }) {
 }
 
 /**
- * Where the children of an element are.
+ * Returns the context of the children of an element.
  * @param {Surroundings} around
  * @param {string | null} name
  * @param {boolean} isLink
@@ -364,24 +390,26 @@ function within(around, name, isLink, { weight, slope, whiteSpace }) {
     depth: around.depth + 1,
     isLinked: around.isLinked || isLink,
     isBold: around.isBold || isNamed(BOLD, BOLD_BLOCKS) || /^(?:bold|[6-9]00)/.test(weight),
-    isSlanted: around.isSlanted || isNamed(SLANTED, SLANTED_BLOCKS) || /^(?:italic|oblique)/.test(slope),
-    blanks: blanksWithin(around.blanks, name, whiteSpace),
+    isSlanted:
+      around.isSlanted || isNamed(SLANTED, SLANTED_BLOCKS) || /^(?:italic|oblique)/.test(slope),
+    whiteSpace: whiteSpaceWithin(around.whiteSpace, name, whiteSpace),
   };
 }
 
 /**
- * How blanks are shown in an element. Blocks in a `pre` come out of it, so there a style says it.
- * @param {Surroundings["blanks"]} blanks those around it
+ * Returns how whitespace is shown in an element. Blocks are moved out of a `pre`, so there the
+ * whitespace is rewritten.
+ * @param {Surroundings["whiteSpace"]} around
  * @param {string | null} name
- * @param {string} whiteSpace
- * @returns {Surroundings["blanks"]}
+ * @param {Style["whiteSpace"]} styled
+ * @returns {Surroundings["whiteSpace"]}
  */
-function blanksWithin(blanks, name, whiteSpace) {
+function whiteSpaceWithin(around, name, styled) {
   if (name === "pre") {
-    return "kept";
+    return "pre";
   }
-  if (blanks === "kept") {
-    return name !== null && CLEAN_BLOCKS.has(name) ? "pre" : "kept";
+  if (around === "pre") {
+    return name !== null && CLEAN_BLOCKS.has(name) ? "preserve" : "pre";
   }
-  return whiteSpace ? /** @type {Surroundings["blanks"]} */ (whiteSpace) : blanks;
+  return styled || around;
 }

@@ -1,18 +1,18 @@
 /**
- * The styles that `cleanPage` keeps: formats of text, alignment and the margins at the sides, each as
- * the engine reads it.
+ * Reads the styles that `cleanPage` keeps: formats of text, alignment and side margins, in the form
+ * that the engine reads.
  */
 import { isShownStyle } from "./shown.js";
 
 /**
- * What a style attribute says.
+ * The content of a style attribute.
  * @typedef {{
  *   declarations: readonly (readonly [string, string])[],
  *   dropped: readonly string[],
  *   isHidden: boolean,
  *   weight: string,
  *   slope: string,
- *   whiteSpace: string,
+ *   whiteSpace: "collapse" | "preserve" | "preserve-breaks" | "",
  * }} Style
  */
 
@@ -38,7 +38,7 @@ const UNITS = /** @type {Readonly<Record<string, number>>} */ ({
 });
 
 /**
- * A length in whole pixels; null where it depends on something else.
+ * Returns a length in whole pixels, or null if it depends on something else.
  * @param {string} value
  */
 function pixelsOf(value) {
@@ -49,7 +49,7 @@ function pixelsOf(value) {
 
 // Colours.
 
-/** Words for colours that depend on the element or on the reader's screen. */
+/** Keywords for colours that depend on the element or on the reader's screen. */
 const NO_COLOUR = new RegExp(
   "^(?:accent|active|app|background|button|canvas|caption|current|field|gra[iy]?text|highlight|" +
     "inactive|info|inherit|initial|link|mark|menu|revert|scrollbar|selected|threed|unset|visited|" +
@@ -61,7 +61,7 @@ const NO_COLOUR = new RegExp(
 let canvas = null;
 
 /**
- * A colour that isn't written in numbers, as the browser writes it for a canvas.
+ * Returns a named colour as a canvas reports it, or "" if it isn't one.
  * @param {string} value
  */
 function canvasColour(value) {
@@ -79,7 +79,7 @@ function canvasColour(value) {
 }
 
 /**
- * The parts of a colour in numbers, and how much of it covers what is below.
+ * Returns red, green, blue and opacity of a colour in numbers.
  * @param {string} value
  * @returns {number[] | null}
  */
@@ -93,7 +93,8 @@ function partsOf(value) {
 }
 
 /**
- * The red, green and blue of a colour over white; null where it shows nothing or depends on the page.
+ * Returns red, green and blue of a colour over white, or null if it is transparent or depends on the
+ * page.
  * @param {string} value as the browser writes it
  * @returns {number[] | null}
  */
@@ -113,7 +114,7 @@ function printColour(value) {
 }
 
 /**
- * The colour of a font element as six digits; empty where it is none.
+ * Returns the colour of a `font` as six digits, or "".
  * @param {string} value
  */
 export function fontColour(value) {
@@ -121,7 +122,7 @@ export function fontColour(value) {
   return parts ? `#${parts.map((part) => part.toString(16).padStart(2, "0")).join("")}` : "";
 }
 
-// Other values: each function gives what is kept, or nothing.
+// Other values: each function returns the value that is kept, or "".
 
 /** @param {string} value */
 function fontFamily(value) {
@@ -130,7 +131,9 @@ function fontFamily(value) {
   if (!isPlain || /^(?:inherit|initial|revert(?:-layer)?|unset)$/.test(value)) {
     return "";
   }
-  return names.map((name) => (/^-?[\p{L}_][\p{L}\p{N}_-]*$/u.test(name) ? name : `'${name}'`)).join(", ");
+  const quote = (/** @type {string} */ name) =>
+    /^-?[\p{L}_][\p{L}\p{N}_-]*$/u.test(name) ? name : `'${name}'`;
+  return names.map(quote).join(", ");
 }
 
 /** @param {string} value */
@@ -139,7 +142,7 @@ function fontSize(value) {
   if (pixels !== null) {
     return pixels >= 6 && pixels <= 200 ? `${pixels}px` : "";
   }
-  return /^(?:xx-small|x-small|small|medium|large|x-large|xx-large|xxx-large)$/.test(value) ? value : "";
+  return /^(?:x{0,2}-?small|medium|x{0,3}-?large)$/.test(value) ? value : "";
 }
 
 /** @param {string} value */
@@ -160,8 +163,8 @@ const oneOf = (words) => (/** @type {string} */ value) => (words.test(value) ? v
 const SIDE_MARGINS = /^margin-(?:left|right)$/;
 
 /**
- * The properties that are kept, by the name that the browser gives: the name that is printed, and the
- * value.
+ * The properties that are kept: the name that the browser reports, the name that is printed, and the
+ * function for the value.
  * @type {readonly (readonly [string, string, (value: string) => string])[]}
  */
 const KEPT = [
@@ -196,15 +199,15 @@ function declarationsOf(style) {
   });
 }
 
-/** Properties that show nothing different where they are left out, or that a longer name says. */
+/** Properties that aren't reported as dropped: they are resolved, or have another name. */
 const QUIET = /^(?:text-decoration(?:-line)?|white-space(?:-collapse)?|text-wrap(?:-mode)?|display)$/;
 
 /** @type {CSSStyleDeclaration | null} */
 let probe = null;
 
 /**
- * Reads a style attribute by the browser's own parser. The style of an element is taken for that, since
- * a page's policy may refuse style attributes.
+ * Parses a style attribute through the style of an element: a page's policy may forbid the attribute
+ * itself.
  * @param {string} text
  * @returns {Style}
  */
@@ -224,21 +227,22 @@ function read(text) {
 }
 
 /**
- * How a style has blanks shown: one of `normal`, `pre` and `pre-line`, or nothing.
+ * Returns how a style has whitespace shown, as a value of `white-space-collapse`, or "".
  * @param {CSSStyleDeclaration} style
+ * @returns {Style["whiteSpace"]}
  */
 function whiteSpaceOf(style) {
   const value = style.whiteSpace || style.getPropertyValue("white-space-collapse");
   if (/^(?:pre|pre-wrap|break-spaces|preserve|preserve nowrap)$/.test(value)) {
-    return "pre";
+    return "preserve";
   }
   if (/^(?:pre-line|preserve-breaks)$/.test(value)) {
-    return "pre-line";
+    return "preserve-breaks";
   }
-  return /^(?:normal|nowrap|collapse|initial)$/.test(value) ? "normal" : "";
+  return /^(?:normal|nowrap|collapse|initial)$/.test(value) ? "collapse" : "";
 }
 
-/** Reads styles, and each text once. */
+/** Reads style attributes, and each text once. */
 export class StyleReader {
   /** @type {Map<string, Style>} */
   #known = new Map();
@@ -259,9 +263,9 @@ export class StyleReader {
 }
 
 /**
- * The value of a style attribute, for an element of a name.
+ * Returns the value of a style attribute.
  * @param {readonly (readonly [string, string])[]} declarations
- * @param {boolean} isBlock whether it holds lines: margins at the sides are kept there
+ * @param {boolean} isBlock whether the element is a block: only blocks keep side margins
  */
 export function printStyle(declarations, isBlock) {
   return declarations

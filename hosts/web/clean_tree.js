@@ -9,14 +9,14 @@
  *   attributes: [string, string][],
  *   children: CleanNode[],
  *   holdsBlock: boolean,
- * }} CleanElement `holdsBlock` is of use until inline elements are inside of blocks
+ * }} CleanElement `holdsBlock` is right until the tree is arranged
  */
 /** @typedef {string | CleanElement} CleanNode */
 
 /** @param {string} text */
 export const namesOf = (text) => /** @type {ReadonlySet<string>} */ (new Set(text.split(" ")));
 
-/** The elements that hold lines or parts of tables: all others of a clean page are inline. */
+/** The blocks of a clean page, with the parts of tables. */
 export const CLEAN_BLOCKS = namesOf(
   "p div h1 h2 h3 h4 h5 h6 pre blockquote ul ol li dl dt dd address hr table caption colgroup col " +
     "thead tbody tfoot tr td th",
@@ -66,22 +66,25 @@ export function makeElement(name, children, attributes = []) {
   return { name, attributes, children, holdsBlock };
 }
 
-/** @param {string} text */
-export const isBlank = (text) => /^[\t\n\f\r ]*$/.test(text);
+/**
+ * Whether a text is whitespace that collapses: U+00A0 isn't.
+ * @param {string} text
+ */
+export const isWhitespace = (text) => /^[\t\n\f\r ]*$/.test(text);
 
 /**
- * Whether a node shows something in a line: characters, or what is in place of some.
+ * Whether a node has characters, images or line breaks.
  * @param {CleanNode} node
  * @returns {boolean}
  */
 export function hasContent(node) {
   return isElement(node)
     ? node.name === "br" || node.name === "img" || node.children.some(hasContent)
-    : !isBlank(node);
+    : !isWhitespace(node);
 }
 
 /**
- * Series of neighbours that a function gives the same for, with that.
+ * Groups neighbours for which a function returns the same key.
  * @template T
  * @param {readonly CleanNode[]} nodes
  * @param {(node: CleanNode) => T} keyOf
@@ -101,7 +104,7 @@ export function seriesOf(nodes, keyOf) {
   return series;
 }
 
-// Printing.
+// Markup.
 
 /** @type {Readonly<Record<string, string>>} */
 const REFERENCES = { "&": "&amp;", "\u00a0": "&nbsp;", "<": "&lt;", ">": "&gt;", '"': "&quot;" };
@@ -135,7 +138,7 @@ function printInto(nodes, parts) {
 }
 
 /**
- * The markup of a tree.
+ * Returns the markup of a tree.
  * @param {readonly CleanNode[]} nodes
  */
 export function print(nodes) {

@@ -1,13 +1,13 @@
-/** The lists of Word, which writes items as paragraphs with styles of its own. */
+/** Makes lists of Word's paragraphs: Word writes items as paragraphs with styles of its own. */
 
-/** The mark before an item where Word doesn't say which part of the text that is. */
-const MARK = /^[\s\u00a0]*([·o§•▪–-]|\(?[0-9a-z]{1,4}[.)])[\s\u00a0]+/i;
+/** The marker at the start of an item, if no element says which part of the text that is. */
+const MARKER = /^[\s\u00a0]*([·o§•▪–-]|\(?[0-9a-z]{1,4}[.)])[\s\u00a0]+/i;
 
 /** @param {Element} element */
 const styleTextOf = (element) => element.getAttribute("style") ?? "";
 
 /**
- * The level of an item, from 1 to 9; 0 for what is none.
+ * Returns the level of an item, from 1 to 9, or 0 if the element isn't one.
  * @param {Element} element
  */
 function levelOf(element) {
@@ -16,20 +16,20 @@ function levelOf(element) {
 }
 
 /**
- * Takes the mark of an item out of it, and gives it.
+ * Removes the marker of an item, and returns it.
  * @param {Element} item
  */
-function takeMark(item) {
+function takeMarker(item) {
   const parts = [...item.querySelectorAll("span")].filter((span) =>
     /mso-list:\s*ignore/i.test(styleTextOf(span)),
   );
   if (parts.length > 0) {
-    const mark = parts.map((part) => part.textContent).join("");
+    const marker = parts.map((part) => part.textContent).join("");
     parts.forEach((part) => part.remove());
-    return mark;
+    return marker;
   }
   const document = item.ownerDocument;
-  const [found, mark = ""] = MARK.exec(item.textContent ?? "") ?? [""];
+  const [found, marker = ""] = MARKER.exec(item.textContent ?? "") ?? [""];
   const walker = document.createTreeWalker(item, NodeFilter.SHOW_TEXT);
   for (let left = found.length; left > 0 && walker.nextNode(); ) {
     const text = /** @type {Text} */ (walker.currentNode);
@@ -37,16 +37,16 @@ function takeMark(item) {
     text.deleteData(0, count);
     left -= count;
   }
-  return mark;
+  return marker;
 }
 
 /**
- * The list that an item with a mark begins: its name, with the kind of its numbers and the first one.
- * @param {string} mark
+ * Returns the list that an item with a marker begins: its name, type and first number.
+ * @param {string} marker
  * @returns {{ name: "ul" | "ol", type?: string, start?: string }}
  */
-function listOf(mark) {
-  const [, number] = /^[\s\u00a0]*\(?(\d{1,5}|[a-z]{1,4})[.)]/i.exec(mark) ?? [];
+function listOf(marker) {
+  const [, number] = /^[\s\u00a0]*\(?(\d{1,5}|[a-z]{1,4})[.)]/i.exec(marker) ?? [];
   if (number === undefined) {
     return { name: "ul" };
   }
@@ -72,16 +72,19 @@ function makeList(document, { name, type, start }) {
   return list;
 }
 
-/** The lists that the items so far made, one within another, and the last item of the outermost. */
+/** Puts items into lists, one after another. */
 class Lists {
-  /** @type {Element[]} */
+  /**
+   * The lists around the last item, from the outermost.
+   * @type {Element[]}
+   */
   #open = [];
 
   /**
-   * Whether an item goes on after the last one: nothing but blanks and comments is between them.
+   * Whether an item continues the last list: only whitespace and comments are between them.
    * @param {Element} item
    */
-  #goesOn(item) {
+  #continues(item) {
     const isBetween = (/** @type {Node} */ node) =>
       node.nodeType === 8 || (node.nodeType === 3 && /^\s*$/.test(node.nodeValue ?? ""));
     let before = item.previousSibling;
@@ -96,9 +99,9 @@ class Lists {
    * @param {number} level
    */
   add(item, level) {
-    const kind = listOf(takeMark(item));
+    const kind = listOf(takeMarker(item));
     const document = item.ownerDocument;
-    if (!this.#goesOn(item)) {
+    if (!this.#continues(item)) {
       this.#open = [];
     }
     this.#open.length = Math.min(this.#open.length, level);
@@ -133,12 +136,12 @@ class Lists {
 }
 
 /**
- * Makes lists of the paragraphs that Word means as items. Headings with numbers stay headings.
+ * Makes lists of the paragraphs that are items. Numbered headings stay headings.
  * @param {Document} document
  */
 export function makeWordLists(document) {
   const lists = new Lists();
-  for (const item of document.querySelectorAll('p[style*="mso-list" i], div[style*="mso-list" i]')) {
+  for (const item of document.querySelectorAll(':is(p, div)[style*="mso-list" i]')) {
     const level = levelOf(item);
     if (level > 0) {
       lists.add(item, level);

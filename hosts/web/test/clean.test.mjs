@@ -1,15 +1,15 @@
-/** What `cleanPage` makes of HTML from elsewhere, rule by rule. */
+/** Tests `cleanPage`, rule by rule. */
 import assert from "node:assert/strict";
 import { readFile } from "node:fs/promises";
-import { describe, it } from "node:test";
+import { describe } from "node:test";
 import { isShownElement } from "../shown.js";
 import { CLEAN_BLOCKS, CLEAN_INLINES } from "../clean_tree.js";
-import { BROWSERS } from "./browsers.mjs";
+import { BROWSERS, it } from "./browsers.mjs";
 import { CleaningPage } from "./clean_page.mjs";
 
 const LINK = "https://example.org/a?b=1&amp;c=2";
 
-/** For each rule: pages, each with what it becomes, and with options. */
+/** For each rule: pages, each with its expected result, and with options. */
 const RULES = {
   "ordinary HTML is read as browsers read it": [
     ["<!doctype html><html><head><title>t</title></head><body><p>a</body></html>", "<p>a</p>"],
@@ -24,6 +24,7 @@ const RULES = {
     ["<b>a<i>b</b>c</i>", "<p><b>a<i>b</i></b><i>c</i></p>"],
     ["x\u0000y\r\nz&#13;w", "<p>xy z w</p>"],
     ["\ud800a\udc00😀", "<p>\ufffda\ufffd😀</p>"],
+    ["a\ud800\ue000\udc00\ufffd", "<p>a\ufffd\ue000\ufffd\ufffd</p>"],
     ["\ufeffa", "<p>a</p>"],
     ["", ""],
     [" \n ", ""],
@@ -50,7 +51,7 @@ const RULES = {
     ["<h1 style='mso-list:l0 level1 lfo1'>1. a</h1>", "<h1>1. a</h1>"],
     ["<p style='mso-list:none'>a</p>", "<p>a</p>"],
   ],
-  "what acts, or isn't text, goes with all that is in it": [
+  "elements that act, or hold no text, are removed with their content": [
     ["a<script>b</script><style>c</style><noscript>d</noscript><template>e</template>", "<p>a</p>"],
     [
       "a<iframe>b</iframe><object>c</object><embed><svg><text>d</text></svg><math><mi>e</mi></math>",
@@ -167,7 +168,7 @@ const RULES = {
       '<p style="font-family: Arial; font-size: 12px; font-weight: bold; font-style: italic;">a</p>',
     ],
     [
-      "<span style='text-decoration: line-through underline red'>a</span>",
+      "<span style='text-decoration: line-through underline'>a</span>",
       '<p><span style="text-decoration: underline line-through;">a</span></p>',
     ],
     [
@@ -189,15 +190,17 @@ const RULES = {
     ],
     ["<span style=''>a</span><font>b</font>", "<p>ab</p>"],
   ],
-  "deep elements go, and their text stays": [
+  "deep elements are unwrapped": [
     ["<i>a<u>b<s>c</s></u></i>", "<p><i>a<u>bc</u></i></p>", { maxDepth: 3 }],
+    ["<i><span><font><div>a<b>b<br></b></div></font></span></i>", "<p><i>ab<br></i></p>", { maxDepth: 2 }],
+    ["<b>a<pre>b\n  c</pre></b>", "<p>a b<br>&nbsp; c<br></p>", { maxDepth: 1 }],
     [
       "<blockquote><div title=a><p>b</p><p>c</p></div></blockquote>",
-      '<blockquote><p title="a">b c</p></blockquote>',
+      '<blockquote><p title="a">b<br>c<br></p></blockquote>',
       { maxDepth: 2 },
     ],
   ],
-  "elements are where they may be": [
+  "elements hold what they may hold": [
     [
       "<a href=https://x/>a<table><tr><td><a href=https://y/>b</a></table></a>",
       '<p><a href="https://x/">a</a></p><table><tbody><tr><td><a href="https://x/">b</a></td></tr></tbody></table>',
@@ -227,7 +230,7 @@ const RULES = {
       '<table><caption>a</caption><colgroup><col span="2"></colgroup><thead><tr><th>b</th></tr></thead><tfoot><tr><td>c</td></tr></tfoot></table>',
     ],
   ],
-  "lines are in paragraphs": [
+  "inline nodes next to blocks are in paragraphs": [
     ["a", "<p>a</p>"],
     ["a<hr>b<b>c</b>", "<p>a</p><hr><p>b<b>c</b></p>"],
     ["<div>a</div><div><div>b</div></div>", "<p>a</p><p>b</p>"],
@@ -248,7 +251,7 @@ const RULES = {
     [" a <b>b</b>  ", " a <b>b</b> ", { inline: true }],
     ["<p>a</p>b", "<p>a</p><p>b</p>", { inline: true }],
   ],
-  "blanks are those that browsers show": [
+  "whitespace is what browsers show": [
     ["<p>\n a  <b> b </b> <br> c&nbsp; </p>\n<p>d</p>", "<p>a <b>b</b><br>c&nbsp;</p><p>d</p>"],
     ["<p></p><p> <b> </b></p><p>&nbsp;</p><p><o:p>&nbsp;</o:p></p>", "<p><br></p>".repeat(4)],
     ["<pre>\n\n a\n  b </pre>", "<pre><br> a\n  b </pre>"],

@@ -15,7 +15,15 @@ const MARKUP = `<!doctype html>
   import { CLEAN_BLOCKS, CLEAN_INLINES } from "/clean_tree.js";
   import { isShownStyle, shownAttribute } from "/shown.js";
 
-  const parse = (html) => new DOMParser().parseFromString("<body>" + html, "text/html");
+  /** Names go: they would hide properties of documents and forms. */
+  function parse(html) {
+    const document = new DOMParser().parseFromString("<body>" + html, "text/html");
+    for (const element of Document.prototype.querySelectorAll.call(document, "[id], [name]")) {
+      Element.prototype.removeAttribute.call(element, "id");
+      Element.prototype.removeAttribute.call(element, "name");
+    }
+    return document;
+  }
 
   /** What of an element the tables don't have. */
   function strangeOf(element, options) {
@@ -61,7 +69,7 @@ const MARKUP = `<!doctype html>
     };
     const cleaned = cleanPage(html, { ...options, parse: counting });
     const again = cleanPage(cleaned, options);
-    const document = parse(cleaned);
+    const document = new DOMParser().parseFromString("<body>" + cleaned, "text/html");
     const elements = [...document.head.children, ...document.body.querySelectorAll("*")];
     const strange = elements.flatMap((element) => strangeOf(element, options));
     const isWhole = charactersOf(html) === charactersOf(cleaned);

@@ -1,8 +1,8 @@
 /** What `cleanPage` makes of whole mails and of hostile pages, its options, and its limits. */
 import assert from "node:assert/strict";
 import { readFile, readdir } from "node:fs/promises";
-import { describe, it } from "node:test";
-import { BROWSERS } from "./browsers.mjs";
+import { describe } from "node:test";
+import { BROWSERS, it } from "./browsers.mjs";
 import { CleaningPage, read } from "./clean_page.mjs";
 import { serve } from "./server.mjs";
 
@@ -45,6 +45,19 @@ const HOSTILE = [
   "<ruby>a<rp>(<rt>b<rp>)</ruby><table><tr><td><table><td>c",
 ];
 
+/** Pages with names that hide properties of the document or of a form, and what they become. */
+const NAMED = [
+  ["<img name=body src=https://x/i>a", '<p><img src="https://x/i">a</p>'],
+  ["<form name=body>a</form>b", "<p>a</p><p>b</p>"],
+  ["<object name=documentElement></object><embed name=querySelector>a", "<p>a</p>"],
+  ["<img name=createElement><img name=querySelectorAll><p style='mso-list:l0 level1 lfo1'>a", "<ul><li>a</li></ul>"],
+  ["<form>a<input name=firstChild><input name=nodeType>b</form>c", "<p>ab</p><p>c</p>"],
+  ["<form>a<input id=nextSibling><button name=localName>b</button></form>c", "<p>ab</p><p>c</p>"],
+  ["<form dir=rtl>a<img name=getAttribute><img name=getAttributeNames></form>", '<p dir="rtl">a</p>'],
+  ["<form>a<fieldset name=attributes>b<input name=namespaceURI></fieldset></form>", "<p>a</p><p>b</p>"],
+  ["<form name=removeAttribute>a<input name=removeAttribute></form>", "<p>a</p>"],
+];
+
 for (const { Browser, name, skip } of BROWSERS) {
   describe(`cleaning whole pages in ${name}`, { skip }, () => {
     const page = new CleaningPage(Browser);
@@ -66,6 +79,12 @@ for (const { Browser, name, skip } of BROWSERS) {
           const tags = cleaned.replace(/"[^"]*"/g, "").match(/<[^>]*>/g) ?? [];
           assert.doesNotMatch(tags.join(""), /\bon|svg|iframe|script|style>|form/, html);
         }
+      }
+    });
+
+    it("reads forms and documents in which names hide properties", async () => {
+      for (const [html, expected] of NAMED) {
+        assert.equal(await page.clean(html), expected, html);
       }
     });
 

@@ -1,7 +1,7 @@
 /** Random hostile pages: what `cleanPage` gives is read by the engine, stays, and has all the text. */
 import assert from "node:assert/strict";
-import { describe, it } from "node:test";
-import { BROWSERS, IS_WHOLE } from "./browsers.mjs";
+import { describe } from "node:test";
+import { BROWSERS, IS_WHOLE, it } from "./browsers.mjs";
 import { hostilePage } from "./clean_hostile.mjs";
 import { CleaningPage, read } from "./clean_page.mjs";
 import { numbers } from "./region_page.mjs";
