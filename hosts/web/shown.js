@@ -205,10 +205,12 @@ const OF_NAMES = {
  */
 function wordsOf(value, classes = []) {
   const each = value.split(/[\t\n\f\r ]+/).filter(Boolean);
-  const isWhole = (/** @type {string} */ word) =>
-    classes instanceof RegExp && word.match(classes)?.[0] === word;
-  const list = classes instanceof RegExp ? null : new Set(classes);
-  return each.filter((word) => (list ? list.has(word) : isWhole(word))).join(" ") || null;
+  // An expression of another window is none of this one's class.
+  const isWhole =
+    "exec" in classes
+      ? (/** @type {string} */ word) => word.match(classes)?.[0] === word
+      : (/** @type {string} */ word) => [...classes].includes(word);
+  return each.filter(isWhole).join(" ") || null;
 }
 
 /**

@@ -398,7 +398,12 @@ for (const { Browser, name, skip } of BROWSERS) {
 
       it("leave their fields to the browser", async () => {
         const field = '<input type="text">';
-        await region.open(`<p>ac<span contenteditable="false">${field}</span></p>`);
+        const page = `<p>ac<span contenteditable="false">${field}</span></p>`;
+        await region.page.evaluate((html) => {
+          const element = (name) => name === "input" || undefined;
+          const attribute = (name, each) => (name === "input" && each === "type") || undefined;
+          window.start(html, { view: { element, attribute } });
+        }, page);
         await region.click([0, 0], 1);
         await region.type("b");
         await region.page.click("#host input");

@@ -19,9 +19,10 @@ export class RegionPage {
 
   #page;
 
-  constructor(Browser) {
+  /** The page may be another one, as its markup, that has what region.html has. */
+  constructor(Browser, markup = undefined) {
     before(async () => {
-      this.#server = await serve("region.html");
+      this.#server = await serve("region.html", markup);
       this.#browser = await Browser.launch();
       this.#page = await this.#browser.open(this.#server.address);
       await this.#page.allowClipboard();
@@ -51,7 +52,8 @@ export class RegionPage {
       const isPlain = !region.element.querySelector(":is(br, hr, img) *");
       return {
         difference: region.check(),
-        shown: isPlain ? region.element.innerHTML : null,
+        // What links and images get beside their own attributes.
+        shown: isPlain ? region.element.innerHTML.replace(/ (?:rel|referrerpolicy)="[^"]*"/g, "") : null,
         html: region.html(),
       };
     });
