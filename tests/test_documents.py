@@ -147,6 +147,10 @@ class Documents(SmallRepository):
         self.documents.BUDGETS = {"docs/A.md": 2}
         self.assertEqual(["docs/A.md: 3 words, and may have 2", "docs/B.md has no budget"], list(self.documents.faults_of_words([page, other], False)))
 
+    def test_finds_long_decisions(self):
+        page = self.write("docs/DECISIONS.md", f"# Decisions\n\n### Short\n\nYes.\n\n### Long\n\n{'word ' * 81}\n")
+        self.assertEqual(['the decision "Long" has 81 words, and may have 80'], list(self.documents.faults_of_decisions(page)))
+
     def test_compares_a_crate_with_its_readme(self):
         page = self.write("crates/low/README.md", "# low\n\nCounts.\n\nDefinitions, in reading order: `Counted`.\n")
         self.assertEqual(["no definitions Counting", "there is no Counted"], list(self.documents.faults_of_crate(page)))
