@@ -1,10 +1,10 @@
 -- The ancestors of a node, from one of them on.
 use Rattle.std.proofs.Common.{◌≡◌, ℕ, ◌<◌, Bool, ◌||◌, Option, Some, None, refl, ap}
 use Rattle.std.specs.List.{list_any}
-use Rattle.dom_model.specs.declared.Content.{Content}
-use Rattle.dom_model.specs.Forest.{Forest, count_of, parent_of, IsDistinct}
-use Rattle.dom_model.proofs.Parts.{at_label}
-use Rattle.node_styles.proofs.Lineages.{lineage-child, lineage-root}
+use Rattle.edit_model.specs.DomModel.declared.Content.{Content}
+use Rattle.edit_model.specs.DomModel.Forest.{Forest, count_of, parent_of, IsDistinct}
+use Rattle.edit_model.proofs.DomModel.Parts.{at_label}
+use Rattle.inline_value.proofs.NodeStyles.Lineages.{lineage-child, lineage-root}
 use Rattle.block_commands.specs.FormatBlock.{lineage_at}
 
 abbrev pub any_from : (ℕ → Bool) → Forest Content → Option ℕ → Bool

@@ -1,7 +1,7 @@
 -- A list of which some first members are done with.
 use Rattle.std.proofs.Common.{◌≡◌, ℕ, ◌+◌, ◌<◌, ◌≤◌, true, false, List, length, drop, sym, ap, subst, Result, Ok, Err}
 use Rattle.std.proofs.lemmas.List.{drop-drop}
-use Rattle.node_arena.specs.declared.NodeRef.{NodeRef}
+use Rattle.edit_model.specs.NodeArena.declared.NodeRef.{NodeRef}
 use Rattle.edit_model.specs.Gives.{labels_of}
 use Rattle.edit_model.proofs.Steps.{labels_of_drop, labels_of_end}
 use Rattle.edit_model.specs.Gives.{Fails, GivesAs}

@@ -2,21 +2,21 @@
 use Rattle.std.proofs.Common.{◌≡◌, ℕ, ◌<◌, Bool, true, false, cond, List, codes, bytes_eq, Option, Some, None, IfSome, refl, sym, ap, subst, ◌∙◌}
 use Rattle.std.proofs.lemmas.Slice.Eq.{bytes_eq-Decides}
 use Rattle.std.specs.Option.{option_map, option_map_or, option_and_then, unwrap_or, is_some}
-use Rattle.dom_model.specs.declared.Content.{Content}
-use Rattle.dom_model.specs.Contents.{name_in}
-use Rattle.dom_model.specs.Forest.{Forest, IsDistinct, count_of, parent_of, content_of}
-use Rattle.dom_model.proofs.Links.{parent_count}
-use Rattle.css_value.specs.declared.values.TextAlign.{TextAlign}
-use Rattle.css_value.specs.declared.values.TextAlign.TheVariants as text_align_values
-use Rattle.css_value.specs.Values.{text_align_keyword}
-use Rattle.style_table.specs.declared.Property.TheVariants as property
-use Rattle.style_table.specs.DefaultStyles.{default_of, default_text_align, text_align_rows, value_of}
-use Rattle.node_arena.specs.declared.NodeRef.{NodeRef}
-use Rattle.node_styles.specs.Lineage.{Ancestor}
-use Rattle.node_styles.specs.OwnStyles.{attribute, is_named, declared, defaulted, align_hint, own_text_align}
-use Rattle.node_styles.specs.Resolved.{text_align}
-use Rattle.node_styles.proofs.Lineages.{nearest-here, nearest-parent}
-use Rattle.command_value.specs.Alignment.{has_own_box, alignment, alignment_value}
+use Rattle.edit_model.specs.DomModel.declared.Content.{Content}
+use Rattle.edit_model.specs.DomModel.Contents.{name_in}
+use Rattle.edit_model.specs.DomModel.Forest.{Forest, IsDistinct, count_of, parent_of, content_of}
+use Rattle.edit_model.proofs.DomModel.Links.{parent_count}
+use Rattle.inline_value.specs.CssValue.declared.values.TextAlign.{TextAlign}
+use Rattle.inline_value.specs.CssValue.declared.values.TextAlign.TheVariants as text_align_values
+use Rattle.inline_value.specs.CssValue.Values.{text_align_keyword}
+use Rattle.inline_value.specs.StyleTable.declared.Property.TheVariants as property
+use Rattle.inline_value.specs.StyleTable.DefaultStyles.{default_of, default_text_align, text_align_rows, value_of}
+use Rattle.edit_model.specs.NodeArena.declared.NodeRef.{NodeRef}
+use Rattle.inline_value.specs.NodeStyles.Lineage.{Ancestor}
+use Rattle.inline_value.specs.NodeStyles.OwnStyles.{attribute, is_named, declared, defaulted, align_hint, own_text_align}
+use Rattle.inline_value.specs.NodeStyles.Resolved.{text_align}
+use Rattle.inline_value.proofs.NodeStyles.Lineages.{nearest-here, nearest-parent}
+use Rattle.inline_value.specs.CommandValue.Alignment.{has_own_box, alignment, alignment_value}
 use Rattle.edit_model.specs.Gives.{label_of}
 use Rattle.block_commands.specs.Handed.{AlignsBelow, TakesKnown}
 

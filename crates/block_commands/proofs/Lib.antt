@@ -4,3 +4,4 @@ mod Looping
 mod ValueNames
 mod Matching
 mod Handing
+pub mod Below

@@ -1,12 +1,12 @@
 -- A loop whose turns each are done with some first members of a list.
 use Rattle.std.proofs.Common.{◌≡◌, ℕ, ◌+◌, ◌-◌, ◌<◌, ◌≤◌, List, length, drop, sym, ap, subst, ◌∙◌}
-use Rattle.node_arena.specs.declared.NodeRef.{NodeRef}
+use Rattle.edit_model.specs.NodeArena.declared.NodeRef.{NodeRef}
 use Rattle.edit_model.specs.Gives.{labels_of, Fails}
 use Rattle.edit_model.specs.Run.{Run, ◌>>=◌, ◌>>◌, final, value, done, look, while_at_most}
 use Rattle.edit_model.specs.State.{State}
 use Rattle.edit_model.specs.declared.settings.EditFault.{EditFault}
 use Rattle.edit_model.proofs.Steps.{final-bind, final-look, final-answer, fails-bind, final_while_turn, final_while_stop}
-use Rattle.wrap_split.specs.Walks.{turn_bound}
+use Rattle.inline_value.specs.WrapSplit.Walks.{turn_bound}
 use Rattle.block_commands.specs.Series.{has_members}
 use Rattle.block_commands.proofs.Counting.{members_on, members_off, drop_more}
 

@@ -6,10 +6,10 @@ use Rattle.std.proofs.lemmas.List.{drop_all}
 use Rattle.std.specs.Option.{option_map_or}
 use Rattle.std.proofs.lemmas.Bool.{cases_Bool}
 use Rattle.std.proofs.lemmas.Slice.Eq.{bytes_eq-Decides}
-use Rattle.css_value.specs.StyleText.{Declaration}
-use Rattle.css_value.specs.DeclarationList.{value_of, names_of}
-use Rattle.css_value.specs.OnlyGroup.{is_only}
-use Rattle.wrap_split.specs.Target.{is_text_align}
+use Rattle.inline_value.specs.CssValue.StyleText.{Declaration}
+use Rattle.inline_value.specs.CssValue.DeclarationList.{value_of, names_of}
+use Rattle.inline_value.specs.CssValue.OnlyGroup.{is_only}
+use Rattle.inline_value.specs.WrapSplit.Target.{is_text_align}
 
 pub bytes_swap : (a b : List ℕ) → bytes_eq a b ≡ bytes_eq b a
 bytes_swap a b = elim (cases_Bool (bytes_eq a b)) [

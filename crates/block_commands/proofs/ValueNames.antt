@@ -7,7 +7,7 @@ use Rattle.std.proofs.lemmas.Bool.{cases_Bool}
 use Rattle.std.proofs.lemmas.Bool.Decides.{nat_tests}
 use Rattle.std.proofs.lemmas.Slice.Eq.{bytes_eq-Decides}
 use Rattle.std.proofs.lemmas.Str.Ascii.{lowercase_is}
-use Rattle.html_names.specs.ElementNames.{is_one_of, is_formattable_block, formattable_block_names}
+use Rattle.edit_model.specs.HtmlNames.ElementNames.{is_one_of, is_formattable_block, formattable_block_names}
 
 abbrev low : List ℕ → Bool
 low text = list_all (λ c. nat_lt c 128) text

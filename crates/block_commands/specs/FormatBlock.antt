@@ -3,28 +3,28 @@
 use Rattle.std.specs.Prelude.{ℕ, ◌==◌, ◌-◌, nat_le, Bool, true, false, ◌&&◌, ◌||◌, not, List, [], map, length, take, drop, slice_index, Option, Some, None, bytes_eq, codes, if◌then◌else◌}
 use Rattle.std.specs.Char.{to_ascii_lowercase}
 use Rattle.std.specs.List.{list_any}
-use Rattle.dom_model.specs.declared.Content.{Content}
-use Rattle.dom_model.specs.Contents.{has_name, is_break}
-use Rattle.dom_model.specs.Forest.{Forest, parent_of, children_of, first_in}
-use Rattle.html_names.specs.ElementNames as names
-use Rattle.node_styles.specs.Allowed.{allowed_in_name}
-use Rattle.node_styles.specs.Lineage.{Ancestor, lineage}
-use Rattle.node_styles.specs.NameClasses.{is_formattable_block, is_non_list_single_line, is_single_line}
+use Rattle.edit_model.specs.DomModel.declared.Content.{Content}
+use Rattle.edit_model.specs.DomModel.Contents.{has_name, is_break}
+use Rattle.edit_model.specs.DomModel.Forest.{Forest, parent_of, children_of, first_in}
+use Rattle.edit_model.specs.HtmlNames.ElementNames as names
+use Rattle.inline_value.specs.NodeStyles.Allowed.{allowed_in_name}
+use Rattle.inline_value.specs.NodeStyles.Lineage.{Ancestor, lineage}
+use Rattle.inline_value.specs.NodeStyles.NameClasses.{is_formattable_block, is_non_list_single_line, is_single_line}
 use Rattle.edit_model.specs.State.{State}
 use Rattle.edit_model.specs.Confined.{is_editable_for}
 use Rattle.edit_model.specs.Run.{Run, ◌>>=◌, ◌>>◌, answer, done, look, given, for_each, while_at_most}
-use Rattle.block_extend.specs.Prohibited.{is_above_prohibited}
-use Rattle.block_extend.specs.Series.{is_next}
-use Rattle.wrap_split.specs.declared.rule.Criterion.{Criterion}
-use Rattle.wrap_split.specs.declared.rule.Criterion.TheVariants.{Never, Named}
-use Rattle.wrap_split.specs.declared.rule.Recipe.TheVariants.{Make}
-use Rattle.wrap_split.specs.Split.{split_around, remove_keeping_children}
-use Rattle.wrap_split.specs.Walks.{turn_bound}
-use Rattle.wrap_split.specs.Wrap.{wrap}
+use Rattle.inline_value.specs.BlockExtend.Prohibited.{is_above_prohibited}
+use Rattle.inline_value.specs.BlockExtend.Series.{is_next}
+use Rattle.inline_value.specs.WrapSplit.declared.rule.Criterion.{Criterion}
+use Rattle.inline_value.specs.WrapSplit.declared.rule.Criterion.TheVariants.{Never, Named}
+use Rattle.inline_value.specs.WrapSplit.declared.rule.Recipe.TheVariants.{Make}
+use Rattle.inline_value.specs.WrapSplit.Split.{split_around, remove_keeping_children}
+use Rattle.inline_value.specs.WrapSplit.Walks.{turn_bound}
+use Rattle.inline_value.specs.WrapSplit.Wrap.{wrap}
 use Rattle.inline_value.specs.Ancestors.{fix_ancestors}
 use Rattle.inline_value.specs.Recording.{record_values, restore_values}
 use Rattle.inline_value.specs.Wrappers.{bare}
-use Rattle.edit_query.specs.Gathered.{outermost}
+use Rattle.inline_value.specs.EditQuery.Gathered.{outermost}
 use Rattle.block_commands.specs.Series.{take_series, in_turns}
 
 -- ---- step 1: the name that the value gives

@@ -1,13 +1,13 @@
 -- The nodes of the block-extended active range that a block command goes over.
 use Rattle.std.specs.Prelude.{ℕ, Bool, List, [], Option, Some, None}
 use Rattle.std.specs.List.{filter}
-use Rattle.dom_model.specs.declared.Content.{Content}
-use Rattle.dom_model.specs.Forest.{Forest}
-use Rattle.live_range.specs.declared.places.Pair.{Pair}
-use Rattle.live_range.specs.declared.places.Point.{Point}
-use Rattle.node_tests.specs.Ranges.{contained_nodes}
+use Rattle.edit_model.specs.DomModel.declared.Content.{Content}
+use Rattle.edit_model.specs.DomModel.Forest.{Forest}
+use Rattle.edit_model.specs.LiveRange.declared.places.Pair.{Pair}
+use Rattle.edit_model.specs.LiveRange.declared.places.Point.{Point}
+use Rattle.inline_value.specs.NodeTests.Ranges.{contained_nodes}
 use Rattle.edit_model.specs.State.{State}
-use Rattle.edit_query.specs.Gathered.{extended}
+use Rattle.inline_value.specs.EditQuery.Gathered.{extended}
 
 abbrev pub contained_in : (ℕ → Bool) → Forest Content → Point × Point → List ℕ
 contained_in test f range = filter test (contained_nodes f range.0 range.1)

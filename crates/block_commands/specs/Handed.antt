@@ -1,12 +1,12 @@
 -- What a node hands on of its alignment. No public clause cites this module.
 use Rattle.std.specs.Prelude.{◌≡◌, ℕ, true, Option, Some, None, bytes_eq}
-use Rattle.dom_model.specs.declared.Content.{Content}
-use Rattle.dom_model.specs.Forest.{Forest, parent_of, content_of}
-use Rattle.css_value.specs.declared.values.TextAlign.{TextAlign}
-use Rattle.css_value.specs.Values.{text_align_keyword}
-use Rattle.node_styles.specs.OwnStyles.{own_text_align}
-use Rattle.node_styles.specs.Resolved.{text_align}
-use Rattle.edit_query.specs.Listed.{is_aligned}
+use Rattle.edit_model.specs.DomModel.declared.Content.{Content}
+use Rattle.edit_model.specs.DomModel.Forest.{Forest, parent_of, content_of}
+use Rattle.inline_value.specs.CssValue.declared.values.TextAlign.{TextAlign}
+use Rattle.inline_value.specs.CssValue.Values.{text_align_keyword}
+use Rattle.inline_value.specs.NodeStyles.OwnStyles.{own_text_align}
+use Rattle.inline_value.specs.NodeStyles.Resolved.{text_align}
+use Rattle.inline_value.specs.EditQuery.Listed.{is_aligned}
 
 -- a node is aligned so, and so is a child that gives itself no alignment, in a box of its own or not
 pub record AlignsBelow (wanted : TextAlign) (f : Forest Content) (l : ℕ) : Type 0 where

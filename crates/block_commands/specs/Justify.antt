@@ -2,28 +2,28 @@
 -- range come to stand in a div that aligns them. The steps are those of docs/ALGORITHMS.md.
 use Rattle.std.specs.Prelude.{ℕ, Bool, true, false, ◌&&◌, ◌||◌, not, List, [], ◌∷◌, ◌++◌, is_some, bytes_eq, codes, Option, if◌then◌else◌}
 use Rattle.std.specs.Option.{option_map_or}
-use Rattle.dom_model.specs.declared.attributes.Attribute.{Attribute}
-use Rattle.dom_model.specs.declared.Content.{Content}
-use Rattle.dom_model.specs.AttributeList.{value_of}
-use Rattle.dom_model.specs.Contents.{has_name}
-use Rattle.dom_model.specs.Forest.{Forest}
-use Rattle.css_value.specs.DeclarationList as style
-use Rattle.node_styles.specs.Allowed.{allowed_in_name}
-use Rattle.command_value.specs.Alignment.{alignment_value}
+use Rattle.edit_model.specs.DomModel.declared.attributes.Attribute.{Attribute}
+use Rattle.edit_model.specs.DomModel.declared.Content.{Content}
+use Rattle.edit_model.specs.DomModel.AttributeList.{value_of}
+use Rattle.edit_model.specs.DomModel.Contents.{has_name}
+use Rattle.edit_model.specs.DomModel.Forest.{Forest}
+use Rattle.inline_value.specs.CssValue.DeclarationList as style
+use Rattle.inline_value.specs.NodeStyles.Allowed.{allowed_in_name}
+use Rattle.inline_value.specs.CommandValue.Alignment.{alignment_value}
 use Rattle.edit_model.specs.State.{State}
 use Rattle.edit_model.specs.Confined.{is_editable_for}
 use Rattle.edit_model.specs.Compositions.{attribute_list_of, set_tag_name}
 use Rattle.edit_model.specs.Run.{Run, ◌>>=◌, ◌>>◌, answer, done, look, for_each, unset_attribute}
-use Rattle.wrap_split.specs.declared.rule.Blank.{Blank}
-use Rattle.wrap_split.specs.declared.rule.Criterion.TheVariants.{Aligned}
-use Rattle.wrap_split.specs.declared.rule.Recipe.TheVariants.{Make}
-use Rattle.wrap_split.specs.Split.{remove_keeping_children}
-use Rattle.wrap_split.specs.Target.{is_without_attributes}
-use Rattle.wrap_split.specs.Wrap.{wrap}
+use Rattle.inline_value.specs.WrapSplit.declared.rule.Blank.{Blank}
+use Rattle.inline_value.specs.WrapSplit.declared.rule.Criterion.TheVariants.{Aligned}
+use Rattle.inline_value.specs.WrapSplit.declared.rule.Recipe.TheVariants.{Make}
+use Rattle.inline_value.specs.WrapSplit.Split.{remove_keeping_children}
+use Rattle.inline_value.specs.WrapSplit.Target.{is_without_attributes}
+use Rattle.inline_value.specs.WrapSplit.Wrap.{wrap}
 use Rattle.inline_value.specs.Styling.{unset_style}
-use Rattle.edit_query.specs.Gathered.{outermost}
+use Rattle.inline_value.specs.EditQuery.Gathered.{outermost}
 use Rattle.block_commands.specs.Gathered.{contained}
-use Rattle.block_extend.specs.Series.{is_next}
+use Rattle.inline_value.specs.BlockExtend.Series.{is_next}
 use Rattle.block_commands.specs.Series.{take_series, in_turns}
 
 -- ---- step 1: elements that align what is in them give that up

@@ -3,3 +3,4 @@ pub mod Series
 pub mod FormatBlock
 pub mod Justify
 pub mod Handed
+pub mod Below

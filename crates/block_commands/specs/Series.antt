@@ -3,8 +3,8 @@
 use Rattle.std.specs.Prelude.{ℕ, Bool, true, false, List, [], ◌∷◌, take, drop}
 use Rattle.edit_model.specs.Run.{Run, ◌>>◌, done, look, while_at_most}
 use Rattle.edit_model.specs.State.{State}
-use Rattle.block_extend.specs.Series.{count_series}
-use Rattle.wrap_split.specs.Walks.{turn_bound}
+use Rattle.inline_value.specs.BlockExtend.Series.{count_series}
+use Rattle.inline_value.specs.WrapSplit.Walks.{turn_bound}
 
 -- takes the first series: its members, and the rest of the list
 abbrev pub take_series : (ℕ → ℕ → Bool) → List ℕ → List ℕ × List ℕ

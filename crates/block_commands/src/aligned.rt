@@ -4,27 +4,27 @@ ghost use Rattle.std.specs.Prelude.{◌≡◌, ◌&&◌, ◌++◌, IfOk, IfSome,
 ghost use Rattle.std.specs.Char.{to_ascii_lowercase};
 ghost use Rattle.std.specs.List.{list_all};
 ghost use Rattle.std.specs.Option.{option_map_or};
-ghost use Rattle.dom_model.specs.Contents as contents;
-ghost use Rattle.css_value.specs.DeclarationList.{declarations_in};
-ghost use Rattle.css_value.specs.Values.{text_align_keyword};
-ghost use Rattle.node_styles.specs.OwnStyles.{own_text_align};
+ghost use Rattle.edit_model.specs.DomModel.Contents as contents;
+ghost use Rattle.inline_value.specs.CssValue.DeclarationList.{declarations_in};
+ghost use Rattle.inline_value.specs.CssValue.Values.{text_align_keyword};
+ghost use Rattle.inline_value.specs.NodeStyles.OwnStyles.{own_text_align};
 ghost use Rattle.edit_model.specs.Gives.{label_of};
-ghost use Rattle.edit_doc.specs.Held.{Holds};
-ghost use Rattle.edit_query.specs.Listed.{is_aligned};
-ghost use Rattle.wrap_split.specs.Target as target;
-ghost use Rattle.wrap_split.specs.declared.rule.Criterion.TheVariants.{Aligned};
+ghost use Rattle.inline_value.specs.EditDoc.Held.{Holds};
+ghost use Rattle.inline_value.specs.EditQuery.Listed.{is_aligned};
+ghost use Rattle.inline_value.specs.WrapSplit.Target as target;
+ghost use Rattle.inline_value.specs.WrapSplit.declared.rule.Criterion.TheVariants.{Aligned};
 ghost use Rattle.block_commands.specs.Handed.{AlignsBelow, TakesKnown};
 ghost use Rattle.block_commands.specs.Justify as justify;
 
-use block_extend::{Choice, allowed_in_div};
-use command_value::alignment;
-use css_value::{Only, TextAlign, find, sets_only};
-use dom_model::{Attributes, Chars, Content, Name};
-use edit_doc::{Doc, NodeRef};
-use node_styles::{attribute, is_element_named, text_align};
-use node_tests::has_name;
+use edit_model::dom::{Attributes, Chars, Content, Name};
+use inline_value::css::{Only, TextAlign, find, sets_only};
+use inline_value::doc::{Doc, NodeRef};
+use inline_value::extend::{Choice, allowed_in_div};
+use inline_value::questions::has_name;
+use inline_value::styles::{attribute, is_element_named, text_align};
+use inline_value::values::alignment;
+use inline_value::wrap::{Blank, Meets};
 use std::alloc::{AllocError, Global};
-use wrap_split::{Blank, Meets};
 
 // Whether two texts are the same without regard to ASCII case.
 fn is_same_in_any_case(text: &[char], other: &[char]) -> bool
@@ -56,7 +56,7 @@ fn is_text_align(text: &[char], alignment: &[char]) -> bool
 }
 
 // Whether an attribute aligns so, and does nothing else.
-#[tactic(auto, unfolding(wrap_split::specs::Target::aligns))]
+#[tactic(auto, unfolding(crate::specs::Below::aligns))]
 fn aligns(name: &[u8], value: &[char], alignment: &[char]) -> bool
     ensures { result ≡ target.aligns alignment.now (record { name = name.now; value = value.now }) }
 {
@@ -97,7 +97,7 @@ pub struct AlignedSibling {
 impl Meets for AlignedSibling {
     ghost criterion = { λ s. Aligned s.alignment };
 
-    #[tactic(auto, unfolding(wrap_split::specs::Target::meets, wrap_split::specs::Target::is_aligned))]
+    #[tactic(auto, unfolding(crate::specs::Below::meets, crate::specs::Below::is_aligned))]
     fn meets(&self, doc: &Doc, node: NodeRef) -> bool {
         match doc.content(node) {
             Content::Element {
@@ -197,7 +197,7 @@ pub(crate) struct Misaligned {
 }
 
 impl Choice<Doc> for Misaligned {
-    ghost use Rattle.css_value.specs.Values.{text_align_keyword};
+    ghost use Rattle.inline_value.specs.CssValue.Values.{text_align_keyword};
     ghost use Rattle.block_commands.specs.Handed.{AlignsBelow};
     ghost use Rattle.block_commands.specs.Justify.{is_misaligned};
 
@@ -219,7 +219,7 @@ impl Choice<Doc> for Misaligned {
 
 impl Misaligned {
     // Whether a node is aligned so. Where it takes the alignment of the known one, it is.
-    #[tactic(auto, using(crate::proofs::Handing::handed_on), unfolding(command_value::specs::Alignment::alignment_value))]
+    #[tactic(auto, using(crate::proofs::Handing::handed_on), unfolding(crate::specs::Below::alignment_value))]
     fn is_aligned(&self, doc: &Doc, node: NodeRef, known: &mut Option<NodeRef>) -> bool
         requires node_held { Holds doc.now node }
         requires known { IfSome known.old

@@ -3,21 +3,23 @@
 ghost use Rattle.std.specs.Prelude.{◌≡◌};
 ghost use Rattle.edit_model.specs.Gives.{Gives, labels_of};
 ghost use Rattle.edit_model.specs.Run.{for_each};
-ghost use Rattle.edit_doc.specs.Held.{Holds, EachHeld, Keeps};
-ghost use Rattle.edit_doc.specs.Whole.{IsOpen};
+ghost use Rattle.inline_value.specs.EditDoc.Held.{Holds, EachHeld, Keeps};
+ghost use Rattle.inline_value.specs.EditDoc.Whole.{IsOpen};
 ghost use Rattle.block_commands.specs.FormatBlock as format;
 
 use crate::lines::{Formatted, OnLine, SameBlock, has_outer_block};
 use crate::names::block_name;
 use crate::turns::{Turn, in_turns};
-use block_extend::count_series;
-use dom_model::Name;
-use edit_doc::{Doc, EditFault, NodeList, NodeRef};
-use edit_query::outermost;
+use edit_model::dom::Name;
+use inline_value::doc::{Doc, EditFault, NodeList, NodeRef};
+use inline_value::extend::count_series;
+use inline_value::query::outermost;
+use inline_value::questions::is_single_line;
+use inline_value::wrap::{
+    CopyMade, WrapRule, remove_keeping_children, split_around, turn_bound, wrap,
+};
 use inline_value::{bare, fix_ancestors, record_values, restore_values};
-use node_tests::is_single_line;
 use std::alloc::Global;
-use wrap_split::{CopyMade, WrapRule, remove_keeping_children, split_around, turn_bound, wrap};
 
 // Step 3: as long as the node stands in a block with no other block in it.
 #[tactic(auto, using(edit_model::proofs::Steps::whiles, edit_model::proofs::Steps::exits), unfolding(crate::specs::FormatBlock::leave_blocks))]
@@ -118,7 +120,7 @@ impl<'a> Turn for FormatTurn<'a> {
 
     ghost run = { λ s. format_next s.name.now };
 
-    #[tactic(auto, using(edit_model::proofs::Steps::steps, edit_model::proofs::Steps::exits, edit_model::proofs::Steps::ends, edit_query::proofs::Lists::labels_mapped, edit_query::proofs::Lists::all_held, edit_query::proofs::Lists::labels_of_front, edit_query::proofs::Lists::labels_of_rest, crate::proofs::Counting::exit_count), unfolding(crate::specs::FormatBlock::format_next, crate::specs::FormatBlock::format_line))]
+    #[tactic(auto, using(edit_model::proofs::Steps::steps, edit_model::proofs::Steps::exits, edit_model::proofs::Steps::ends, crate::proofs::Below::labels_mapped, crate::proofs::Below::all_held, crate::proofs::Below::labels_of_front, crate::proofs::Below::labels_of_rest, crate::proofs::Counting::exit_count), unfolding(crate::specs::FormatBlock::format_next, crate::specs::FormatBlock::format_line))]
     fn take(&self, alloc: Global, doc: &mut Doc, list: &[NodeRef]) -> Result<usize, EditFault> {
         let first = list[0];
         if is_single_line(doc, first) {

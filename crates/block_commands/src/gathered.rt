@@ -1,15 +1,15 @@
 //! The nodes of the block-extended active range that a block command goes over.
 
 ghost use Rattle.std.specs.Prelude.{◌≡◌, ◌<◌, IfOk, filter};
-ghost use Rattle.dom_model.specs.Forest.{count_of};
+ghost use Rattle.edit_model.specs.DomModel.Forest.{count_of};
 ghost use Rattle.edit_model.specs.Gives.{labels_of};
-ghost use Rattle.edit_doc.specs.Held.{EachHeld};
+ghost use Rattle.inline_value.specs.EditDoc.Held.{EachHeld};
 ghost use Rattle.block_commands.specs.Gathered as gathered;
 
-use block_extend::Choice;
-use edit_doc::{Doc, NodeRef, Point};
-use edit_query::extended;
-use node_tests::contained_nodes;
+use inline_value::doc::{Doc, NodeRef, Point};
+use inline_value::extend::Choice;
+use inline_value::query::extended;
+use inline_value::questions::contained_nodes;
 use std::alloc::{AllocError, Global};
 
 /// Of a list, the nodes that pass a test.

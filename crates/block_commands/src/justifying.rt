@@ -1,24 +1,26 @@
 //! The justify commands. The steps are those of docs/ALGORITHMS.md.
 
 ghost use Rattle.std.specs.Prelude.{◌≡◌};
-ghost use Rattle.css_value.specs.Values.{text_align_keyword};
+ghost use Rattle.inline_value.specs.CssValue.Values.{text_align_keyword};
 ghost use Rattle.edit_model.specs.Gives.{Gives, GivesMaybe, labels_of};
-ghost use Rattle.edit_doc.specs.Held.{Holds, EachHeld, Keeps};
-ghost use Rattle.edit_doc.specs.Whole.{IsOpen};
+ghost use Rattle.inline_value.specs.EditDoc.Held.{Holds, EachHeld, Keeps};
+ghost use Rattle.inline_value.specs.EditDoc.Whole.{IsOpen};
 ghost use Rattle.block_commands.specs.Justify as justify;
 
 use crate::aligned::{AlignedSibling, Aligning, Misaligned, aligned_div, is_center};
 use crate::gathered::contained;
 use crate::turns::{Turn, in_turns};
-use block_extend::{Link, count_series, is_next};
-use css_value::TextAlign;
-use dom_model::{Chars, Name};
-use edit_doc::{Doc, EditFault, NodeList, NodeRef};
-use edit_query::outermost;
+use edit_model::dom::{Chars, Name};
+use inline_value::css::TextAlign;
+use inline_value::doc::{Doc, EditFault, NodeList, NodeRef};
+use inline_value::extend::{Link, count_series, is_next};
+use inline_value::query::outermost;
+use inline_value::questions::has_name;
 use inline_value::unset_style;
-use node_tests::has_name;
+use inline_value::wrap::{
+    CopyMade, WrapRule, is_without_attributes, remove_keeping_children, wrap,
+};
 use std::alloc::Global;
-use wrap_split::{CopyMade, WrapRule, is_without_attributes, remove_keeping_children, wrap};
 
 // Step 1: whether it is a div, span or center without attributes.
 #[tactic(auto, unfolding(crate::specs::Justify::is_plain))]
@@ -84,7 +86,7 @@ fn clear_alignments(alloc: Global, doc: &mut Doc) -> Result<(), EditFault>
 struct Siblings;
 
 impl Link<Doc> for Siblings {
-    ghost use Rattle.block_extend.specs.Series.{is_next};
+    ghost use Rattle.inline_value.specs.BlockExtend.Series.{is_next};
 
     ghost linked = { λ s d x y. is_next d.state.trees x y };
 
@@ -128,7 +130,7 @@ impl<'a> Turn for AlignTurn<'a> {
 
     ghost run = { λ s. align_next s.alignment.now };
 
-    #[tactic(auto, using(edit_model::proofs::Steps::steps, edit_model::proofs::Steps::exits, edit_query::proofs::Lists::labels_of_front, edit_query::proofs::Lists::labels_of_rest, crate::proofs::Counting::exit_count), unfolding(crate::specs::Justify::align_next))]
+    #[tactic(auto, using(edit_model::proofs::Steps::steps, edit_model::proofs::Steps::exits, crate::proofs::Below::labels_of_front, crate::proofs::Below::labels_of_rest, crate::proofs::Counting::exit_count), unfolding(crate::specs::Justify::align_next))]
     fn take(&self, alloc: Global, doc: &mut Doc, list: &[NodeRef]) -> Result<usize, EditFault> {
         let count = count_series(doc, list, &Siblings);
         wrap_aligned(alloc, doc, self.alignment, &list[..count])?;

@@ -3,18 +3,18 @@
 
 ghost use Rattle.std.specs.Prelude.{◌≡◌};
 ghost use Rattle.edit_model.specs.Confined.{is_editable_for};
-ghost use Rattle.edit_doc.specs.Held.{Holds};
+ghost use Rattle.inline_value.specs.EditDoc.Held.{Holds};
 ghost use Rattle.block_commands.specs.FormatBlock as format;
 
-use block_extend::{Choice, Link, is_above_prohibited, is_next};
-use dom_model::Name;
-use edit_doc::{Doc, NodeRef};
-use edit_query::is_editable_inside;
-use node_tests::{
+use edit_model::dom::Name;
+use inline_value::doc::{Doc, NodeRef};
+use inline_value::extend::{Choice, Link, is_above_prohibited, is_next};
+use inline_value::query::is_editable_inside;
+use inline_value::questions::{
     allowed_in_name, has_name, is_break, is_formattable_block, is_non_list_single_line,
     is_single_line,
 };
-use wrap_split::{Meets, is_without_attributes};
+use inline_value::wrap::{Meets, is_without_attributes};
 
 // Step 2: a line of its own but for li, or what may stand in a paragraph.
 #[tactic(auto, unfolding(crate::specs::FormatBlock::is_line))]
@@ -98,7 +98,7 @@ impl Meets for SameBlock {
 
     ghost criterion = { λ s. same_block s.name };
 
-    #[tactic(auto, unfolding(wrap_split::specs::Target::meets))]
+    #[tactic(auto, unfolding(crate::specs::Below::meets))]
     fn meets(&self, doc: &Doc, node: NodeRef) -> bool {
         let name = self.name.as_slice();
         if name == b"div".as_slice() || name == b"p".as_slice() {

@@ -2,11 +2,11 @@
 
 ghost use Rattle.std.specs.Prelude.{◌≡◌, false, true, IfOk, MatchOption, map};
 ghost use Rattle.std.specs.Char.{to_ascii_lowercase};
-ghost use Rattle.html_names.specs.ElementNames.{is_formattable_block};
+ghost use Rattle.edit_model.specs.HtmlNames.ElementNames.{is_formattable_block};
 ghost use Rattle.block_commands.specs.FormatBlock.{block_name, unbracketed};
 
-use dom_model::Name;
-use html_names::is_formattable_block;
+use edit_model::dom::Name;
+use edit_model::element_names::is_formattable_block;
 use std::alloc::{AllocError, Global};
 
 // A value without a `<` and `>` around it.

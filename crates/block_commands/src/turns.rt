@@ -1,21 +1,21 @@
 //! Turns on a list of nodes, each of which is done with some first members.
 
 ghost use Rattle.edit_model.specs.Gives.{Gives, labels_of};
-ghost use Rattle.edit_doc.specs.Held.{EachHeld, Keeps};
-ghost use Rattle.edit_doc.specs.Whole.{IsOpen};
+ghost use Rattle.inline_value.specs.EditDoc.Held.{EachHeld, Keeps};
+ghost use Rattle.inline_value.specs.EditDoc.Whole.{IsOpen};
 ghost use Rattle.block_commands.specs.Series.{in_turns};
 
-use edit_doc::{Doc, EditFault, NodeRef};
+use inline_value::doc::{Doc, EditFault, NodeRef};
+use inline_value::wrap::turn_bound;
 use std::alloc::Global;
-use wrap_split::turn_bound;
 
 /// What one turn does.
 pub trait Turn {
     ghost use Rattle.std.specs.Prelude.{ℕ, List, ◌≤◌, ◌<◌, IfOk, length, drop};
     ghost use Rattle.edit_model.specs.Gives.{GivesAs, labels_of};
     ghost use Rattle.edit_model.specs.Run.{Run};
-    ghost use Rattle.edit_doc.specs.Held.{EachHeld, Keeps};
-    ghost use Rattle.edit_doc.specs.Whole.{IsOpen};
+    ghost use Rattle.inline_value.specs.EditDoc.Held.{EachHeld, Keeps};
+    ghost use Rattle.inline_value.specs.EditDoc.Whole.{IsOpen};
 
     // its run, which answers what is left of the list
     ghost run: { Self → List ℕ → Run (List ℕ) };

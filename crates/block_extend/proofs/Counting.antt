@@ -1,7 +1,7 @@
 -- How the count of a series goes on, a member at a time.
 use Rattle.std.proofs.Common.{◌≡◌, ℕ, ◌+◌, ◌<◌, ◌≤◌, Bool, List, [], ◌∷◌, length, drop, map, get_or, if◌then◌else◌, refl, drop-cons, add-one, arith}
 use Rattle.std.proofs.Math.ListN.{drop_of_length-le}
-use Rattle.node_arena.specs.declared.NodeRef.{NodeRef}
+use Rattle.node_paths.specs.NodeArena.declared.NodeRef.{NodeRef}
 use Rattle.block_extend.specs.Series.{count_after, count_series}
 
 pub series_turn : (on : ℕ → ℕ → Bool) (x : ℕ) (xs : List NodeRef) (i : ℕ) → i < length xs →

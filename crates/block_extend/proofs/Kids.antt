@@ -3,10 +3,10 @@ use Rattle.std.proofs.Common.{◌≡◌, ℕ, zero, suc, ◌+◌, ◌<◌, ◌�
 use Rattle.std.specs.Prelude.{slice_get}
 use Rattle.std.specs.Option.{option_map_or, option_and_then}
 use Rattle.std.proofs.lemmas.Bool.Decides.{eqb_tells}
-use Rattle.dom_model.specs.declared.Content.{Content}
-use Rattle.dom_model.specs.Forest.{Forest, Seen, seek, IsDistinct, times, first_in, before_from, before_in, after_in, parent_of, children_of, first_of, prev_of, next_of}
-use Rattle.dom_model.specs.Places.{place_in, index_of}
-use Rattle.dom_model.proofs.Links.{parent_of_child, found_stands, child_of_parent, times-children_of}
+use Rattle.node_paths.specs.DomModel.declared.Content.{Content}
+use Rattle.node_paths.specs.DomModel.Forest.{Forest, Seen, seek, IsDistinct, times, first_in, before_from, before_in, after_in, parent_of, children_of, first_of, prev_of, next_of}
+use Rattle.node_paths.specs.DomModel.Places.{place_in, index_of}
+use Rattle.node_paths.proofs.DomModel.Links.{parent_of_child, found_stands, child_of_parent, times-children_of}
 use Rattle.node_tests.specs.BlockPoints.{child_before, child_at}
 
 -- ---- lists

@@ -8,3 +8,4 @@ mod Taking
 pub mod Ordered
 pub mod Counting
 pub mod Parents
+pub use Rattle.node_paths.proofs as NodePaths

@@ -4,12 +4,12 @@ use Rattle.std.proofs.Common.{◌≡◌, ℕ, ◌+◌, ◌<◌, ◌≤◌, Bool,
 use Rattle.std.specs.List.{list_any}
 use Rattle.std.proofs.lemmas.Bool.{lt-ltb, le-ltb}
 use Rattle.std.proofs.lemmas.Bool.Decides.{eqb_tells}
-use Rattle.dom_model.specs.declared.Content.{Content}
-use Rattle.dom_model.specs.Forest.{Forest, join, count_of, IsDistinct, first_in, preorder, preorder_onto, tree_of}
-use Rattle.dom_model.specs.Forest.Forest.{Nil, Tree}
-use Rattle.dom_model.proofs.Links.{eqb_refl_true, join-Nil, tree_of_absent}
-use Rattle.dom_model.proofs.Totals.{total-without}
-use Rattle.point_order.specs.PointOrder.{is_ancestor}
+use Rattle.node_paths.specs.DomModel.declared.Content.{Content}
+use Rattle.node_paths.specs.DomModel.Forest.{Forest, join, count_of, IsDistinct, first_in, preorder, preorder_onto, tree_of}
+use Rattle.node_paths.specs.DomModel.Forest.Forest.{Nil, Tree}
+use Rattle.node_paths.proofs.DomModel.Links.{eqb_refl_true, join-Nil, tree_of_absent}
+use Rattle.node_paths.proofs.DomModel.Totals.{total-without}
+use Rattle.node_tests.specs.PointOrder.PointOrder.{is_ancestor}
 use Rattle.block_extend.specs.Gaps.{is_below}
 use Rattle.block_extend.specs.Gather.{gather_on}
 use Rattle.block_extend.specs.Order.{Subsequence, empty, both, left_out}

@@ -1,9 +1,9 @@
 -- Lists in tree order.
 use Rattle.std.proofs.Common.{ℕ, Bool, true, false, cond, List, [], ◌∷◌}
 use Rattle.std.specs.List.{filter}
-use Rattle.dom_model.specs.declared.Content.{Content}
-use Rattle.dom_model.specs.Forest.{Forest, preorder}
-use Rattle.live_range.specs.declared.places.Point.{Point}
+use Rattle.node_paths.specs.DomModel.declared.Content.{Content}
+use Rattle.node_paths.specs.DomModel.Forest.{Forest, preorder}
+use Rattle.node_tests.specs.LiveRange.declared.places.Point.{Point}
 use Rattle.node_tests.specs.Ranges.{is_contained, contained_nodes}
 use Rattle.block_extend.specs.Order.{Subsequence, empty, both, left_out, IsInOrder}
 

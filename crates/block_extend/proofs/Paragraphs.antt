@@ -3,13 +3,13 @@ use Rattle.std.proofs.Common.{◌≡◌, ℕ, Bool, true, false, List, Option, S
 use Rattle.std.proofs.lemmas.Slice.Eq.{bytes_eq-Decides}
 use Rattle.std.specs.Option.{option_map_or, option_and_then}
 use Rattle.std.specs.Prelude.{bytes_eq, codes}
-use Rattle.dom_model.specs.declared.Content.{Content}
-use Rattle.dom_model.specs.declared.Content.TheVariants.{Document, Element, Words, Remark}
-use Rattle.dom_model.specs.Contents.{name_in, has_name}
-use Rattle.dom_model.specs.Forest.{Forest, content_of}
-use Rattle.html_names.specs.AllowedChildren.{allowed_child, listed_children, contents, is_kept_out, bound_names}
-use Rattle.html_names.specs.ElementNames.{is_heading, heading_names, is_prohibited_child, prohibited_child_names, has_inline_contents, inline_contents_names}
-use Rattle.node_styles.specs.Allowed.{allowed_in_name, content_allowed_in_name}
+use Rattle.node_paths.specs.DomModel.declared.Content.{Content}
+use Rattle.node_paths.specs.DomModel.declared.Content.TheVariants.{Document, Element, Words, Remark}
+use Rattle.node_paths.specs.DomModel.Contents.{name_in, has_name}
+use Rattle.node_paths.specs.DomModel.Forest.{Forest, content_of}
+use Rattle.node_tests.specs.HtmlNames.AllowedChildren.{allowed_child, listed_children, contents, is_kept_out, bound_names}
+use Rattle.node_tests.specs.HtmlNames.ElementNames.{is_heading, heading_names, is_prohibited_child, prohibited_child_names, has_inline_contents, inline_contents_names}
+use Rattle.node_tests.specs.NodeStyles.Allowed.{allowed_in_name, content_allowed_in_name}
 
 -- what the names say of a paragraph holds of each node that is one
 module _ (f : Forest Content) (l : ℕ) (parent : List ℕ) (b : Bool) (names : allowed_child (codes "p") parent ≡ b) where

@@ -3,12 +3,12 @@ use Rattle.std.proofs.Common.{◌≡◌, ℕ, ◌<◌, Bool, true, false, not, e
 use Rattle.std.specs.Prelude.{nat_lt}
 use Rattle.std.proofs.lemmas.Bool.{eqb-true, lt-ltb, ltb-true}
 use Rattle.std.proofs.lemmas.Bool.Decides.{eqb_tells}
-use Rattle.dom_model.specs.declared.Content.{Content}
-use Rattle.dom_model.specs.Forest.{Forest, is_label, parent_of, count_of, tree_of, IsDistinct, IsWithin}
-use Rattle.dom_model.proofs.Move.{parent_apart}
-use Rattle.dom_model.proofs.Stands.{true_or_false}
-use Rattle.dom_model.proofs.Within.{within_child, within_step}
-use Rattle.point_order.specs.PointOrder.{is_ancestor}
+use Rattle.node_paths.specs.DomModel.declared.Content.{Content}
+use Rattle.node_paths.specs.DomModel.Forest.{Forest, is_label, parent_of, count_of, tree_of, IsDistinct, IsWithin}
+use Rattle.node_paths.proofs.DomModel.Move.{parent_apart}
+use Rattle.node_paths.proofs.DomModel.Stands.{true_or_false}
+use Rattle.node_paths.proofs.DomModel.Within.{within_child, within_step}
+use Rattle.node_tests.specs.PointOrder.PointOrder.{is_ancestor}
 
 pub parent_inside : (f : Forest Content) (t p l : ℕ) → IsDistinct f → 0 < count_of f t → parent_of f l ≡ Some p → IsWithin f t p → true ≡ is_ancestor f t l
 parent_inside f t p l once here up inside = elim (eqb_tells t l) [

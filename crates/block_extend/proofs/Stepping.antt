@@ -1,14 +1,14 @@
 -- The places beside the children of a node, and the steps from one to the next.
 use Rattle.std.proofs.Common.{◌≡◌, ℕ, ◌+◌, ◌-◌, ◌^◌, ◌<◌, Option, Some, sym, ◌∙◌, arith}
-use Rattle.dom_model.specs.declared.Content.{Content}
-use Rattle.dom_model.specs.Forest.{Forest, parent_of, prev_of, next_of}
-use Rattle.dom_model.specs.Contents.{length_of}
-use Rattle.dom_model.specs.Places.{index_of}
-use Rattle.dom_model.proofs.Few.{some_nodes}
-use Rattle.dom_model.proofs.Indexes.{index_of_low}
-use Rattle.node_arena.specs.declared.NodeRef.{NodeRef}
-use Rattle.node_arena.specs.Held.{label}
-use Rattle.node_arena.specs.Reads.{IsValid, Names}
+use Rattle.node_paths.specs.DomModel.declared.Content.{Content}
+use Rattle.node_paths.specs.DomModel.Forest.{Forest, parent_of, prev_of, next_of}
+use Rattle.node_paths.specs.DomModel.Contents.{length_of}
+use Rattle.node_paths.specs.DomModel.Places.{index_of}
+use Rattle.node_paths.proofs.DomModel.Few.{some_nodes}
+use Rattle.node_paths.proofs.DomModel.Indexes.{index_of_low}
+use Rattle.node_paths.specs.NodeArena.declared.NodeRef.{NodeRef}
+use Rattle.node_paths.specs.NodeArena.Held.{label}
+use Rattle.node_paths.specs.NodeArena.Reads.{IsValid, Names}
 use Rattle.node_tests.specs.BlockPoints.{child_before, child_at}
 use Rattle.block_extend.specs.Gaps.{Stands}
 use Rattle.block_extend.specs.declared.places.Place.{Place}

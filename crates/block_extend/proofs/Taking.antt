@@ -2,15 +2,15 @@
 use Rattle.std.proofs.Common.{◌≡◌, ℕ, ◌+◌, ◌<◌, Bool, true, false, cond, not, ◌&&◌, List, [], ◌∷◌, ◌++◌, length, drop, get_or, Option, Some, None, eqb, refl, sym, ap, ◌∙◌, subst, add-one, drop-cons}
 use Rattle.std.specs.List.{All, filter}
 use Rattle.std.proofs.lemmas.List.Elements.{All-append, All-cons, All-nil}
-use Rattle.dom_model.specs.declared.Content.{Content}
+use Rattle.node_paths.specs.DomModel.declared.Content.{Content}
 use Rattle.std.specs.Option.{option_map}
 use Rattle.std.specs.Prelude.{map, nat_lt, IfSome}
 use Rattle.std.proofs.lemmas.Bool.{and_parts, ltb-true}
-use Rattle.dom_model.specs.Forest.{Forest, count_of, tree_of}
-use Rattle.dom_model.proofs.Within.{within_self}
-use Rattle.node_arena.specs.declared.NodeRef.{NodeRef}
-use Rattle.node_arena.specs.Reads.{IsValid}
-use Rattle.point_order.specs.PointOrder.{is_ancestor}
+use Rattle.node_paths.specs.DomModel.Forest.{Forest, count_of, tree_of}
+use Rattle.node_paths.proofs.DomModel.Within.{within_self}
+use Rattle.node_paths.specs.NodeArena.declared.NodeRef.{NodeRef}
+use Rattle.node_paths.specs.NodeArena.Reads.{IsValid}
+use Rattle.node_tests.specs.PointOrder.PointOrder.{is_ancestor}
 use Rattle.block_extend.specs.declared.gathering.Taken.{Taken}
 use Rattle.block_extend.specs.Gaps.{is_below, top_of, IsTaken as WasTaken}
 use Rattle.block_extend.proofs.Nesting.{gather_after}

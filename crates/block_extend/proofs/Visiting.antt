@@ -1,11 +1,11 @@
 -- A walk over the trees from a node on, that looks for a node that passes a test.
 use Rattle.std.proofs.Common.{◌≡◌, ℕ, ◌<◌, Bool, true, false, ◌||◌, Option, Some, IfSome, refl, sym, ap, subst, ◌∙◌}
-use Rattle.dom_model.specs.declared.Content.{Content}
-use Rattle.dom_model.specs.Forest.{Forest, count_of, first_of, next_of}
-use Rattle.dom_model.proofs.Parts.{at_label}
-use Rattle.node_arena.specs.declared.NodeRef.{NodeRef}
-use Rattle.node_arena.specs.Held.{label}
-use Rattle.node_arena.specs.Reads.{IsValid, Names}
+use Rattle.node_paths.specs.DomModel.declared.Content.{Content}
+use Rattle.node_paths.specs.DomModel.Forest.{Forest, count_of, first_of, next_of}
+use Rattle.node_paths.proofs.DomModel.Parts.{at_label}
+use Rattle.node_paths.specs.NodeArena.declared.NodeRef.{NodeRef}
+use Rattle.node_paths.specs.NodeArena.Held.{label}
+use Rattle.node_paths.specs.NodeArena.Reads.{IsValid, Names}
 use Rattle.node_paths.specs.Onward.{onward_at, IsInner}
 use Rattle.node_paths.proofs.Visiting.{Visit, visit, size_from, inner_first}
 use Rattle.block_extend.specs.Descendants.{has_in}

@@ -1,6 +1,6 @@
 -- A walk, turn by turn.
 use Rattle.std.proofs.Common.{◌≡◌, ℕ, suc, ◌-◌, ◌<◌, Bool, true, false, cond, Option, Some, None, sym, ap, ◌∙◌, arith}
-use Rattle.live_range.specs.declared.places.Point.{Point}
+use Rattle.node_tests.specs.LiveRange.declared.places.Point.{Point}
 use Rattle.block_extend.specs.BlockExtend.{led, walk}
 
 module _ (step : Point → Option Point) (stops : Point → Bool) where

@@ -2,15 +2,15 @@
 -- where lines of blocks start and end. The steps are those of docs/ALGORITHMS.md.
 use Rattle.std.specs.Prelude.{ℕ, zero, suc, ◌+◌, ◌-◌, ◌==◌, nat_lt, Bool, false, Option, Some, None, if◌then◌else◌, codes}
 use Rattle.std.specs.Option.{option_map, option_and_then, unwrap_or}
-use Rattle.dom_model.specs.declared.Content.{Content}
-use Rattle.dom_model.specs.Contents.{length_of}
-use Rattle.dom_model.specs.Forest.{Forest, parent_of}
-use Rattle.dom_model.specs.Places.{index_of}
-use Rattle.live_range.specs.declared.places.Point.{Point}
-use Rattle.node_styles.specs.Lineage.{nearest_label}
-use Rattle.node_styles.specs.OwnStyles.{is_named}
+use Rattle.node_paths.specs.DomModel.declared.Content.{Content}
+use Rattle.node_paths.specs.DomModel.Contents.{length_of}
+use Rattle.node_paths.specs.DomModel.Forest.{Forest, parent_of}
+use Rattle.node_paths.specs.DomModel.Places.{index_of}
+use Rattle.node_tests.specs.LiveRange.declared.places.Point.{Point}
+use Rattle.node_tests.specs.NodeStyles.Lineage.{nearest_label}
+use Rattle.node_tests.specs.NodeStyles.OwnStyles.{is_named}
 use Rattle.node_tests.specs.BlockPoints.{is_block_start, is_block_end, is_block_boundary}
-use Rattle.node_styles.specs.TurnBound.{turn_bound}
+use Rattle.node_tests.specs.NodeStyles.TurnBound.{turn_bound}
 
 -- ---- steps from place to place
 

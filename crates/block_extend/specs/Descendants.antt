@@ -1,8 +1,8 @@
 -- A search below a node.
 use Rattle.std.specs.Prelude.{ℕ, Bool, false, ◌||◌}
-use Rattle.dom_model.specs.declared.Content.{Content}
-use Rattle.dom_model.specs.Forest.{Forest, first_of}
-use Rattle.dom_model.specs.Forest.Forest.{Nil, Tree}
+use Rattle.node_paths.specs.DomModel.declared.Content.{Content}
+use Rattle.node_paths.specs.DomModel.Forest.{Forest, first_of}
+use Rattle.node_paths.specs.DomModel.Forest.Forest.{Nil, Tree}
 use Rattle.node_paths.specs.Onward.{onward_at}
 
 -- a node of these trees passes

@@ -2,12 +2,12 @@
 -- clause cites this module.
 use Rattle.std.specs.Prelude.{◌≡◌, ℕ, Bool, false, Option, Some, None, IfSome}
 use Rattle.std.specs.Option.{option_map}
-use Rattle.dom_model.specs.declared.Content.{Content}
-use Rattle.dom_model.specs.Forest.{Forest, IsWithin}
-use Rattle.live_range.specs.declared.places.Point.{Point}
-use Rattle.node_arena.specs.declared.NodeRef.{NodeRef}
-use Rattle.node_arena.specs.Reads.{Names}
-use Rattle.point_order.specs.PointOrder.{is_ancestor}
+use Rattle.node_paths.specs.DomModel.declared.Content.{Content}
+use Rattle.node_paths.specs.DomModel.Forest.{Forest, IsWithin}
+use Rattle.node_tests.specs.LiveRange.declared.places.Point.{Point}
+use Rattle.node_paths.specs.NodeArena.declared.NodeRef.{NodeRef}
+use Rattle.node_paths.specs.NodeArena.Reads.{Names}
+use Rattle.node_tests.specs.PointOrder.PointOrder.{is_ancestor}
 use Rattle.node_tests.specs.BlockPoints.{child_before, child_at}
 use Rattle.block_extend.specs.BlockExtend.{back, forth, out_before, out_after, is_boundary, nowhere}
 use Rattle.block_extend.specs.declared.places.Place.{Place}

@@ -1,11 +1,11 @@
 -- The outermost nodes of a list, and those of a block-extended range that pass a test.
 use Rattle.std.specs.Prelude.{ℕ, Bool, List, [], ◌∷◌, if◌then◌else◌}
 use Rattle.std.specs.List.{filter, list_any}
-use Rattle.dom_model.specs.declared.Content.{Content}
-use Rattle.dom_model.specs.Forest.{Forest}
-use Rattle.live_range.specs.declared.places.Point.{Point}
+use Rattle.node_paths.specs.DomModel.declared.Content.{Content}
+use Rattle.node_paths.specs.DomModel.Forest.{Forest}
+use Rattle.node_tests.specs.LiveRange.declared.places.Point.{Point}
 use Rattle.node_tests.specs.Ranges.{contained_nodes}
-use Rattle.point_order.specs.PointOrder.{is_ancestor}
+use Rattle.node_tests.specs.PointOrder.PointOrder.{is_ancestor}
 
 -- each member that has no ancestor among those already taken
 abbrev pub gather_on : Forest Content → List ℕ → List ℕ → List ℕ

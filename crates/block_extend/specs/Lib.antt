@@ -5,3 +5,5 @@ pub mod Order
 pub mod Descendants
 pub mod Prohibited
 pub mod Gaps
+pub use Rattle.node_paths.specs as NodePaths
+pub use Rattle.node_tests.specs as NodeTests

@@ -1,10 +1,10 @@
 -- Prohibited paragraph children below a node (HTML Editing APIs, "prohibited paragraph child").
 use Rattle.std.specs.Prelude.{ℕ, Bool, false}
 use Rattle.std.specs.Option.{option_map_or}
-use Rattle.dom_model.specs.declared.Content.{Content}
-use Rattle.dom_model.specs.Contents.{name_of}
-use Rattle.dom_model.specs.Forest.{Forest}
-use Rattle.html_names.specs.ElementNames.{is_prohibited_child}
+use Rattle.node_paths.specs.DomModel.declared.Content.{Content}
+use Rattle.node_paths.specs.DomModel.Contents.{name_of}
+use Rattle.node_paths.specs.DomModel.Forest.{Forest}
+use Rattle.node_tests.specs.HtmlNames.ElementNames.{is_prohibited_child}
 use Rattle.block_extend.specs.Descendants.{has_descendant}
 
 -- an element that may not stand in a paragraph

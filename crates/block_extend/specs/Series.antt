@@ -2,8 +2,8 @@
 -- from the one before. Algorithms take lists series by series (HTML Editing APIs, "while the first
 -- member is the nextSibling of the last member").
 use Rattle.std.specs.Prelude.{ℕ, ◌+◌, Bool, List, [], ◌∷◌, if◌then◌else◌}
-use Rattle.dom_model.specs.declared.Content.{Content}
-use Rattle.dom_model.specs.Forest.{Forest, is_label, next_of}
+use Rattle.node_paths.specs.DomModel.declared.Content.{Content}
+use Rattle.node_paths.specs.DomModel.Forest.{Forest, is_label, next_of}
 
 -- how many members go on a series whose last member so far is x
 abbrev pub count_after : (ℕ → ℕ → Bool) → ℕ → List ℕ → ℕ

@@ -2,13 +2,13 @@
 
 ghost use Rattle.std.specs.Prelude.{◌≡◌, IfSome, true, false};
 ghost use Rattle.std.specs.Option.{option_map_or};
-ghost use Rattle.dom_model.specs.Forest.{first_of};
-ghost use Rattle.node_arena.specs.Held.{label};
+ghost use Rattle.node_paths.specs.DomModel.Forest.{first_of};
+ghost use Rattle.node_paths.specs.NodeArena.Held.{label};
 ghost use Rattle.node_paths.specs.Onward.{onward_at, IsInner};
 ghost use Rattle.block_extend.specs.Descendants.{has_in, has_descendant};
 
 use crate::gathering::Choice;
-use node_arena::{NodeRef, Nodes};
+use node_paths::arena::{NodeRef, Nodes};
 
 // Whether a node that passes stands in the tree of a node or of a later sibling.
 fn has_onward<N: Nodes, C: Choice<N>>(nodes: &N, first: Option<NodeRef>, choice: &C) -> bool

@@ -1,11 +1,11 @@
 //! The block-extended range.
 
 ghost use Rattle.std.specs.Prelude.{◌≡◌, ◌<◌, IfSome, codes};
-ghost use Rattle.dom_model.specs.Forest.{count_of};
-ghost use Rattle.node_arena.specs.Reads.{Names};
-ghost use Rattle.node_styles.specs.Lineage.{nearest_label};
-ghost use Rattle.node_styles.specs.OwnStyles.{is_named};
-ghost use Rattle.node_styles.specs.TurnBound.{turn_bound};
+ghost use Rattle.node_paths.specs.DomModel.Forest.{count_of};
+ghost use Rattle.node_paths.specs.NodeArena.Reads.{Names};
+ghost use Rattle.node_tests.specs.NodeStyles.Lineage.{nearest_label};
+ghost use Rattle.node_tests.specs.NodeStyles.OwnStyles.{is_named};
+ghost use Rattle.node_tests.specs.NodeStyles.TurnBound.{turn_bound};
 ghost use Rattle.block_extend.specs.BlockExtend as extend;
 ghost use Rattle.block_extend.specs.Gaps as gaps;
 ghost use Rattle.block_extend.specs.Gaps.{Stands};
@@ -13,10 +13,10 @@ ghost use Rattle.block_extend.specs.Gaps.{Stands};
 use crate::places::{
     Place, Way, is_end, is_start, place_after, place_at, place_before, point_of, step, stops,
 };
-use live_range::Point;
-use node_arena::{Content, NodeRef, Nodes};
-use node_styles::{Test, is_element_named, nearest, turn_bound};
-use point_order::node_of;
+use node_paths::arena::{Content, NodeRef, Nodes};
+use node_tests::boundary::node_of;
+use node_tests::dom_ranges::Point;
+use node_tests::styles::{Test, is_element_named, nearest, turn_bound};
 
 // An li.
 #[derive(Clone, Copy)]
@@ -24,7 +24,7 @@ struct ItemTest;
 
 impl Test for ItemTest {
     ghost use Rattle.std.specs.Prelude.{codes};
-    ghost use Rattle.node_styles.specs.OwnStyles.{is_named};
+    ghost use Rattle.node_tests.specs.NodeStyles.OwnStyles.{is_named};
 
     ghost test = { λ s. is_named (codes "li") };
 

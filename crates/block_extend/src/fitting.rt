@@ -4,9 +4,9 @@
 //! hundred.
 
 ghost use Rattle.std.specs.Prelude.{◌≡◌, codes};
-ghost use Rattle.node_styles.specs.Allowed.{allowed_in_name};
+ghost use Rattle.node_tests.specs.NodeStyles.Allowed.{allowed_in_name};
 
-use node_arena::{NodeRef, Nodes, has_name};
+use node_paths::arena::{NodeRef, Nodes, has_name};
 use node_tests::allowed_in_name;
 
 /// Whether a node is an allowed child of a div.

@@ -3,23 +3,23 @@
 ghost use Rattle.std.specs.Prelude.{◌≡◌, ◌<◌, IfOk, IfSome, filter, map};
 ghost use Rattle.std.specs.List.{All};
 ghost use Rattle.std.specs.Option.{option_map};
-ghost use Rattle.dom_model.specs.Forest.{count_of, is_label, IsWithin};
-ghost use Rattle.node_arena.specs.Held.{label};
-ghost use Rattle.point_order.specs.PointOrder.{is_ancestor};
+ghost use Rattle.node_paths.specs.DomModel.Forest.{count_of, is_label, IsWithin};
+ghost use Rattle.node_paths.specs.NodeArena.Held.{label};
+ghost use Rattle.node_tests.specs.PointOrder.PointOrder.{is_ancestor};
 ghost use Rattle.block_extend.specs.Gaps.{is_below, top_of, IsTaken};
 ghost use Rattle.block_extend.specs.Gather.{gather, gathered};
 ghost use Rattle.block_extend.specs.Order.{IsInOrder};
 
-use live_range::Point;
-use node_arena::{NodeList, NodeRef, Nodes};
+use node_paths::arena::{NodeList, NodeRef, Nodes};
+use node_tests::boundary::is_ancestor;
 use node_tests::contained_nodes;
-use point_order::is_ancestor;
+use node_tests::dom_ranges::Point;
 use std::alloc::{AllocError, Global};
 
 /// A test of the nodes that are to be gathered.
 pub trait Choice<N: Nodes> {
     ghost use Rattle.std.specs.Prelude.{ℕ, Bool};
-    ghost use Rattle.node_arena.specs.declared.NodeRef.{NodeRef};
+    ghost use Rattle.node_paths.specs.NodeArena.declared.NodeRef.{NodeRef};
 
     // which nodes pass, by their labels
     ghost chosen: { Self → N → ℕ → Bool };

@@ -1,15 +1,15 @@
 //! Places in a tree, told by the children beside them, and the steps from one to the next.
 
 ghost use Rattle.std.specs.Prelude.{◌≡◌, ◌<◌, ◌+◌, ◌-◌, ◌↔◌, IfSome, IsTrue, None};
-ghost use Rattle.dom_model.specs.Contents.{length_of};
-ghost use Rattle.dom_model.specs.Places.{index_of};
+ghost use Rattle.node_paths.specs.DomModel.Contents.{length_of};
+ghost use Rattle.node_paths.specs.DomModel.Places.{index_of};
 ghost use Rattle.node_tests.specs.BlockPoints as points;
 ghost use Rattle.block_extend.specs.BlockExtend as extend;
 ghost use Rattle.block_extend.specs.Gaps as gaps;
 ghost use Rattle.block_extend.specs.Gaps.{Leads, Stands};
 
-use live_range::Point;
-use node_arena::{Content, NodeRef, Nodes};
+use node_paths::arena::{Content, NodeRef, Nodes};
+use node_tests::dom_ranges::Point;
 use node_tests::{child_at, child_before, ends_before, is_root, starts_after};
 
 /// A place in a node, with the children beside it.

@@ -5,8 +5,8 @@ ghost use Rattle.block_extend.specs.Prohibited.{is_prohibited, is_above_prohibit
 
 use crate::descendants::has_descendant;
 use crate::gathering::Choice;
-use html_names::is_prohibited_child;
-use node_arena::{Content, NodeRef, Nodes};
+use node_paths::arena::{Content, NodeRef, Nodes};
+use node_tests::element_names::is_prohibited_child;
 
 /// Whether a node is an element that may not stand in a paragraph.
 pub fn is_prohibited<N: Nodes>(nodes: &N, node: NodeRef) -> bool

@@ -4,7 +4,7 @@ ghost use Rattle.std.specs.Prelude.{◌≡◌, ◌<◌, ◌≤◌, length, map};
 ghost use Rattle.std.specs.List.{All};
 ghost use Rattle.block_extend.specs.Series.{count_series, is_next};
 
-use node_arena::{NodeRef, Nodes};
+use node_paths::arena::{NodeRef, Nodes};
 
 /// Which member of a list goes on a series from which.
 pub trait Link<N: Nodes> {

@@ -4,27 +4,27 @@ use Rattle.std.specs.Prelude.{codes}
 use Rattle.std.specs.List.{filter, list_all}
 use Rattle.std.specs.Option.{option_map_or, option_and_then, unwrap_or}
 use Rattle.std.proofs.lemmas.Bool.{and_parts, or_cases, cases_Bool}
-use Rattle.css_value.specs.declared.values.Display.TheVariants as display_values
-use Rattle.css_value.specs.declared.values.WhiteSpace.{WhiteSpace}
-use Rattle.css_value.specs.declared.values.WhiteSpace.TheVariants as white_space_values
-use Rattle.css_value.specs.StyleText as text
-use Rattle.dom_model.specs.declared.Content.{Content}
-use Rattle.dom_model.specs.declared.Content.TheVariants.{Document, Element, Words, Remark}
-use Rattle.dom_model.specs.Contents.{name_in, is_image}
-use Rattle.dom_model.specs.Forest.{Forest, join, count_of, tree_of, parent_of, content_of, IsDistinct}
-use Rattle.dom_model.specs.Forest.Forest.{Nil, Tree}
-use Rattle.dom_model.proofs.Links.{join-Nil, tree_of_absent, eqb_refl_true}
-use Rattle.dom_model.proofs.Totals.{total-without}
-use Rattle.node_styles.specs.Blocks.{is_no_box, is_block_content, is_block, is_hidden, collapses, is_whitespace_under, is_whitespace_in, is_whitespace}
-use Rattle.node_styles.specs.OwnStyles.{own_display}
-use Rattle.node_styles.specs.Resolved.{display, white_space}
-use Rattle.node_tests.specs.CollapsedWhitespace.{is_words, is_words_content, is_collapsed_whitespace}
-use Rattle.node_tests.specs.Visible.{shows, is_boxless, shows_in, is_visible}
-use Rattle.edit_model.specs.Kept as bears
-use Rattle.edit_model.specs.Kept.{Letter, borne_by, is_thing, is_kept, is_empty, leaves, kept_leaves, has_no_kept_leaves}
-use Rattle.edit_model.proofs.Bearing.{bears-Tree}
-use Rattle.edit_model.proofs.IslandRuns.{root_content}
-use Rattle.edit_model.proofs.Trees.{tree_of-inside}
+use Rattle.edit_commands.specs.CssValue.declared.values.Display.TheVariants as display_values
+use Rattle.edit_commands.specs.CssValue.declared.values.WhiteSpace.{WhiteSpace}
+use Rattle.edit_commands.specs.CssValue.declared.values.WhiteSpace.TheVariants as white_space_values
+use Rattle.edit_commands.specs.CssValue.StyleText as text
+use Rattle.edit_commands.specs.DomModel.declared.Content.{Content}
+use Rattle.edit_commands.specs.DomModel.declared.Content.TheVariants.{Document, Element, Words, Remark}
+use Rattle.edit_commands.specs.DomModel.Contents.{name_in, is_image}
+use Rattle.edit_commands.specs.DomModel.Forest.{Forest, join, count_of, tree_of, parent_of, content_of, IsDistinct}
+use Rattle.edit_commands.specs.DomModel.Forest.Forest.{Nil, Tree}
+use Rattle.edit_commands.proofs.DomModel.Links.{join-Nil, tree_of_absent, eqb_refl_true}
+use Rattle.edit_commands.proofs.DomModel.Totals.{total-without}
+use Rattle.edit_commands.specs.NodeStyles.Blocks.{is_no_box, is_block_content, is_block, is_hidden, collapses, is_whitespace_under, is_whitespace_in, is_whitespace}
+use Rattle.edit_commands.specs.NodeStyles.OwnStyles.{own_display}
+use Rattle.edit_commands.specs.NodeStyles.Resolved.{display, white_space}
+use Rattle.edit_commands.specs.NodeTests.CollapsedWhitespace.{is_words, is_words_content, is_collapsed_whitespace}
+use Rattle.edit_commands.specs.NodeTests.Visible.{shows, is_boxless, shows_in, is_visible}
+use Rattle.edit_commands.specs.EditModel.Kept as bears
+use Rattle.edit_commands.specs.EditModel.Kept.{Letter, borne_by, is_thing, is_kept, is_empty, leaves, kept_leaves, has_no_kept_leaves}
+use Rattle.edit_commands.proofs.EditModel.Bearing.{bears-Tree}
+use Rattle.edit_commands.proofs.EditModel.IslandRuns.{root_content}
+use Rattle.edit_commands.proofs.EditModel.Trees.{tree_of-inside}
 
 -- ---- what a content tells
 

@@ -3,21 +3,21 @@ use Rattle.std.proofs.Common.{◌≡◌, ℕ, Bool, true, false, ◌&&◌, List,
 use Rattle.std.specs.Option.{option_map_or, option_and_then}
 use Rattle.std.specs.Prelude.{codes, bytes_eq}
 use Rattle.std.proofs.lemmas.Bool.{cases_Bool}
-use Rattle.dom_model.specs.declared.Content.{Content}
-use Rattle.dom_model.specs.declared.Content.TheVariants.{Document, Element, Words, Remark}
-use Rattle.dom_model.specs.declared.attributes.Attribute.{Attribute}
-use Rattle.dom_model.specs.Contents.{name_in, has_name, is_break}
-use Rattle.dom_model.specs.Forest.{content_of}
-use Rattle.css_value.proofs.Names.{same-name}
-use Rattle.node_styles.specs.NameClasses.{is_indentation, is_simple_indentation, is_simple_indentation_content, is_indentation_content}
-use Rattle.node_styles.specs.OwnStyles.{is_named}
-use Rattle.command_value.specs.Modifiable.{meets_value, is_simple_modifiable, is_simple_modifiable_content, is_simple_with}
-use Rattle.edit_model.specs.State.{State}
-use Rattle.edit_model.specs.Kept.{borne_by, is_thing}
+use Rattle.edit_commands.specs.DomModel.declared.Content.{Content}
+use Rattle.edit_commands.specs.DomModel.declared.Content.TheVariants.{Document, Element, Words, Remark}
+use Rattle.edit_commands.specs.DomModel.declared.attributes.Attribute.{Attribute}
+use Rattle.edit_commands.specs.DomModel.Contents.{name_in, has_name, is_break}
+use Rattle.edit_commands.specs.DomModel.Forest.{content_of}
+use Rattle.edit_commands.proofs.CssValue.Names.{same-name}
+use Rattle.edit_commands.specs.NodeStyles.NameClasses.{is_indentation, is_simple_indentation, is_simple_indentation_content, is_indentation_content}
+use Rattle.edit_commands.specs.NodeStyles.OwnStyles.{is_named}
+use Rattle.edit_commands.specs.CommandValue.Modifiable.{meets_value, is_simple_modifiable, is_simple_modifiable_content, is_simple_with}
+use Rattle.edit_commands.specs.EditModel.State.{State}
+use Rattle.edit_commands.specs.EditModel.Kept.{borne_by, is_thing}
 use Rattle.edit_laws.specs.MoveLaws.{IsBare}
-use Rattle.wrap_split.specs.declared.rule.Criterion.{Criterion}
-use Rattle.wrap_split.specs.declared.rule.Criterion.TheVariants.{Never, SameValue, Named, SimpleIndentation, Aligned}
-use Rattle.wrap_split.specs.Target.{meets, is_aligned}
+use Rattle.edit_commands.specs.WrapSplit.declared.rule.Criterion.{Criterion}
+use Rattle.edit_commands.specs.WrapSplit.declared.rule.Criterion.TheVariants.{Never, SameValue, Named, SimpleIndentation, Aligned}
+use Rattle.edit_commands.specs.WrapSplit.Target.{meets, is_aligned}
 use Rattle.command_laws.specs.WrapLaws.{NamesNoThing}
 
 -- ---- an image or a rule meets none

@@ -56,3 +56,4 @@ pub mod NoStates
 pub mod NewWraps
 pub mod TypingRuns
 pub mod ObjectRuns
+pub use Rattle.edit_laws.proofs as EditLaws

@@ -8,3 +8,4 @@ pub mod Deletion
 pub mod Typing
 pub mod Objects
 pub mod ListToggles
+pub use Rattle.edit_laws.specs as EditLaws

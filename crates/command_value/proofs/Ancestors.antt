@@ -2,14 +2,14 @@
 use Rattle.std.proofs.Common.{◌≡◌, ℕ, suc, ◌+◌, ◌<◌, ◌≤◌, cond, List, [], ◌∷◌, length, Option, Some, None, sym, ap, subst, ◌∙◌, refl, inl, inr, arith, eqb}
 use Rattle.std.proofs.lemmas.Bool.Decides.{eqb_tells}
 use Rattle.std.specs.Option.{option_map, option_or, unwrap_or}
-use Rattle.dom_model.specs.declared.Content.{Content}
-use Rattle.dom_model.specs.Document.{node_count}
-use Rattle.dom_model.specs.Forest.{Forest, Seen, total, count_of, IsDistinct, IsWithin, parent_of, content_of}
-use Rattle.dom_model.specs.Forest.Forest.{Nil, Tree}
-use Rattle.dom_model.proofs.Links.{seen}
-use Rattle.dom_model.proofs.Walks.{document_first}
-use Rattle.node_arena.specs.declared.NodeRef.{NodeRef}
-use Rattle.node_arena.specs.Reads.{IsValid}
+use Rattle.node_styles.specs.DomModel.declared.Content.{Content}
+use Rattle.node_styles.specs.DomModel.Document.{node_count}
+use Rattle.node_styles.specs.DomModel.Forest.{Forest, Seen, total, count_of, IsDistinct, IsWithin, parent_of, content_of}
+use Rattle.node_styles.specs.DomModel.Forest.Forest.{Nil, Tree}
+use Rattle.node_styles.proofs.DomModel.Links.{seen}
+use Rattle.node_styles.proofs.DomModel.Walks.{document_first}
+use Rattle.node_styles.specs.NodeArena.declared.NodeRef.{NodeRef}
+use Rattle.node_styles.specs.NodeArena.Reads.{IsValid}
 use Rattle.node_styles.specs.Lineage.{Ancestor, lineage_from, lineage}
 use Rattle.node_styles.proofs.Lineages.{ancestor, lineage-root, lineage-child}
 use Rattle.command_value.specs.Lines.{lineage_of}

@@ -3,9 +3,9 @@ use Rattle.std.proofs.Common.{◌≡◌, ℕ, Bool, true, false, cond, not, ◌|
 use Rattle.std.proofs.lemmas.Bool.{cases_Bool}
 use Rattle.std.specs.List.{find, list_any}
 use Rattle.std.specs.Option.{option_and_then}
-use Rattle.dom_model.specs.declared.Content.{Content}
-use Rattle.dom_model.specs.Forest.{Forest, content_of}
-use Rattle.node_arena.specs.declared.NodeRef.{NodeRef}
+use Rattle.node_styles.specs.DomModel.declared.Content.{Content}
+use Rattle.node_styles.specs.DomModel.Forest.{Forest, content_of}
+use Rattle.node_styles.specs.NodeArena.declared.NodeRef.{NodeRef}
 use Rattle.node_styles.specs.Blocks.{is_block_content}
 use Rattle.node_styles.specs.Lineage.{Ancestor, lineage, nearest}
 use Rattle.node_styles.specs.OwnStyles.{attribute, is_named}

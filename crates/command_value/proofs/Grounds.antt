@@ -1,12 +1,12 @@
 -- The background behind an element, turn by turn, and the element of a node.
 use Rattle.std.proofs.Common.{◌≡◌, ℕ, zero, suc, ◌<◌, ◌≤◌, Bool, true, false, cond, not, List, length, Option, Some, None, refl, sym, ap, ◌∙◌, arith}
 use Rattle.std.specs.Option.{option_map_or, option_and_then}
-use Rattle.dom_model.specs.declared.Content.{Content}
-use Rattle.dom_model.specs.Contents.{is_element_at}
-use Rattle.dom_model.specs.Forest.{Forest, IsDistinct, count_of, parent_of}
-use Rattle.dom_model.proofs.Links.{parent_count}
-use Rattle.css_value.specs.declared.colours.Colour.{Colour}
-use Rattle.html_names.specs.declared.commands.Command.{Command}
+use Rattle.node_styles.specs.DomModel.declared.Content.{Content}
+use Rattle.node_styles.specs.DomModel.Contents.{is_element_at}
+use Rattle.node_styles.specs.DomModel.Forest.{Forest, IsDistinct, count_of, parent_of}
+use Rattle.node_styles.proofs.DomModel.Links.{parent_count}
+use Rattle.node_styles.specs.CssValue.declared.colours.Colour.{Colour}
+use Rattle.node_styles.specs.HtmlNames.declared.commands.Command.{Command}
 use Rattle.node_styles.specs.Lineage.{Ancestor, lineage}
 use Rattle.node_styles.specs.Resolved.{background_color}
 use Rattle.command_value.specs.EffectiveValues.{if_element, element_above, background_at, value_at, element_of, effective}

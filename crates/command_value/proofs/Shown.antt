@@ -8,18 +8,18 @@ use Rattle.std.specs.Char.{is_ascii_digit}
 use Rattle.std.specs.Fmt.{decimal, digits}
 use Rattle.std.specs.List.{list_all}
 use Rattle.std.specs.Option.{option_map_or, is_none}
-use Rattle.css_value.specs.declared.colours.Colour.{Colour}
-use Rattle.css_value.specs.Colours.{colour_of, colour_text, transparent}
-use Rattle.css_value.specs.Values.{keyword_size, pixels_text}
-use Rattle.css_value.proofs.Numerals.{pixels-parts}
-use Rattle.css_value.proofs.PrintedColours.{colour-read_back}
-use Rattle.css_value.proofs.PrintedNumbers.{digits-decimal}
-use Rattle.css_value.specs.declared.decoration.DecorationLine.TheVariants.{Underline, LineThrough}
-use Rattle.css_value.specs.TextDecoration.{line_word}
-use Rattle.html_names.specs.ActivatedValues.{activated_values}
-use Rattle.html_names.specs.ElementNames.{is_one_of}
-use Rattle.html_names.specs.declared.commands.Command.{Command}
-use Rattle.html_names.specs.declared.commands.Command.TheVariants as command
+use Rattle.node_styles.specs.CssValue.declared.colours.Colour.{Colour}
+use Rattle.node_styles.specs.CssValue.Colours.{colour_of, colour_text, transparent}
+use Rattle.node_styles.specs.CssValue.Values.{keyword_size, pixels_text}
+use Rattle.node_styles.proofs.CssValue.Numerals.{pixels-parts}
+use Rattle.node_styles.proofs.CssValue.PrintedColours.{colour-read_back}
+use Rattle.node_styles.proofs.CssValue.PrintedNumbers.{digits-decimal}
+use Rattle.node_styles.specs.CssValue.declared.decoration.DecorationLine.TheVariants.{Underline, LineThrough}
+use Rattle.node_styles.specs.CssValue.TextDecoration.{line_word}
+use Rattle.node_styles.specs.HtmlNames.ActivatedValues.{activated_values}
+use Rattle.node_styles.specs.HtmlNames.ElementNames.{is_one_of}
+use Rattle.node_styles.specs.HtmlNames.declared.commands.Command.{Command}
+use Rattle.node_styles.specs.HtmlNames.declared.commands.Command.TheVariants as command
 use Rattle.command_value.specs.EffectiveValues.{script_by}
 use Rattle.command_value.specs.Equivalence.{components, is_same_bool, is_same_colour, are_same_colours, is_colour_command, are_equivalent, is_keyword_of, are_alike, alike}
 use Rattle.command_value.specs.Lines.{is_named_weight, is_heavy}

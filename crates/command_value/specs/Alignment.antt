@@ -1,12 +1,12 @@
 -- How a node is aligned (HTML Editing APIs, "alignment value").
 use Rattle.std.specs.Prelude.{ℕ, Bool, not, ◌&&◌, ◌||◌, List}
 use Rattle.std.specs.Option.{option_map_or}
-use Rattle.dom_model.specs.declared.Content.{Content}
-use Rattle.dom_model.specs.Contents.{is_element}
-use Rattle.dom_model.specs.Forest.{Forest}
-use Rattle.css_value.specs.declared.values.TextAlign.{TextAlign}
-use Rattle.css_value.specs.declared.values.TextAlign.TheVariants as text_align_values
-use Rattle.css_value.specs.Values.{text_align_keyword}
+use Rattle.node_styles.specs.DomModel.declared.Content.{Content}
+use Rattle.node_styles.specs.DomModel.Contents.{is_element}
+use Rattle.node_styles.specs.DomModel.Forest.{Forest}
+use Rattle.node_styles.specs.CssValue.declared.values.TextAlign.{TextAlign}
+use Rattle.node_styles.specs.CssValue.declared.values.TextAlign.TheVariants as text_align_values
+use Rattle.node_styles.specs.CssValue.Values.{text_align_keyword}
 use Rattle.node_styles.specs.Blocks.{own_or_inline, has_no_box}
 use Rattle.node_styles.specs.Lineage.{nearest_label}
 use Rattle.node_styles.specs.Resolved.{text_align}

@@ -3,19 +3,19 @@
 use Rattle.std.specs.Prelude.{ℕ, zero, suc, Bool, true, false, ◌&&◌, if◌then◌else◌, List, [], ◌∷◌, Option, Some, None, is_some, codes, decimal}
 use Rattle.std.specs.List.{list_any}
 use Rattle.std.specs.Option.{option_map_or, option_and_then}
-use Rattle.dom_model.specs.declared.Content.{Content}
-use Rattle.dom_model.specs.Contents.{is_element_at}
-use Rattle.dom_model.specs.Forest.{Forest, parent_of}
-use Rattle.css_value.specs.declared.colours.Colour.{Colour}
-use Rattle.css_value.specs.declared.decoration.DecorationLine.{DecorationLine}
-use Rattle.css_value.specs.declared.decoration.DecorationLine.TheVariants.{Underline, LineThrough}
-use Rattle.css_value.specs.declared.decoration.TextDecoration.{TextDecoration}
-use Rattle.css_value.specs.Colours.{colour_text}
-use Rattle.css_value.specs.TextDecoration.{line_word}
-use Rattle.css_value.specs.Values.{font_style_keyword, pixels_text}
-use Rattle.html_names.specs.declared.commands.Command.{Command}
-use Rattle.html_names.specs.ActivatedValues.{activated_values}
-use Rattle.html_names.specs.ElementNames.{is_one_of}
+use Rattle.node_styles.specs.DomModel.declared.Content.{Content}
+use Rattle.node_styles.specs.DomModel.Contents.{is_element_at}
+use Rattle.node_styles.specs.DomModel.Forest.{Forest, parent_of}
+use Rattle.node_styles.specs.CssValue.declared.colours.Colour.{Colour}
+use Rattle.node_styles.specs.CssValue.declared.decoration.DecorationLine.{DecorationLine}
+use Rattle.node_styles.specs.CssValue.declared.decoration.DecorationLine.TheVariants.{Underline, LineThrough}
+use Rattle.node_styles.specs.CssValue.declared.decoration.TextDecoration.{TextDecoration}
+use Rattle.node_styles.specs.CssValue.Colours.{colour_text}
+use Rattle.node_styles.specs.CssValue.TextDecoration.{line_word}
+use Rattle.node_styles.specs.CssValue.Values.{font_style_keyword, pixels_text}
+use Rattle.node_styles.specs.HtmlNames.declared.commands.Command.{Command}
+use Rattle.node_styles.specs.HtmlNames.ActivatedValues.{activated_values}
+use Rattle.node_styles.specs.HtmlNames.ElementNames.{is_one_of}
 use Rattle.node_styles.specs.Blocks.{is_block_content}
 use Rattle.node_styles.specs.Lineage.{Ancestor, lineage, nearest, has_in_lineage}
 use Rattle.node_styles.specs.OwnStyles.{attribute, is_named, own_text_decoration}

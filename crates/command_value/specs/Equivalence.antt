@@ -2,11 +2,11 @@
 -- equivalent values"). A value is a text or null.
 use Rattle.std.specs.Prelude.{ℕ, ◌==◌, Bool, true, false, not, ◌&&◌, ◌||◌, if◌then◌else◌, List, Option, Some, None, bytes_eq, codes}
 use Rattle.std.specs.Option.{option_map_or}
-use Rattle.css_value.specs.declared.colours.Colour.{Colour}
-use Rattle.css_value.specs.Colours.{colour_of, transparent}
-use Rattle.css_value.specs.Values.{keyword_size, pixels_text}
-use Rattle.html_names.specs.declared.commands.Command.{Command}
-use Rattle.html_names.specs.declared.commands.Command.TheVariants as command
+use Rattle.node_styles.specs.CssValue.declared.colours.Colour.{Colour}
+use Rattle.node_styles.specs.CssValue.Colours.{colour_of, transparent}
+use Rattle.node_styles.specs.CssValue.Values.{keyword_size, pixels_text}
+use Rattle.node_styles.specs.HtmlNames.declared.commands.Command.{Command}
+use Rattle.node_styles.specs.HtmlNames.declared.commands.Command.TheVariants as command
 
 -- bold and 700, or normal and 400
 abbrev pub are_bold : List ℕ → List ℕ → Bool

@@ -1,8 +1,8 @@
 -- What the code of command values has between: the lineage of a node that may not be there, where
 -- its inline part ends, and the names of weights. No public clause cites this module.
 use Rattle.std.specs.Prelude.{ℕ, ◌==◌, Bool, ◌&&◌, ◌||◌, bytes_eq, codes, List, [], Option, Some, None}
-use Rattle.dom_model.specs.declared.Content.{Content}
-use Rattle.dom_model.specs.Forest.{Forest}
+use Rattle.node_styles.specs.DomModel.declared.Content.{Content}
+use Rattle.node_styles.specs.DomModel.Forest.{Forest}
 use Rattle.node_styles.specs.Blocks.{is_block_content}
 use Rattle.node_styles.specs.Lineage.{Ancestor, lineage}
 use Rattle.node_styles.specs.OwnStyles.{is_named}

@@ -3,16 +3,16 @@
 use Rattle.std.specs.Prelude.{ℕ, Bool, false, not, ◌&&◌, ◌||◌, List, [], ◌∷◌, Option, Some, is_some, bytes_eq, codes}
 use Rattle.std.specs.List.{list_all}
 use Rattle.std.specs.Option.{option_map_or}
-use Rattle.dom_model.specs.declared.Content.{Content}
-use Rattle.dom_model.specs.declared.attributes.Attribute.{Attribute}
-use Rattle.dom_model.specs.Contents.{attributes_in}
-use Rattle.dom_model.specs.Forest.{Forest, content_of}
-use Rattle.css_value.specs.declared.only.Only.{Only}
-use Rattle.css_value.specs.declared.only.Only.TheVariants as only
-use Rattle.css_value.specs.DeclarationList.{declarations_in, names_of, value_of}
-use Rattle.css_value.specs.OnlyGroup.{sets_only}
-use Rattle.html_names.specs.declared.commands.Command.{Command}
-use Rattle.html_names.specs.ElementNames.{is_one_of}
+use Rattle.node_styles.specs.DomModel.declared.Content.{Content}
+use Rattle.node_styles.specs.DomModel.declared.attributes.Attribute.{Attribute}
+use Rattle.node_styles.specs.DomModel.Contents.{attributes_in}
+use Rattle.node_styles.specs.DomModel.Forest.{Forest, content_of}
+use Rattle.node_styles.specs.CssValue.declared.only.Only.{Only}
+use Rattle.node_styles.specs.CssValue.declared.only.Only.TheVariants as only
+use Rattle.node_styles.specs.CssValue.DeclarationList.{declarations_in, names_of, value_of}
+use Rattle.node_styles.specs.CssValue.OnlyGroup.{sets_only}
+use Rattle.node_styles.specs.HtmlNames.declared.commands.Command.{Command}
+use Rattle.node_styles.specs.HtmlNames.ElementNames.{is_one_of}
 use Rattle.node_styles.specs.OwnStyles.{is_named}
 use Rattle.command_value.specs.EffectiveValues.{effective}
 use Rattle.command_value.specs.Equivalence.{equivalent, alike}

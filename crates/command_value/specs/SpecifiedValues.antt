@@ -2,19 +2,19 @@
 -- value"). A value is a text or null.
 use Rattle.std.specs.Prelude.{ℕ, Bool, true, false, if◌then◌else◌, List, [], ◌∷◌, Option, Some, None, is_some, codes}
 use Rattle.std.specs.Option.{option_map, option_map_or, option_and_then, option_or}
-use Rattle.dom_model.specs.declared.Content.{Content}
-use Rattle.dom_model.specs.Contents.{is_element, name_in}
-use Rattle.dom_model.specs.Forest.{Forest, content_of}
-use Rattle.css_value.specs.declared.decoration.DecorationLine.{DecorationLine}
-use Rattle.css_value.specs.declared.decoration.DecorationLine.TheVariants.{Underline, LineThrough}
-use Rattle.css_value.specs.declared.values.Display.{Display}
-use Rattle.css_value.specs.declared.values.Display.TheVariants as display
-use Rattle.css_value.specs.Colours.{colour_of}
-use Rattle.css_value.specs.SizeKeywords.{size_keyword}
-use Rattle.css_value.specs.TextDecoration.{line_word, has_line}
-use Rattle.css_value.specs.Values.{font_weight_of, font_style_of, font_size_of}
-use Rattle.html_names.specs.declared.commands.Command.{Command}
-use Rattle.html_names.specs.ElementNames.{is_one_of}
+use Rattle.node_styles.specs.DomModel.declared.Content.{Content}
+use Rattle.node_styles.specs.DomModel.Contents.{is_element, name_in}
+use Rattle.node_styles.specs.DomModel.Forest.{Forest, content_of}
+use Rattle.node_styles.specs.CssValue.declared.decoration.DecorationLine.{DecorationLine}
+use Rattle.node_styles.specs.CssValue.declared.decoration.DecorationLine.TheVariants.{Underline, LineThrough}
+use Rattle.node_styles.specs.CssValue.declared.values.Display.{Display}
+use Rattle.node_styles.specs.CssValue.declared.values.Display.TheVariants as display
+use Rattle.node_styles.specs.CssValue.Colours.{colour_of}
+use Rattle.node_styles.specs.CssValue.SizeKeywords.{size_keyword}
+use Rattle.node_styles.specs.CssValue.TextDecoration.{line_word, has_line}
+use Rattle.node_styles.specs.CssValue.Values.{font_weight_of, font_style_of, font_size_of}
+use Rattle.node_styles.specs.HtmlNames.declared.commands.Command.{Command}
+use Rattle.node_styles.specs.HtmlNames.ElementNames.{is_one_of}
 use Rattle.node_styles.specs.Blocks.{own_or_inline}
 use Rattle.node_styles.specs.LegacySizes.{legacy_size_of}
 use Rattle.node_styles.specs.OwnStyles.{attribute, is_named, declared, family_of, font_attribute, family_hint}

@@ -1,11 +1,11 @@
 -- What the values of an inline command are about (HTML Editing APIs, "relevant CSS property",
 -- "inline command activated values").
 use Rattle.std.specs.Prelude.{Option, Some, None}
-use Rattle.css_value.specs.declared.decoration.DecorationLine.TheVariants.{Underline, LineThrough}
-use Rattle.html_names.specs.declared.commands.Command.{Command}
-use Rattle.html_names.specs.declared.commands.Command.TheVariants as command
-use Rattle.style_table.specs.declared.Property.{Property}
-use Rattle.style_table.specs.declared.Property.TheVariants as property
+use Rattle.node_styles.specs.CssValue.declared.decoration.DecorationLine.TheVariants.{Underline, LineThrough}
+use Rattle.node_styles.specs.HtmlNames.declared.commands.Command.{Command}
+use Rattle.node_styles.specs.HtmlNames.declared.commands.Command.TheVariants as command
+use Rattle.node_styles.specs.StyleTable.declared.Property.{Property}
+use Rattle.node_styles.specs.StyleTable.declared.Property.TheVariants as property
 use Rattle.command_value.specs.declared.subject.Subject.{Subject}
 use Rattle.command_value.specs.declared.subject.Subject.TheVariants.{Link, Background, Script, Line, Weight, Slant, Family, Size, Foreground, Nothing}
 

@@ -1,7 +1,7 @@
 -- The text of a value that isn't printed yet.
 use Rattle.std.specs.Prelude.{ℕ, List, Option, Some, None, decimal}
-use Rattle.css_value.specs.Colours.{colour_text}
-use Rattle.css_value.specs.Values.{font_style_keyword, pixels_text}
+use Rattle.node_styles.specs.CssValue.Colours.{colour_text}
+use Rattle.node_styles.specs.CssValue.Values.{font_style_keyword, pixels_text}
 use Rattle.command_value.specs.declared.value.Value.{Value}
 use Rattle.command_value.specs.declared.value.Value.TheVariants.{Null, Text, Weight, Slant, Pixels, Shade}
 

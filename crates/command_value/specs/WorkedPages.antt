@@ -1,9 +1,9 @@
 -- Small trees, to show what the definitions say of them.
 use Rattle.std.specs.Prelude.{ℕ, List, [], ◌∷◌, codes}
-use Rattle.dom_model.specs.declared.Content.{Content}
-use Rattle.dom_model.specs.declared.Content.TheVariants.{Document, Element, Words}
-use Rattle.dom_model.specs.Forest.{Forest}
-use Rattle.dom_model.specs.Forest.Forest.{Nil, Tree}
+use Rattle.node_styles.specs.DomModel.declared.Content.{Content}
+use Rattle.node_styles.specs.DomModel.declared.Content.TheVariants.{Document, Element, Words}
+use Rattle.node_styles.specs.DomModel.Forest.{Forest}
+use Rattle.node_styles.specs.DomModel.Forest.Forest.{Nil, Tree}
 
 -- a document with one child
 abbrev pub page : Content → Forest Content → Forest Content

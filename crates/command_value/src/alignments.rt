@@ -3,8 +3,8 @@
 ghost use Rattle.std.specs.Prelude.{◌≡◌};
 ghost use Rattle.command_value.specs.Alignment as spec;
 
-use css_value::{Display, TextAlign};
-use node_arena::{Content, NodeRef, Nodes};
+use node_styles::arena::{Content, NodeRef, Nodes};
+use node_styles::css::{Display, TextAlign};
 use node_styles::{Test, nearest, own_or_inline, text_align};
 
 // An element in a box of its own.

@@ -3,7 +3,7 @@
 ghost use Rattle.std.specs.Prelude.{◌≡◌, IfOk};
 ghost use Rattle.std.specs.List.{list_any};
 ghost use Rattle.std.specs.Option.{option_copied};
-ghost use Rattle.node_arena.specs.Reads.{Names};
+ghost use Rattle.node_styles.specs.NodeArena.Reads.{Names};
 ghost use Rattle.node_styles.specs.Lineage.{lineage, has_in_lineage};
 ghost use Rattle.node_styles.specs.OwnStyles.{is_named};
 ghost use Rattle.node_styles.specs.Resolved.{font_family};
@@ -15,10 +15,10 @@ ghost use Rattle.command_value.specs.ValueTexts.{value_text};
 use crate::specified_values::line_chars;
 use crate::subject::{Subject, subject_of};
 use crate::value::Value;
-use css_value::{Colour, DecorationLine};
-use dom_model::Chars;
-use html_names::Command;
-use node_arena::{Content, Kind, NodeRef, Nodes};
+use node_styles::arena::{Content, Kind, NodeRef, Nodes};
+use node_styles::css::{Colour, DecorationLine};
+use node_styles::dom::Chars;
+use node_styles::element_names::Command;
 use node_styles::{
     Family, Test, attribute, background_color, color, font_family, font_size, font_style,
     font_weight, has_in_lineage, is_block_content, is_element, is_element_named, nearest,

@@ -2,12 +2,12 @@
 
 ghost use Rattle.std.specs.Prelude.{◌≡◌, ◌&&◌, ◌||◌, bytes_eq, map};
 ghost use Rattle.std.specs.Option.{option_copied};
-ghost use Rattle.css_value.specs.Colours.{colour_text};
+ghost use Rattle.node_styles.specs.CssValue.Colours.{colour_text};
 ghost use Rattle.command_value.specs.Equivalence as spec;
 
-use css_value::{Colour, has_codes, is_pixels, keyword_size};
-use dom_model::Chars;
-use html_names::Command;
+use node_styles::css::{Colour, has_codes, is_pixels, keyword_size};
+use node_styles::dom::Chars;
+use node_styles::element_names::Command;
 
 // Whether two texts are bold and 700, or normal and 400.
 fn are_bold(a: &[char], b: &[char]) -> bool

@@ -20,6 +20,8 @@ pub use matching::{has_alike_value, is_activated, meets_value, specifies, specif
 pub use modifiable::{
     is_modifiable, is_modifiable_element, is_simple_modifiable, is_simple_modifiable_element,
 };
+pub use node_styles as styles;
+pub use node_styles::{css, properties};
 pub use specified_values::{specified, specified_value};
 pub use subject::{Subject, relevant_property, subject_of};
 pub use value::Value;

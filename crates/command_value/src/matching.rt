@@ -2,11 +2,11 @@
 
 ghost use Rattle.std.specs.Prelude.{◌≡◌, Bool, is_some, bytes_eq, decimal, Some};
 ghost use Rattle.std.specs.Option.{option_map_or, option_copied};
-ghost use Rattle.css_value.specs.Colours.{colour_text};
-ghost use Rattle.css_value.specs.Values.{font_style_keyword, pixels_text};
-ghost use Rattle.html_names.specs.ActivatedValues.{activated_values};
-ghost use Rattle.html_names.specs.ElementNames.{is_one_of};
-ghost use Rattle.html_names.specs.declared.commands.Command.TheVariants as command;
+ghost use Rattle.node_styles.specs.CssValue.Colours.{colour_text};
+ghost use Rattle.node_styles.specs.CssValue.Values.{font_style_keyword, pixels_text};
+ghost use Rattle.node_styles.specs.HtmlNames.ActivatedValues.{activated_values};
+ghost use Rattle.node_styles.specs.HtmlNames.ElementNames.{is_one_of};
+ghost use Rattle.node_styles.specs.HtmlNames.declared.commands.Command.TheVariants as command;
 ghost use Rattle.command_value.specs.EffectiveValues as effective;
 ghost use Rattle.command_value.specs.Equivalence as equivalence;
 ghost use Rattle.command_value.specs.Lines.{is_heavy, is_named_weight};
@@ -21,11 +21,11 @@ use crate::effective_values::{
 use crate::equivalence::{are_alike, components, is_equivalent, is_same_colour};
 use crate::modifiable::is_simple_modifiable_element;
 use crate::specified_values::specified_value;
-use css_value::{
+use node_styles::arena::{NodeRef, Nodes};
+use node_styles::css::{
     Colour, DecorationLine, FontStyle, has_codes, is_decimal, is_pixels, keyword_size,
 };
-use html_names::Command;
-use node_arena::{NodeRef, Nodes};
+use node_styles::element_names::Command;
 use node_styles::{color, font_size, font_style, font_weight};
 
 fn is_heavy(weight: u16) -> bool

@@ -6,9 +6,9 @@ ghost use Rattle.std.specs.Str.{bytes_eq};
 ghost use Rattle.command_value.specs.Modifiable as spec;
 
 use crate::specified_values::{is_named_in, is_one_of};
-use css_value::{Only, find, has_codes, sets_only};
-use dom_model::Attributes;
-use node_arena::{Content, NodeRef, Nodes};
+use node_styles::arena::{Content, NodeRef, Nodes};
+use node_styles::css::{Only, find, has_codes, sets_only};
+use node_styles::dom::Attributes;
 use node_styles::is_element_named;
 use std::alloc::AllocError;
 

@@ -4,19 +4,19 @@ ghost use Rattle.std.specs.Prelude.{◌≡◌, Bool, IfOk};
 ghost use Rattle.std.specs.Option.{option_copied, option_map_or};
 ghost use Rattle.std.specs.List.{list_any};
 ghost use Rattle.std.specs.Str.{bytes_eq};
-ghost use Rattle.dom_model.specs.Contents.{name_in};
-ghost use Rattle.css_value.specs.Colours.{colour_of};
-ghost use Rattle.css_value.specs.TextDecoration.{line_word};
+ghost use Rattle.node_styles.specs.DomModel.Contents.{name_in};
+ghost use Rattle.node_styles.specs.CssValue.Colours.{colour_of};
+ghost use Rattle.node_styles.specs.CssValue.TextDecoration.{line_word};
 ghost use Rattle.command_value.specs.SpecifiedValues as specified;
 
 use crate::subject::{Subject, subject_of};
-use css_value::{
+use node_styles::arena::{Content, NodeRef, Nodes};
+use node_styles::css::{
     Colour, DecorationLine, Display, has_line, read_font_size, read_font_style, read_font_weight,
     size_keyword,
 };
-use dom_model::Chars;
-use html_names::Command;
-use node_arena::{Content, NodeRef, Nodes};
+use node_styles::dom::Chars;
+use node_styles::element_names::Command;
 use node_styles::{
     attribute, declared, family_hint, font_attribute, is_element_named, own_or_inline,
     read_legacy_size,

@@ -3,9 +3,9 @@
 ghost use Rattle.std.specs.Prelude.{◌≡◌};
 ghost use Rattle.command_value.specs.Subjects as subjects;
 
-use css_value::DecorationLine;
-use html_names::Command;
-use style_table::Property;
+use node_styles::css::DecorationLine;
+use node_styles::element_names::Command;
+use node_styles::properties::Property;
 
 /// What the values of a command are about.
 #[derive(Clone, Copy)]

@@ -3,8 +3,8 @@
 ghost use Rattle.std.specs.Prelude.{◌≡◌, IfOk, is_none};
 ghost use Rattle.command_value.specs.ValueTexts.{value_text};
 
-use css_value::{Colour, FontStyle, print_font_size, print_font_weight};
-use dom_model::Chars;
+use node_styles::css::{Colour, FontStyle, print_font_size, print_font_weight};
+use node_styles::dom::Chars;
 use std::alloc::{AllocError, Global};
 
 /// A command's value: null, a text as it is written, or what its text stands for.

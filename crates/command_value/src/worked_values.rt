@@ -2,7 +2,7 @@
 //! contract is the rows.
 
 ghost use Rattle.std.specs.Prelude.{◌≡◌, Bool, Some, None, codes};
-ghost use Rattle.html_names.specs.declared.commands.Command.TheVariants as command;
+ghost use Rattle.node_styles.specs.HtmlNames.declared.commands.Command.TheVariants as command;
 ghost use Rattle.command_value.specs.EffectiveValues as effective;
 ghost use Rattle.command_value.specs.Equivalence as values;
 ghost use Rattle.command_value.specs.SpecifiedValues as specified;

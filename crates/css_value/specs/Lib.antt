@@ -7,3 +7,4 @@ pub mod Numbers
 pub mod Colours
 pub mod Values
 pub mod TextDecoration
+pub use Rattle.html_names.specs as HtmlNames

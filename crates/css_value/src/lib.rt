@@ -19,6 +19,7 @@ pub use declarations::Declarations;
 pub use decoration::{
     DecorationLine, TextDecoration, has_line, read_text_decoration, without_line,
 };
+pub use html_names as element_names;
 pub use only::{Only, sets_only};
 pub use printed::{is_decimal, is_pixels};
 pub use readers::find;

@@ -1,12 +1,12 @@
 -- The deepest list to join, by the parent of a node.
 use Rattle.std.proofs.Common.{◌≡◌, ℕ, ◌<◌, Bool, true, false, List, [], ◌∷◌, map, Option, Some, None, refl, ◌∙◌}
 use Rattle.std.specs.List.{find}
-use Rattle.dom_model.specs.declared.Content.{Content}
-use Rattle.dom_model.specs.Forest.{count_of, IsDistinct, parent_of}
-use Rattle.dom_model.proofs.Parts.{at_label}
+use Rattle.edit_model.specs.DomModel.declared.Content.{Content}
+use Rattle.edit_model.specs.DomModel.Forest.{count_of, IsDistinct, parent_of}
+use Rattle.edit_model.proofs.DomModel.Parts.{at_label}
 use Rattle.edit_model.specs.State.{State}
-use Rattle.node_styles.specs.Lineage.{Ancestor, lineage}
-use Rattle.node_styles.proofs.Lineages.{ancestor, lineage-root, lineage-child}
+use Rattle.inline_value.specs.NodeStyles.Lineage.{Ancestor, lineage}
+use Rattle.inline_value.proofs.NodeStyles.Lineages.{ancestor, lineage-root, lineage-child}
 use Rattle.delete_core.specs.Merging.{joins_next, list_to_join}
 
 module _ (s : State) (once : IsDistinct s.trees) (l : ℕ) (here : 0 < count_of s.trees l) where

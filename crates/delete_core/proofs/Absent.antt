@@ -1,12 +1,12 @@
 -- What is told of a label that isn't there.
 use Rattle.std.proofs.Common.{◌≡◌, ℕ, zero, suc, ◌<◌, List, [], Bool, true, false, Option, None, refl, ap, arith}
 use Rattle.std.specs.Prelude.{slice_get, nat_lt}
-use Rattle.dom_model.specs.declared.Content.{Content}
-use Rattle.dom_model.specs.Contents.{length_of}
-use Rattle.dom_model.specs.Forest.{Forest, count_of, parent_of, content_of, children_of}
-use Rattle.dom_model.proofs.Stands.{seek_absent}
-use Rattle.live_range.specs.declared.places.Point.{Point}
-use Rattle.node_tests.specs.BlockPoints.{child_before, child_at}
+use Rattle.edit_model.specs.DomModel.declared.Content.{Content}
+use Rattle.edit_model.specs.DomModel.Contents.{length_of}
+use Rattle.edit_model.specs.DomModel.Forest.{Forest, count_of, parent_of, content_of, children_of}
+use Rattle.edit_model.proofs.DomModel.Stands.{seek_absent}
+use Rattle.edit_model.specs.LiveRange.declared.places.Point.{Point}
+use Rattle.inline_value.specs.NodeTests.BlockPoints.{child_before, child_at}
 use Rattle.delete_core.specs.Whitespace.{text_of, char_at, char_before}
 
 module _ (f : Forest Content) (l : ℕ) (none : count_of f l ≡ 0) where

@@ -1,20 +1,20 @@
 -- What a walk over whitespace knows of a node by the one before it, from which the standard's walk passes it.
 use Rattle.std.proofs.Common.{◌≡◌, ℕ, zero, suc, ◌+◌, ◌≤◌, Bool, true, false, cond, not, Option, Some, None, refl, sym, ap, subst, ◌∙◌, inl, inr, arith}
 use Rattle.std.specs.Option.{option_map}
-use Rattle.dom_model.specs.declared.Content.{Content}
-use Rattle.dom_model.specs.Contents.{length_of}
-use Rattle.dom_model.specs.Forest.{Forest, parent_of}
-use Rattle.dom_model.specs.Places.{index_of}
-use Rattle.live_range.specs.declared.places.Point.{Point}
-use Rattle.node_arena.specs.declared.NodeRef.{NodeRef}
-use Rattle.node_arena.specs.Reads.{IsValid}
-use Rattle.node_styles.specs.TurnBound.{turn_bound}
-use Rattle.node_tests.specs.Sides.{other}
-use Rattle.node_tests.specs.BlockPoints.{child_before, child_at, edge, is_block_boundary}
-use Rattle.node_tests.specs.LineBreaks.{Place, Turn, end_of, own_place, out_to, child_beside, go_past, turn_to, walk, meets_break, follows_break, precedes_break}
-use Rattle.node_tests.specs.LineBreaks.Turn.{Answer, GoOn}
-use Rattle.node_tests.specs.Visible.{is_visible}
-use Rattle.node_tests.proofs.Reaching.{at_child}
+use Rattle.edit_model.specs.DomModel.declared.Content.{Content}
+use Rattle.edit_model.specs.DomModel.Contents.{length_of}
+use Rattle.edit_model.specs.DomModel.Forest.{Forest, parent_of}
+use Rattle.edit_model.specs.DomModel.Places.{index_of}
+use Rattle.edit_model.specs.LiveRange.declared.places.Point.{Point}
+use Rattle.edit_model.specs.NodeArena.declared.NodeRef.{NodeRef}
+use Rattle.edit_model.specs.NodeArena.Reads.{IsValid}
+use Rattle.inline_value.specs.NodeStyles.TurnBound.{turn_bound}
+use Rattle.inline_value.specs.NodeTests.Sides.{other}
+use Rattle.inline_value.specs.NodeTests.BlockPoints.{child_before, child_at, edge, is_block_boundary}
+use Rattle.inline_value.specs.NodeTests.LineBreaks.{Place, Turn, end_of, own_place, out_to, child_beside, go_past, turn_to, walk, meets_break, follows_break, precedes_break}
+use Rattle.inline_value.specs.NodeTests.LineBreaks.Turn.{Answer, GoOn}
+use Rattle.inline_value.specs.NodeTests.Visible.{is_visible}
+use Rattle.inline_value.proofs.NodeTests.Reaching.{at_child}
 use Rattle.edit_model.specs.State.{State}
 use Rattle.edit_model.specs.Confined.{is_inside}
 use Rattle.delete_core.specs.Places.{at, start_in, end_in, before_node, after_node, if_inside}

@@ -7,3 +7,4 @@ pub mod Recordings
 pub mod Above
 pub mod Shown
 pub mod Stuck
+pub mod Below

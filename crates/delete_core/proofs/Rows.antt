@@ -1,7 +1,7 @@
 -- A turn of the loop that lists a line, and its end.
 use Rattle.std.proofs.Common.{◌≡◌, ℕ, zero, suc, ◌-◌, ◌<◌, ◌≤◌, List, [], ◌∷◌, refl, arith}
 use Rattle.edit_model.specs.State.{State}
-use Rattle.wrap_split.specs.Wrap.{list_on}
+use Rattle.inline_value.specs.WrapSplit.Wrap.{list_on}
 use Rattle.delete_core.specs.Merging.{next_in_line, line_after}
 
 suc-sub-one : (n : ℕ) → suc n - 1 ≡ n

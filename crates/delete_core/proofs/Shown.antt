@@ -1,14 +1,14 @@
 -- Whether a child of a node is visible, by steps from the first child.
 use Rattle.std.proofs.Common.{◌≡◌, Bool, true, false, Option, Some, None, refl, sym, ap, ◌∙◌}
 use Rattle.std.specs.List.{list_any}
-use Rattle.dom_model.specs.Forest.{first_of, next_of}
-use Rattle.node_arena.specs.declared.NodeRef.{NodeRef}
-use Rattle.node_tests.specs.Visible.{is_visible}
+use Rattle.edit_model.specs.DomModel.Forest.{first_of, next_of}
+use Rattle.edit_model.specs.NodeArena.declared.NodeRef.{NodeRef}
+use Rattle.inline_value.specs.NodeTests.Visible.{is_visible}
 use Rattle.edit_model.specs.Gives.{label_of}
-use Rattle.edit_doc.specs.Whole.{Whole, IsDoc}
-use Rattle.edit_doc.specs.Held.{Holds, IfHeld, Finds}
-use Rattle.edit_doc.proofs.Children.{IsChild}
-use Rattle.edit_actions.proofs.Children.{rest_at, all_rest, rest_is}
+use Rattle.inline_value.specs.EditDoc.Whole.{Whole, IsDoc}
+use Rattle.inline_value.specs.EditDoc.Held.{Holds, IfHeld, Finds}
+use Rattle.inline_value.proofs.EditDoc.Children.{IsChild}
+use Rattle.inline_value.proofs.EditActions.Children.{rest_at, all_rest, rest_is}
 use Rattle.delete_core.specs.Erasing.{shows_child}
 
 pub none_shows : (d : Whole) (o : Option NodeRef) → o ≡ None → list_any (is_visible d.state.trees) (rest_at d o) ≡ false

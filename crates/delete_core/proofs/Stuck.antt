@@ -2,13 +2,13 @@
 use Rattle.std.proofs.Common.{◌≡◌, ℕ, zero, suc, Bool, true, false, not, ◌||◌, if◌then◌else◌, List, [], ◌∷◌, Option, Some, None, refl, sym, ap, ◌∙◌}
 use Rattle.std.specs.Prelude.{is_none}
 use Rattle.std.specs.Option.{option_map_or}
-use Rattle.dom_model.specs.Forest.{first_in, last_in, parent_of}
+use Rattle.edit_model.specs.DomModel.Forest.{first_in, last_in, parent_of}
 use Rattle.edit_model.specs.Confined.{is_editable_for}
 use Rattle.edit_model.specs.Run.{Run, final, value, look, answer, ◌>>=◌, while_at_most}
 use Rattle.edit_model.specs.State.{State}
 use Rattle.edit_model.proofs.Steps.{final-look, final-answer, final-bind, value-bind, value-answer}
-use Rattle.edit_actions.specs.Siblings.{first_parent, members}
-use Rattle.wrap_split.specs.Split.{is_void_thing, split_at, split_members, split_parent}
+use Rattle.inline_value.specs.EditActions.Siblings.{first_parent, members}
+use Rattle.inline_value.specs.WrapSplit.Split.{is_void_thing, split_at, split_members, split_parent}
 use Rattle.delete_core.specs.Gaps.{is_stuck}
 use Rattle.delete_core.specs.Merging.{split_line}
 

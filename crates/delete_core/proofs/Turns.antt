@@ -1,6 +1,6 @@
 -- A turn of a walk from point to point, and its end.
 use Rattle.std.proofs.Common.{◌≡◌, ℕ, zero, suc, ◌-◌, ◌<◌, ◌≤◌, Option, refl, arith}
-use Rattle.live_range.specs.declared.places.Point.{Point}
+use Rattle.edit_model.specs.LiveRange.declared.places.Point.{Point}
 use Rattle.delete_core.specs.Places.{walk_points, led_on}
 
 suc-sub-one : (n : ℕ) → suc n - 1 ≡ n

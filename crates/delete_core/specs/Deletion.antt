@@ -1,12 +1,12 @@
 -- Deleting the selection (HTML Editing APIs, "delete the selection"), whole. The steps are those of
 -- docs/ALGORITHMS.md.
 use Rattle.std.specs.Prelude.{ℕ, ◌==◌, true, false, ◌&&◌, List, [], Option, if◌then◌else◌}
-use Rattle.dom_model.specs.Forest.{Forest}
-use Rattle.live_range.specs.declared.places.Pair.{Pair}
-use Rattle.live_range.specs.declared.places.Point.{Point}
+use Rattle.edit_model.specs.DomModel.Forest.{Forest}
+use Rattle.edit_model.specs.LiveRange.declared.places.Pair.{Pair}
+use Rattle.edit_model.specs.LiveRange.declared.places.Point.{Point}
 use Rattle.edit_model.specs.State.{State}
 use Rattle.edit_model.specs.Run.{Run, ◌>>=◌, ◌>>◌, answer, look, given, select}
-use Rattle.edit_actions.specs.ActiveRange.{start_of, end_of}
+use Rattle.inline_value.specs.EditActions.ActiveRange.{start_of, end_of}
 use Rattle.inline_value.specs.declared.overrides.Override.{Override}
 use Rattle.inline_value.specs.Overrides.{states_of}
 use Rattle.delete_core.specs.declared.deletion.Manner.{Manner}

@@ -1,18 +1,18 @@
 -- The ends of what a deletion deletes (HTML Editing APIs, "delete the selection", steps 1 to 3),
 -- and the caret that it leaves. The steps are those of docs/ALGORITHMS.md.
 use Rattle.std.specs.Prelude.{ℕ, ◌==◌, Bool, ◌||◌, ◌&&◌, not, Option, Some, None, codes, unwrap_or, if◌then◌else◌}
-use Rattle.dom_model.specs.declared.Content.{Content}
-use Rattle.dom_model.specs.Contents.{has_name, length_of}
-use Rattle.dom_model.specs.Forest.{Forest, is_label, parent_of}
-use Rattle.live_range.specs.declared.places.Pair.{Pair}
-use Rattle.live_range.specs.declared.places.Point.{Point}
-use Rattle.node_styles.specs.Allowed.{name_allowed_in}
-use Rattle.node_styles.specs.Blocks.{is_block}
-use Rattle.node_tests.specs.CollapsedWhitespace.{is_words}
+use Rattle.edit_model.specs.DomModel.declared.Content.{Content}
+use Rattle.edit_model.specs.DomModel.Contents.{has_name, length_of}
+use Rattle.edit_model.specs.DomModel.Forest.{Forest, is_label, parent_of}
+use Rattle.edit_model.specs.LiveRange.declared.places.Pair.{Pair}
+use Rattle.edit_model.specs.LiveRange.declared.places.Point.{Point}
+use Rattle.inline_value.specs.NodeStyles.Allowed.{name_allowed_in}
+use Rattle.inline_value.specs.NodeStyles.Blocks.{is_block}
+use Rattle.inline_value.specs.NodeTests.CollapsedWhitespace.{is_words}
 use Rattle.edit_model.specs.State.{State}
 use Rattle.edit_model.specs.Run.{Run, done, look, given, collapse}
-use Rattle.edit_actions.specs.ActiveRange.{start_of, end_of}
-use Rattle.wrap_split.specs.Walks.{walk, turn_bound}
+use Rattle.inline_value.specs.EditActions.ActiveRange.{start_of, end_of}
+use Rattle.inline_value.specs.WrapSplit.Walks.{walk, turn_bound}
 use Rattle.delete_core.specs.Places.{before_node, after_node, if_inside}
 use Rattle.delete_core.specs.Whitespace.{canonicalize}
 

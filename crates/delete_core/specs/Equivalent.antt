@@ -3,13 +3,13 @@
 -- docs/ALGORITHMS.md.
 use Rattle.std.specs.Prelude.{ℕ, ◌==◌, ◌||◌, Option, Some, None, if◌then◌else◌}
 use Rattle.std.specs.Option.{option_map}
-use Rattle.dom_model.specs.declared.Content.{Content}
-use Rattle.dom_model.specs.Contents.{length_of}
-use Rattle.dom_model.specs.Forest.{Forest}
-use Rattle.live_range.specs.declared.places.Point.{Point}
-use Rattle.node_styles.specs.Blocks.{is_block}
-use Rattle.node_tests.specs.BlockPoints.{child_before, child_at}
-use Rattle.node_styles.specs.TurnBound.{turn_bound}
+use Rattle.edit_model.specs.DomModel.declared.Content.{Content}
+use Rattle.edit_model.specs.DomModel.Contents.{length_of}
+use Rattle.edit_model.specs.DomModel.Forest.{Forest}
+use Rattle.edit_model.specs.LiveRange.declared.places.Point.{Point}
+use Rattle.inline_value.specs.NodeStyles.Blocks.{is_block}
+use Rattle.inline_value.specs.NodeTests.BlockPoints.{child_before, child_at}
+use Rattle.inline_value.specs.NodeStyles.TurnBound.{turn_bound}
 use Rattle.delete_core.specs.Places.{start_in, end_in, before_node, after_node, walk_points}
 
 -- next, step 3, and previous, step 3: an inline node whose length isn't 0

@@ -3,22 +3,22 @@
 use Rattle.std.specs.Prelude.{ℕ, ◌-◌, ◌==◌, Bool, false, ◌||◌, ◌&&◌, not, List, [], Option, Some, None, codes, if◌then◌else◌}
 use Rattle.std.specs.List.{list_any}
 use Rattle.std.specs.Option.{option_map_or}
-use Rattle.dom_model.specs.declared.Content.{Content}
-use Rattle.dom_model.specs.Contents.{has_name, length_of}
-use Rattle.dom_model.specs.Forest.{Forest, parent_of, children_of}
-use Rattle.live_range.specs.declared.places.Pair.{Pair}
-use Rattle.live_range.specs.declared.places.Point.{Point}
-use Rattle.node_styles.specs.Blocks.{is_block, nearest_block}
-use Rattle.node_tests.specs.CollapsedWhitespace.{is_words}
-use Rattle.node_tests.specs.Visible.{is_visible}
-use Rattle.point_order.specs.PointOrder.{is_within}
+use Rattle.edit_model.specs.DomModel.declared.Content.{Content}
+use Rattle.edit_model.specs.DomModel.Contents.{has_name, length_of}
+use Rattle.edit_model.specs.DomModel.Forest.{Forest, parent_of, children_of}
+use Rattle.edit_model.specs.LiveRange.declared.places.Pair.{Pair}
+use Rattle.edit_model.specs.LiveRange.declared.places.Point.{Point}
+use Rattle.inline_value.specs.NodeStyles.Blocks.{is_block, nearest_block}
+use Rattle.inline_value.specs.NodeTests.CollapsedWhitespace.{is_words}
+use Rattle.inline_value.specs.NodeTests.Visible.{is_visible}
+use Rattle.edit_model.specs.PointOrder.PointOrder.{is_within}
 use Rattle.edit_model.specs.State.{State}
 use Rattle.edit_model.specs.Confined.{is_editable_for, is_inside}
 use Rattle.edit_model.specs.Run.{Run, ◌>>=◌, ◌>>◌, answer, done, look, given, for_each, while_at_most, remove, replace}
-use Rattle.edit_actions.specs.ActiveRange.{start_of, end_of}
-use Rattle.block_extend.specs.Gather.{gathered}
-use Rattle.wrap_split.specs.Wrap.{append_break}
-use Rattle.wrap_split.specs.Walks.{turn_bound}
+use Rattle.inline_value.specs.EditActions.ActiveRange.{start_of, end_of}
+use Rattle.inline_value.specs.BlockExtend.Gather.{gathered}
+use Rattle.inline_value.specs.WrapSplit.Wrap.{append_break}
+use Rattle.inline_value.specs.WrapSplit.Walks.{turn_bound}
 use Rattle.delete_core.specs.Ends.{collapse_selection, is_cell}
 use Rattle.delete_core.specs.Whitespace.{canonicalize}
 

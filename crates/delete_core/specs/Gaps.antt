@@ -2,10 +2,10 @@
 -- clause cites this module.
 use Rattle.std.specs.Prelude.{ℕ, Bool, false, ◌||◌, not, is_none}
 use Rattle.std.specs.Option.{option_map_or}
-use Rattle.dom_model.specs.Forest.{parent_of}
+use Rattle.edit_model.specs.DomModel.Forest.{parent_of}
 use Rattle.edit_model.specs.State.{State}
 use Rattle.edit_model.specs.Confined.{is_editable_for}
-use Rattle.wrap_split.specs.Split.{is_void_thing}
+use Rattle.inline_value.specs.WrapSplit.Split.{is_void_thing}
 
 -- splitting the parent of a line that begins with k changes nothing: the parent isn't editable, has
 -- no parent, or is an image or a rule

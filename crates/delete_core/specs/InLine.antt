@@ -1,10 +1,10 @@
 -- What a walk over whitespace knows where it stands: a node there is known to follow no line break,
 -- or to precede none (HTML Editing APIs, "follows a line break", "precedes a line break").
 use Rattle.std.specs.Prelude.{◌≡◌, ◌⊎◌, ℕ, false, Some}
-use Rattle.dom_model.specs.declared.Content.{Content}
-use Rattle.dom_model.specs.Forest.{Forest}
-use Rattle.live_range.specs.declared.places.Point.{Point}
-use Rattle.node_tests.specs.LineBreaks.{follows_break, precedes_break}
+use Rattle.edit_model.specs.DomModel.declared.Content.{Content}
+use Rattle.edit_model.specs.DomModel.Forest.{Forest}
+use Rattle.edit_model.specs.LiveRange.declared.places.Point.{Point}
+use Rattle.inline_value.specs.NodeTests.LineBreaks.{follows_break, precedes_break}
 use Rattle.delete_core.specs.Places.{start_in, end_in, before_node, after_node}
 
 -- back: the point is the start of such a node, or just before it

@@ -4,23 +4,23 @@
 use Rattle.std.specs.Prelude.{ℕ, zero, suc, ◌==◌, Bool, false, ◌||◌, ◌&&◌, not, List, [], ◌∷◌, map, Option, Some, None, is_none, is_some, codes, if◌then◌else◌}
 use Rattle.std.specs.List.{find}
 use Rattle.std.specs.Option.{option_map_or}
-use Rattle.dom_model.specs.declared.Content.{Content}
-use Rattle.dom_model.specs.Contents.{has_name, is_break}
-use Rattle.dom_model.specs.Forest.{Forest, parent_of, prev_of, next_of, first_of, last_of, children_of}
-use Rattle.dom_model.specs.Places.{index_of}
-use Rattle.node_styles.specs.Blocks.{is_block}
-use Rattle.node_styles.specs.Lineage.{lineage}
-use Rattle.node_tests.specs.BlockProps.{is_block_prop}
-use Rattle.point_order.specs.PointOrder.{is_ancestor, child_toward}
+use Rattle.edit_model.specs.DomModel.declared.Content.{Content}
+use Rattle.edit_model.specs.DomModel.Contents.{has_name, is_break}
+use Rattle.edit_model.specs.DomModel.Forest.{Forest, parent_of, prev_of, next_of, first_of, last_of, children_of}
+use Rattle.edit_model.specs.DomModel.Places.{index_of}
+use Rattle.inline_value.specs.NodeStyles.Blocks.{is_block}
+use Rattle.inline_value.specs.NodeStyles.Lineage.{lineage}
+use Rattle.inline_value.specs.NodeTests.BlockProps.{is_block_prop}
+use Rattle.edit_model.specs.PointOrder.PointOrder.{is_ancestor, child_toward}
 use Rattle.edit_model.specs.State.{State}
 use Rattle.edit_model.specs.Confined.{is_editable_for, is_inside}
 use Rattle.edit_model.specs.Moves.{make_break, insert_after, move_each_last}
 use Rattle.edit_model.specs.Run.{Run, ◌>>=◌, ◌>>◌, answer, done, look, given, while_at_most, remove, collapse}
-use Rattle.wrap_split.specs.Walks.{turn_bound}
+use Rattle.inline_value.specs.WrapSplit.Walks.{turn_bound}
 use Rattle.inline_value.specs.Recording.{Recorded, values_of, restore_values}
-use Rattle.wrap_split.specs.Breaks.{breaks_at_end}
-use Rattle.wrap_split.specs.Split.{split_parent}
-use Rattle.wrap_split.specs.Wrap.{append_break, is_inline, list_on}
+use Rattle.inline_value.specs.WrapSplit.Breaks.{breaks_at_end}
+use Rattle.inline_value.specs.WrapSplit.Split.{split_parent}
+use Rattle.inline_value.specs.WrapSplit.Wrap.{append_break, is_inline, list_on}
 use Rattle.delete_core.specs.Ends.{collapse_selection}
 use Rattle.delete_core.specs.Erasing.{removed_up}
 use Rattle.delete_core.specs.Places.{at, end_in}

@@ -1,7 +1,7 @@
 -- What is known of the ends of what is deleted.
 use Rattle.std.specs.Prelude.{◌≡◌}
-use Rattle.edit_doc.specs.Held.{Holds}
-use Rattle.edit_doc.specs.Whole.{Whole}
+use Rattle.inline_value.specs.EditDoc.Held.{Holds}
+use Rattle.inline_value.specs.EditDoc.Whole.{Whole}
 use Rattle.delete_core.specs.declared.deletion.Stretch.{Stretch}
 
 -- the nodes of its two points are held

@@ -1,8 +1,8 @@
 -- What contracts see of values that are recorded to be restored, if there are any.
 use Rattle.std.specs.Prelude.{List, Option, Some, None, IfSome}
 use Rattle.std.specs.Option.{option_map}
-use Rattle.edit_doc.specs.Held.{EachHeld}
-use Rattle.edit_doc.specs.Whole.{Whole}
+use Rattle.inline_value.specs.EditDoc.Held.{EachHeld}
+use Rattle.inline_value.specs.EditDoc.Whole.{Whole}
 use Rattle.inline_value.specs.declared.recording.Value.{Value}
 use Rattle.inline_value.specs.Recording.{Recorded}
 use Rattle.inline_value.specs.Records.{entries_of, nodes_of}

@@ -2,20 +2,20 @@
 -- sequence. The steps are those of docs/ALGORITHMS.md.
 use Rattle.std.specs.Prelude.{ℕ, zero, suc, ◌+◌, ◌-◌, ◌==◌, nat_lt, Bool, true, false, ◌||◌, ◌&&◌, not, List, [], ◌∷◌, length, Option, Some, None, is_some, slice_get, if◌then◌else◌}
 use Rattle.std.specs.Option.{option_map, option_map_or}
-use Rattle.css_value.specs.declared.values.WhiteSpace.{WhiteSpace}
-use Rattle.css_value.specs.declared.values.WhiteSpace.TheVariants as white_space_values
-use Rattle.dom_model.specs.declared.Content.{Content}
-use Rattle.dom_model.specs.declared.Content.TheVariants.{Document, Element, Words, Remark}
-use Rattle.dom_model.specs.Contents.{length_of}
-use Rattle.dom_model.specs.Forest.{Forest, either, is_label, parent_of, content_of}
-use Rattle.live_range.specs.declared.places.Point.{Point}
-use Rattle.node_styles.specs.Resolved.{white_space}
-use Rattle.node_tests.specs.BlockPoints.{child_before, child_at}
-use Rattle.node_tests.specs.LineBreaks.{follows_break, precedes_break}
+use Rattle.inline_value.specs.CssValue.declared.values.WhiteSpace.{WhiteSpace}
+use Rattle.inline_value.specs.CssValue.declared.values.WhiteSpace.TheVariants as white_space_values
+use Rattle.edit_model.specs.DomModel.declared.Content.{Content}
+use Rattle.edit_model.specs.DomModel.declared.Content.TheVariants.{Document, Element, Words, Remark}
+use Rattle.edit_model.specs.DomModel.Contents.{length_of}
+use Rattle.edit_model.specs.DomModel.Forest.{Forest, either, is_label, parent_of, content_of}
+use Rattle.edit_model.specs.LiveRange.declared.places.Point.{Point}
+use Rattle.inline_value.specs.NodeStyles.Resolved.{white_space}
+use Rattle.inline_value.specs.NodeTests.BlockPoints.{child_before, child_at}
+use Rattle.inline_value.specs.NodeTests.LineBreaks.{follows_break, precedes_break}
 use Rattle.edit_model.specs.State.{State}
 use Rattle.edit_model.specs.Confined.{is_inside, is_there}
 use Rattle.edit_model.specs.Run.{Run, ◌>>=◌, ◌>>◌, answer, done, look, given, while_at_most, replace}
-use Rattle.wrap_split.specs.Walks.{turn_bound}
+use Rattle.inline_value.specs.WrapSplit.Walks.{turn_bound}
 use Rattle.delete_core.specs.declared.scanning.Scan.{Scan}
 use Rattle.delete_core.specs.declared.laying.Laid.{Laid}
 use Rattle.delete_core.specs.Spaces.{soft, is_blank, canonical_spaces}

@@ -1,18 +1,18 @@
 //! Characters of texts beside a point, and blanks among them.
 
 ghost use Rattle.std.specs.Prelude.{◌≡◌, ◌<◌, IfSome, Some};
-ghost use Rattle.dom_model.specs.Forest.{count_of};
+ghost use Rattle.edit_model.specs.DomModel.Forest.{count_of};
 ghost use Rattle.edit_model.specs.Gives.{label_of};
-ghost use Rattle.edit_doc.specs.Held.{Holds, IfHeld};
+ghost use Rattle.inline_value.specs.EditDoc.Held.{Holds, IfHeld};
 ghost use Rattle.delete_core.specs.Whitespace.{text_of, char_at, char_before, keeps_blanks, is_collapsing, blank_in, blank_at, blank_before, starts_line, ends_line};
 
 use crate::spaces::is_blank;
-use css_value::WhiteSpace;
-use dom_model::Content;
-use edit_doc::{Doc, NodeRef, Point};
-use node_styles::white_space;
-use node_tests::{follows_break, precedes_break};
-use point_order::node_of;
+use edit_model::boundary::node_of;
+use edit_model::dom::Content;
+use inline_value::css::WhiteSpace;
+use inline_value::doc::{Doc, NodeRef, Point};
+use inline_value::questions::{follows_break, precedes_break};
+use inline_value::styles::white_space;
 
 // The characters of a text; another node has none.
 #[tactic(auto, unfolding(crate::specs::Whitespace::text_of))]

@@ -1,10 +1,10 @@
 //! Delete the selection, whole. The steps are those of docs/ALGORITHMS.md.
 
 ghost use Rattle.std.specs.Prelude.{◌≡◌, ◌<◌};
-ghost use Rattle.dom_model.specs.Forest.{count_of};
+ghost use Rattle.edit_model.specs.DomModel.Forest.{count_of};
 ghost use Rattle.edit_model.specs.Gives.{Gives, GivesAs, label_of};
-ghost use Rattle.edit_doc.specs.Whole.{IsOpen};
-ghost use Rattle.edit_doc.specs.Held.{Holds, IfHeld, Keeps};
+ghost use Rattle.inline_value.specs.EditDoc.Whole.{IsOpen};
+ghost use Rattle.inline_value.specs.EditDoc.Held.{Holds, IfHeld, Keeps};
 ghost use Rattle.delete_core.specs.Stretches.{StretchHeld};
 ghost use Rattle.delete_core.specs.Deletion.{erase_across, erase, delete_recorded, delete_selected, delete_range, delete_between, delete_selection};
 
@@ -16,10 +16,10 @@ use crate::equivalent::{first_equivalent, last_equivalent};
 use crate::erasing::{cut_after, cut_before, erase_within, is_own_text, remove_nodes};
 use crate::merging::merge_if;
 use crate::places::comes_before;
-use edit_actions::ends_of;
-use edit_doc::{Doc, EditFault, NodeRef, Point};
+use edit_model::boundary::node_of;
+use inline_value::actions::ends_of;
+use inline_value::doc::{Doc, EditFault, NodeRef, Point};
 use inline_value::{Overrides, record_states};
-use point_order::node_of;
 use std::alloc::Global;
 
 /// How a selection is deleted: the flags of HTML Editing APIs, "delete the selection".

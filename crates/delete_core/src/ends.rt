@@ -2,22 +2,22 @@
 //! docs/ALGORITHMS.md.
 
 ghost use Rattle.std.specs.Prelude.{◌≡◌, ◌<◌};
-ghost use Rattle.dom_model.specs.Forest.{count_of};
+ghost use Rattle.edit_model.specs.DomModel.Forest.{count_of};
 ghost use Rattle.edit_model.specs.Gives.{Gives, label_of};
 ghost use Rattle.edit_model.specs.Action.{Select, acted};
-ghost use Rattle.edit_doc.specs.Whole.{IsOpen, with_state};
-ghost use Rattle.edit_doc.specs.Held.{Holds, Finds, Keeps};
-ghost use Rattle.node_tests.specs.CollapsedWhitespace.{is_words};
+ghost use Rattle.inline_value.specs.EditDoc.Whole.{IsOpen, with_state};
+ghost use Rattle.inline_value.specs.EditDoc.Held.{Holds, Finds, Keeps};
+ghost use Rattle.inline_value.specs.NodeTests.CollapsedWhitespace.{is_words};
 ghost use Rattle.delete_core.specs.Ends.{collapse_selection, canonicalize_start, canonicalize_end, out_of_start, out_of_end, up_inline, top_inline, is_cell, may_merge, block_of_end};
 
 use crate::places::{after_node, before_node, if_inside};
 use crate::whitespace::canonicalize;
-use dom_model::Content;
-use edit_actions::{ends_of, is_same};
-use edit_doc::{Doc, EditFault, NodeRef, Point};
-use node_tests::{has_name, is_block, is_words, name_allowed_in};
+use edit_model::dom::Content;
+use inline_value::actions::{ends_of, is_same};
+use inline_value::doc::{Doc, EditFault, NodeRef, Point};
+use inline_value::questions::{has_name, is_block, is_words, name_allowed_in};
+use inline_value::wrap::turn_bound;
 use std::alloc::Global;
-use wrap_split::turn_bound;
 
 /// Selects from the anchor to the focus, where both stand in the document.
 pub fn select(doc: &mut Doc, anchor: Point, focus: Point)
@@ -123,7 +123,7 @@ fn up_inline(doc: &Doc, node: NodeRef) -> Option<NodeRef>
 }
 
 // Step 3: up from an inline node, as long as the parent is inside.
-#[tactic(auto, using(wrap_split::proofs::Turns::walks), unfolding(crate::specs::Ends::top_inline))]
+#[tactic(auto, using(crate::proofs::Below::walks), unfolding(crate::specs::Ends::top_inline))]
 fn top_inline(doc: &Doc, node: NodeRef) -> NodeRef
     requires { Holds doc.now node }
     ensures gives { result.label ≡ top_inline doc.now.state node.label }

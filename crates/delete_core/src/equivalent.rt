@@ -2,13 +2,13 @@
 
 ghost use Rattle.std.specs.Prelude.{◌≡◌};
 ghost use Rattle.edit_model.specs.Gives.{label_of};
-ghost use Rattle.edit_doc.specs.Held.{Holds, IfHeld, Finds};
+ghost use Rattle.inline_value.specs.EditDoc.Held.{Holds, IfHeld, Finds};
 ghost use Rattle.delete_core.specs.Equivalent.{if_enterable, into_after, into_before, out_after, out_before, next_point, previous_point, last_equivalent, first_equivalent};
 
 use crate::places::{after_node, before_node, child_at, child_before, end_in, start_in};
-use edit_doc::{Doc, NodeRef, Point};
-use node_tests::is_block;
-use wrap_split::turn_bound;
+use inline_value::doc::{Doc, NodeRef, Point};
+use inline_value::questions::is_block;
+use inline_value::wrap::turn_bound;
 
 // Next, step 3, and previous, step 3: an inline node whose length isn't 0.
 fn if_enterable(doc: &Doc, node: Option<NodeRef>) -> Option<NodeRef>

@@ -4,20 +4,20 @@
 ghost use Rattle.std.specs.Prelude.{◌≡◌, ◌<◌, ◌≤◌, IfOk};
 ghost use Rattle.edit_model.specs.Gives.{Gives, GivesMaybe, label_of, labels_of};
 ghost use Rattle.edit_model.specs.Run.{for_each};
-ghost use Rattle.edit_doc.specs.Whole.{IsOpen};
-ghost use Rattle.edit_doc.specs.Held.{Holds, IfHeld, EachHeld, Finds, Keeps};
-ghost use Rattle.wrap_split.specs.Wrap as wrap;
+ghost use Rattle.inline_value.specs.EditDoc.Whole.{IsOpen};
+ghost use Rattle.inline_value.specs.EditDoc.Held.{Holds, IfHeld, EachHeld, Finds, Keeps};
+ghost use Rattle.inline_value.specs.WrapSplit.Wrap as wrap;
 ghost use Rattle.delete_core.specs.Erasing.{is_own_text, erase_within, cut_after, cut_before, is_table_part, is_removable, removable_nodes, own_block, shows_child, is_hollow, fill_hollow, removed_up, is_strippable, strip_empty, strip_from, remove_under, remove_node, remove_nodes};
 
 use crate::ends::{collapse_selection, is_cell};
 use crate::whitespace::canonicalize;
-use block_extend::{Choice, gather_in};
-use edit_actions::ends_of;
-use edit_doc::{Doc, EditFault, NodeList, NodeRef, Point};
-use node_styles::nearest_block;
-use node_tests::{has_name, is_block, is_visible, is_within, is_words};
+use inline_value::actions::ends_of;
+use inline_value::doc::{Doc, EditFault, NodeList, NodeRef, Point};
+use inline_value::extend::{Choice, gather_in};
+use inline_value::questions::{has_name, is_block, is_visible, is_within, is_words};
+use inline_value::styles::nearest_block;
+use inline_value::wrap::{append_break, turn_bound};
 use std::alloc::{AllocError, Global};
-use wrap_split::{append_break, turn_bound};
 
 /// Whether a node is an editable text.
 #[tactic(auto, unfolding(crate::specs::Erasing::is_own_text))]
@@ -97,7 +97,7 @@ fn is_table_part(doc: &Doc, node: NodeRef) -> bool
 struct Removable;
 
 impl Choice<Doc> for Removable {
-    ghost use Rattle.edit_doc.specs.Whole.{Whole};
+    ghost use Rattle.inline_value.specs.EditDoc.Whole.{Whole};
     ghost use Rattle.delete_core.specs.Erasing.{is_removable};
 
     ghost chosen = { λ _ d l. is_removable d.state l };
@@ -109,7 +109,7 @@ impl Choice<Doc> for Removable {
 }
 
 // Step 7: the nodes that go.
-#[tactic(auto, using(edit_actions::proofs::Placed::placed_here), unfolding(crate::specs::Erasing::removable_nodes))]
+#[tactic(auto, using(crate::proofs::Below::placed_here), unfolding(crate::specs::Erasing::removable_nodes))]
 fn removable_nodes(alloc: Global, doc: &Doc) -> Result<NodeList, AllocError>
     ensures held { IfOk result (λ list. EachHeld doc.now list) }
     ensures nodes { IfOk result (λ list. labels_of list ≡ removable_nodes doc.now.state) }

@@ -3,22 +3,22 @@
 
 ghost use Rattle.std.specs.Prelude.{◌≡◌, IfOk, Some, None};
 ghost use Rattle.edit_model.specs.Gives.{Gives, GivesAs, GivesNode, labels_of};
-ghost use Rattle.edit_doc.specs.Whole.{IsOpen};
-ghost use Rattle.edit_doc.specs.Held.{Holds, EachHeld, Keeps};
+ghost use Rattle.inline_value.specs.EditDoc.Whole.{IsOpen};
+ghost use Rattle.inline_value.specs.EditDoc.Held.{Holds, EachHeld, Keeps};
 ghost use Rattle.delete_core.specs.Gaps.{is_stuck};
 ghost use Rattle.delete_core.specs.Merging.{is_apart, is_sole, drop_sole, parts_lines, part_lines, remove_own, drop_parted, drop_soles, drop_block, split_line, split_out, drop_break_before, take_out_line, take_line, merge_content, merge_inner};
-ghost use Rattle.dom_model.specs.Forest.{first_in};
+ghost use Rattle.edit_model.specs.DomModel.Forest.{first_in};
 ghost use Rattle.delete_core.specs.Values.{ValuesHeld, recorded_in};
 
 use crate::ends::select;
 use crate::lines::{if_inline, line_from};
-use edit_actions::{insert_after, make_break};
-use edit_doc::{Doc, EditFault, NodeList, NodeRef, Point};
+use edit_model::boundary::child_toward;
+use inline_value::actions::{insert_after, make_break};
+use inline_value::doc::{Doc, EditFault, NodeList, NodeRef, Point};
+use inline_value::questions::{is_block, is_break};
+use inline_value::wrap::{is_void_thing, split_parent, turn_bound};
 use inline_value::{Values, record_values};
-use node_tests::{is_block, is_break};
-use point_order::child_toward;
 use std::alloc::Global;
-use wrap_split::{is_void_thing, split_parent, turn_bound};
 
 // Whether a node has a parent other than a block.
 #[tactic(auto, unfolding(crate::specs::Merging::is_apart))]

@@ -2,11 +2,11 @@
 //! are those of docs/ALGORITHMS.md.
 
 ghost use Rattle.std.specs.Prelude.{◌≡◌, ◌<◌, IfOk, Ok, slice_get};
-ghost use Rattle.dom_model.specs.Forest.{count_of};
+ghost use Rattle.edit_model.specs.DomModel.Forest.{count_of};
 ghost use Rattle.edit_model.specs.Gives.{Gives};
-ghost use Rattle.edit_doc.specs.Whole.{IsOpen};
-ghost use Rattle.edit_doc.specs.Held.{Holds, Finds, Keeps};
-ghost use Rattle.node_tests.specs.BlockPoints as points;
+ghost use Rattle.inline_value.specs.EditDoc.Whole.{IsOpen};
+ghost use Rattle.inline_value.specs.EditDoc.Held.{Holds, Finds, Keeps};
+ghost use Rattle.inline_value.specs.NodeTests.BlockPoints as points;
 ghost use Rattle.delete_core.specs.Places.{at};
 ghost use Rattle.delete_core.specs.Whitespace.{spaces_for, put_space, next_laid, lay_char, lay_out, lay_text, lay_turn, lays, lay_all, laid_between};
 
@@ -14,11 +14,11 @@ use crate::blanks::{char_at, ends_line, starts_line};
 use crate::places::{after_there, child_at, comes_before, start_in};
 use crate::scanning::Scan;
 use crate::spaces::canonical_spaces;
-use dom_model::Chars;
-use edit_doc::{Doc, EditFault, NodeRef, Point};
-use point_order::node_of;
+use edit_model::boundary::node_of;
+use edit_model::dom::Chars;
+use inline_value::doc::{Doc, EditFault, NodeRef, Point};
+use inline_value::wrap::turn_bound;
 use std::alloc::{AllocError, Global};
-use wrap_split::turn_bound;
 
 /// How far the canonical sequence is laid.
 #[derive(Clone, Copy)]

@@ -24,11 +24,11 @@ mod trimming;
 mod whitespace;
 
 pub use deletion::{Manner, delete_selection};
-pub use edit_doc::{Doc, EditFault, Point};
 pub use ends::{canonicalize_end, canonicalize_start, collapse_selection, select};
 pub use equivalent::{first_equivalent, last_equivalent};
 pub use erasing::shows_child;
 pub use inline_value::Overrides;
+pub use inline_value::doc::{Doc, EditFault, Point};
 pub use merging::fill_empty;
 pub use places::{after_node, before_node, child_at, child_before, end_in, start_in};
 pub use spaces::canonical_spaces;

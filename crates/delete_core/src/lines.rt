@@ -1,16 +1,16 @@
 //! Lines: inline siblings up to a br (delete the selection, steps 11 and 12).
 
 ghost use Rattle.std.specs.Prelude.{◌≡◌, ◌++◌, IfOk, Some};
-ghost use Rattle.dom_model.specs.Forest.{first_in};
+ghost use Rattle.edit_model.specs.DomModel.Forest.{first_in};
 ghost use Rattle.edit_model.specs.Gives.{label_of, labels_of};
-ghost use Rattle.edit_doc.specs.Held.{Holds, IfHeld, EachHeld, Finds};
-ghost use Rattle.wrap_split.specs.Walks.{turn_bound};
+ghost use Rattle.inline_value.specs.EditDoc.Held.{Holds, IfHeld, EachHeld, Finds};
+ghost use Rattle.inline_value.specs.WrapSplit.Walks.{turn_bound};
 ghost use Rattle.delete_core.specs.Merging.{if_inline, next_in_line, line_after, line_from, line_at};
 
-use edit_doc::{Doc, NodeRef};
-use node_tests::{is_block, is_break};
+use inline_value::doc::{Doc, NodeRef};
+use inline_value::questions::{is_block, is_break};
+use inline_value::wrap::turn_bound;
 use std::alloc::{AllocError, Global};
-use wrap_split::turn_bound;
 
 /// A node, if there is one, that is inline.
 pub(crate) fn if_inline(doc: &Doc, node: Option<NodeRef>) -> Option<NodeRef>

@@ -3,14 +3,14 @@
 
 ghost use Rattle.std.specs.Prelude.{◌≡◌};
 ghost use Rattle.edit_model.specs.Gives.{Gives};
-ghost use Rattle.edit_doc.specs.Whole.{IsOpen};
-ghost use Rattle.edit_doc.specs.Held.{Holds, Finds, Keeps};
+ghost use Rattle.inline_value.specs.EditDoc.Whole.{IsOpen};
+ghost use Rattle.inline_value.specs.EditDoc.Held.{Holds, Finds, Keeps};
 ghost use Rattle.delete_core.specs.Merging.{is_list_before, joins_next, list_to_join, join_lists_at, join_next, join_lists};
 
-use edit_doc::{Doc, EditFault, NodeRef};
-use node_arena::Nodes;
-use node_tests::has_name;
-use wrap_split::turn_bound;
+use edit_model::arena::Nodes;
+use inline_value::doc::{Doc, EditFault, NodeRef};
+use inline_value::questions::has_name;
+use inline_value::wrap::turn_bound;
 
 // Whether a node is a list of this name, with another one that is inside after it.
 fn is_list_before(doc: &Doc, name: &[u8], node: NodeRef) -> bool

@@ -3,8 +3,8 @@
 
 ghost use Rattle.std.specs.Prelude.{◌≡◌, IfOk};
 ghost use Rattle.edit_model.specs.Gives.{Gives, GivesAs, label_of};
-ghost use Rattle.edit_doc.specs.Whole.{IsOpen};
-ghost use Rattle.edit_doc.specs.Held.{Holds, EachHeld, IfHeld, Keeps};
+ghost use Rattle.inline_value.specs.EditDoc.Whole.{IsOpen};
+ghost use Rattle.inline_value.specs.EditDoc.Held.{Holds, EachHeld, IfHeld, Keeps};
 ghost use Rattle.inline_value.specs.Records.{entries_of, nodes_of};
 ghost use Rattle.delete_core.specs.Merging.{drop_prop, merged, fill_empty, finish, finish_if, merge, are_mergeable, merge_both, merge_if};
 ghost use Rattle.delete_core.specs.Values.{ValuesHeld, recorded_in};
@@ -13,11 +13,11 @@ use crate::ends::collapse_selection;
 use crate::inner::merge_inner;
 use crate::lists::join_lists;
 use crate::outer::{merge_beside, merge_outer};
-use edit_doc::{Doc, EditFault, NodeRef};
+use inline_value::doc::{Doc, EditFault, NodeRef};
+use inline_value::questions::{is_ancestor, is_block_prop};
+use inline_value::wrap::{append_break, breaks_at_end};
 use inline_value::{Values, restore_values};
-use node_tests::{is_ancestor, is_block_prop};
 use std::alloc::Global;
-use wrap_split::{append_break, breaks_at_end};
 
 // Delete the selection, step 10: removes the one child of a block that only holds its line open.
 #[tactic(auto, using(edit_model::proofs::Steps::steps, edit_model::proofs::Steps::exits), unfolding(crate::specs::Merging::drop_prop))]

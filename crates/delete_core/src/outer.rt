@@ -3,8 +3,8 @@
 
 ghost use Rattle.std.specs.Prelude.{◌≡◌, IfOk};
 ghost use Rattle.edit_model.specs.Gives.{Gives, GivesAs, label_of};
-ghost use Rattle.edit_doc.specs.Whole.{IsOpen};
-ghost use Rattle.edit_doc.specs.Held.{Holds, IfHeld, Keeps};
+ghost use Rattle.inline_value.specs.EditDoc.Whole.{IsOpen};
+ghost use Rattle.inline_value.specs.EditDoc.Held.{Holds, IfHeld, Keeps};
 ghost use Rattle.delete_core.specs.Merging.{drop_last_break, take_following, merge_outer, is_emptied, drop_emptied, take_children, merge_beside};
 ghost use Rattle.delete_core.specs.Values.{ValuesHeld, recorded_in};
 
@@ -12,12 +12,12 @@ use crate::ends::select;
 use crate::erasing::removed_up;
 use crate::lines::{if_inline, line_at};
 use crate::places::end_in;
-use edit_doc::{Doc, EditFault, NodeRef};
+use edit_model::boundary::child_toward;
+use inline_value::doc::{Doc, EditFault, NodeRef};
+use inline_value::questions::is_break;
+use inline_value::wrap::turn_bound;
 use inline_value::{Values, record_values};
-use node_tests::is_break;
-use point_order::child_toward;
 use std::alloc::Global;
-use wrap_split::turn_bound;
 
 // Steps 12 and 13: removes a br at the end of a block, where what comes after it there is inline.
 #[tactic(auto, using(edit_model::proofs::Steps::steps, edit_model::proofs::Steps::exits), unfolding(crate::specs::Merging::drop_last_break))]

@@ -1,14 +1,14 @@
 //! Points by the nodes beside them.
 
 ghost use Rattle.std.specs.Prelude.{◌≡◌, ◌<◌, IfSome, true};
-ghost use Rattle.dom_model.specs.Forest.{count_of};
+ghost use Rattle.edit_model.specs.DomModel.Forest.{count_of};
 ghost use Rattle.edit_model.specs.Gives.{label_of};
-ghost use Rattle.edit_doc.specs.Held.{Holds, IfHeld, Finds};
-ghost use Rattle.node_tests.specs.BlockPoints as points;
+ghost use Rattle.inline_value.specs.EditDoc.Held.{Holds, IfHeld, Finds};
+ghost use Rattle.inline_value.specs.NodeTests.BlockPoints as points;
 ghost use Rattle.delete_core.specs.Places.{start_in, end_in, before_in, after_in, before_node, after_node, if_inside, comes_before};
 
-use edit_doc::{Doc, NodeRef, Point};
-use node_arena::Nodes;
+use edit_model::arena::Nodes;
+use inline_value::doc::{Doc, NodeRef, Point};
 
 /// A node, if there is one, that is inside.
 pub(crate) fn if_inside(doc: &Doc, node: Option<NodeRef>) -> Option<NodeRef>
@@ -24,21 +24,21 @@ pub(crate) fn if_inside(doc: &Doc, node: Option<NodeRef>) -> Option<NodeRef>
 }
 
 /// The child at an offset. It counts the children before it.
-#[tactic(auto, using(edit_actions::proofs::Named::finds_named))]
+#[tactic(auto, using(crate::proofs::Below::finds_named))]
 pub fn child_at(doc: &Doc, node: NodeRef, offset: u32) -> Option<NodeRef>
     requires { Holds doc.now node }
     ensures { Finds doc.now result (points.child_at doc.now.state.trees node.label offset) }
 {
-    node_tests::child_at(doc, node, offset)
+    inline_value::questions::child_at(doc, node, offset)
 }
 
 /// The child before an offset.
-#[tactic(auto, using(edit_actions::proofs::Named::finds_named))]
+#[tactic(auto, using(crate::proofs::Below::finds_named))]
 pub fn child_before(doc: &Doc, node: NodeRef, offset: u32) -> Option<NodeRef>
     requires { Holds doc.now node }
     ensures { Finds doc.now result (points.child_before doc.now.state.trees node.label offset) }
 {
-    node_tests::child_before(doc, node, offset)
+    inline_value::questions::child_before(doc, node, offset)
 }
 
 /// The start of a node.
@@ -130,5 +130,5 @@ pub(crate) fn comes_before(doc: &Doc, point: Point, other: Point) -> bool
 {
     doc.find(point.label).is_some()
         && doc.find(other.label).is_some()
-        && point_order::comes_before(doc, point, other)
+        && edit_model::boundary::comes_before(doc, point, other)
 }

@@ -2,20 +2,20 @@
 //! docs/ALGORITHMS.md.
 
 ghost use Rattle.std.specs.Prelude.{◌≡◌, ◌<◌, IfOk, true};
-ghost use Rattle.dom_model.specs.Forest.{count_of};
+ghost use Rattle.edit_model.specs.DomModel.Forest.{count_of};
 ghost use Rattle.edit_model.specs.Gives.{Gives};
-ghost use Rattle.edit_doc.specs.Whole.{IsOpen};
-ghost use Rattle.edit_doc.specs.Held.{Keeps};
+ghost use Rattle.inline_value.specs.EditDoc.Whole.{IsOpen};
+ghost use Rattle.inline_value.specs.EditDoc.Held.{Keeps};
 ghost use Rattle.delete_core.specs.InLine.{PrecedesNone};
 ghost use Rattle.delete_core.specs.Whitespace.{first_scan, passed, scan_blank, scan_char, scan_turn, scan_blanks};
 
 use crate::blanks::{blank_at, starts_line};
 use crate::spaces::SOFT;
 use crate::stepping::{Stand, on_step};
-use edit_doc::{Doc, EditFault, Point};
-use point_order::node_of;
+use edit_model::boundary::node_of;
+use inline_value::doc::{Doc, EditFault, Point};
+use inline_value::wrap::turn_bound;
 use std::alloc::AllocError;
-use wrap_split::turn_bound;
 
 /// How far a walk over blanks has come.
 #[derive(Clone, Copy)]

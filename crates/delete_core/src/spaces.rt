@@ -3,7 +3,7 @@
 ghost use Rattle.std.specs.Prelude.{◌≡◌, ◌<◌, ◌++◌, ◌∷◌, [], IfOk, OnOk};
 ghost use Rattle.delete_core.specs.Spaces.{hard_if, is_blank, canonical_spaces};
 
-use dom_model::Chars;
+use edit_model::dom::Chars;
 use std::alloc::{AllocError, Global};
 
 /// U+0020, which collapses with another one beside it.

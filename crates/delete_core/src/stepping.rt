@@ -3,21 +3,21 @@
 
 ghost use Rattle.std.specs.Prelude.{◌≡◌, IfSome, false, not, true};
 ghost use Rattle.std.specs.Option.{option_map};
-ghost use Rattle.dom_model.specs.Contents.{length_of};
+ghost use Rattle.edit_model.specs.DomModel.Contents.{length_of};
 ghost use Rattle.delete_core.specs.InLine.{FollowsNone, PrecedesNone};
 ghost use Rattle.delete_core.specs.Places as places;
 ghost use Rattle.delete_core.specs.Whitespace.{into_child_before, into_child_at, out_to_start, out_to_end, out_back, over_blank, back_step, start_of_blanks, out_on, on_step, out_front, trim_step};
-ghost use Rattle.edit_doc.specs.Held.{Holds, Finds};
-ghost use Rattle.node_tests.specs.BlockPoints as points;
-ghost use Rattle.node_tests.specs.LineBreaks as line_breaks;
-ghost use Rattle.node_tests.specs.Visible as visible;
+ghost use Rattle.inline_value.specs.EditDoc.Held.{Holds, Finds};
+ghost use Rattle.inline_value.specs.NodeTests.BlockPoints as points;
+ghost use Rattle.inline_value.specs.NodeTests.LineBreaks as line_breaks;
+ghost use Rattle.inline_value.specs.NodeTests.Visible as visible;
 
 use crate::blanks::blank_before;
 use crate::places::{after_in, before_in, child_at, child_before, end_in, if_inside, start_in};
-use edit_doc::{Doc, NodeRef, Point};
-use node_arena::Nodes;
-use node_tests::{follows_break, is_visible, precedes_break};
-use wrap_split::turn_bound;
+use edit_model::arena::Nodes;
+use inline_value::doc::{Doc, NodeRef, Point};
+use inline_value::questions::{follows_break, is_visible, precedes_break};
+use inline_value::wrap::turn_bound;
 
 /// Where a walk stands.
 #[derive(Clone, Copy)]

@@ -2,10 +2,10 @@
 //! docs/ALGORITHMS.md.
 
 ghost use Rattle.std.specs.Prelude.{◌≡◌, ◌<◌, true};
-ghost use Rattle.dom_model.specs.Forest.{count_of};
+ghost use Rattle.edit_model.specs.DomModel.Forest.{count_of};
 ghost use Rattle.edit_model.specs.Gives.{Gives};
-ghost use Rattle.edit_doc.specs.Whole.{IsOpen};
-ghost use Rattle.edit_doc.specs.Held.{Keeps};
+ghost use Rattle.inline_value.specs.EditDoc.Whole.{IsOpen};
+ghost use Rattle.inline_value.specs.EditDoc.Held.{Keeps};
 ghost use Rattle.delete_core.specs.Whitespace.{ends_softly, shrunk, trim_char, trim_turn, trims, trimmed, trimmed_if};
 
 use crate::blanks::{blank_before, ends_line};
@@ -13,9 +13,9 @@ use crate::places::comes_before;
 use crate::scanning::Scan;
 use crate::spaces::SOFT;
 use crate::stepping::trim_step;
-use edit_doc::{Doc, EditFault, Point};
-use point_order::node_of;
-use wrap_split::turn_bound;
+use edit_model::boundary::node_of;
+use inline_value::doc::{Doc, EditFault, Point};
+use inline_value::wrap::turn_bound;
 
 // Step 5, third line: whether a U+0020 that collapses stands before a point that ends a line.
 #[tactic(auto, unfolding(crate::specs::Whitespace::ends_softly))]

@@ -1,15 +1,15 @@
 //! Canonicalizing whitespace. The steps are those of docs/ALGORITHMS.md.
 
 ghost use Rattle.edit_model.specs.Gives.{Gives};
-ghost use Rattle.edit_doc.specs.Whole.{IsOpen};
-ghost use Rattle.edit_doc.specs.Held.{Keeps};
+ghost use Rattle.inline_value.specs.EditDoc.Whole.{IsOpen};
+ghost use Rattle.inline_value.specs.EditDoc.Held.{Keeps};
 ghost use Rattle.delete_core.specs.Whitespace.{canonicalize_from, canonicalize};
 
 use crate::laying::laid_between;
 use crate::scanning::scan_blanks;
 use crate::stepping::start_of_blanks;
 use crate::trimming::trimmed_if;
-use edit_doc::{Doc, EditFault, Point};
+use inline_value::doc::{Doc, EditFault, Point};
 use std::alloc::Global;
 
 // Canonicalize whitespace, steps 3 to 7.

@@ -1,11 +1,11 @@
 -- The document of a forest after a tree is taken out of it or put into it, and after the content of a node is changed.
 use Rattle.std.proofs.Common.{◌≡◌, ℕ, ◌<◌, false, Option, Some, None, refl, sym, inl, inr, arith, eqb, nat_lt}
 use Rattle.std.proofs.lemmas.Bool.Decides.{eqb_tells, nat_tests}
-use Rattle.dom_model.specs.Forest.{Forest, Seen, count_of, IsDistinct, seek, tree_of, without, put_under, link, unlink}
-use Rattle.dom_model.specs.Forest.Forest.{Nil, Tree}
-use Rattle.dom_model.specs.Revised.{revised}
-use Rattle.dom_model.proofs.Stands.{Stands, count_of-Stands, seek_Stands}
-use Rattle.dom_model.proofs.Links.{tree_of_absent}
+use Rattle.forest_changes.specs.DomModel.Forest.{Forest, Seen, count_of, IsDistinct, seek, tree_of, without, put_under, link, unlink}
+use Rattle.forest_changes.specs.DomModel.Forest.Forest.{Nil, Tree}
+use Rattle.forest_changes.specs.DomModel.Revised.{revised}
+use Rattle.forest_changes.proofs.DomModel.Stands.{Stands, count_of-Stands, seek_Stands}
+use Rattle.forest_changes.proofs.DomModel.Links.{tree_of_absent}
 
 module _ {C : Type 0} where
   module _ (c : C) (ks rest : Forest C) (n : ℕ) (inner : 0 < n) where

@@ -2,21 +2,21 @@
 use Rattle.std.proofs.Common.{◌≡◌, ℕ, zero, suc, ◌<◌, ◌-◌, ◌&&◌, Bool, true, false, true≢false, cond, List, [], ◌∷◌, length, take, drop, Option, Some, None, IsSome, unwrap_or, refl, sym, ap, subst, ◌∙◌, inl, inr, arith, eqb, nat_lt}
 use Rattle.std.proofs.lemmas.Bool.Decides.{nat_tests}
 use Rattle.std.specs.Option.{option_map, option_and_then}
-use Rattle.dom_model.specs.declared.Content.{Content}
-use Rattle.dom_model.specs.declared.Content.TheVariants.{Document, Element, Words, Remark}
-use Rattle.dom_model.specs.Change.{Change, listed}
-use Rattle.dom_model.specs.Change as change
-use Rattle.dom_model.specs.Contents.{chars_in, chars_of, with_chars, with_attributes}
-use Rattle.dom_model.specs.Forest.{Forest, Seen, count_of, IsDistinct, parent_of, tree_of, without, put_under, link, unlink}
-use Rattle.dom_model.specs.Forest.Forest.{Nil, Tree}
-use Rattle.dom_model.specs.Revised.{revised}
-use Rattle.dom_model.proofs.Totals.{total-without, put_under_nowhere}
-use Rattle.dom_model.proofs.Stands.{Stands, true_or_false}
-use Rattle.dom_model.proofs.DropTree.{without_absent, without-unlink}
-use Rattle.dom_model.proofs.Move.{tree_of-unlink}
-use Rattle.dom_model.proofs.Walks.{document_first}
-use Rattle.dom_model.proofs.Within.{within_root}
-use Rattle.undo_log.specs.Turning.{forth, FitsForth}
+use Rattle.forest_changes.specs.DomModel.declared.Content.{Content}
+use Rattle.forest_changes.specs.DomModel.declared.Content.TheVariants.{Document, Element, Words, Remark}
+use Rattle.forest_changes.specs.DomModel.Change.{Change, listed}
+use Rattle.forest_changes.specs.DomModel.Change as change
+use Rattle.forest_changes.specs.DomModel.Contents.{chars_in, chars_of, with_chars, with_attributes}
+use Rattle.forest_changes.specs.DomModel.Forest.{Forest, Seen, count_of, IsDistinct, parent_of, tree_of, without, put_under, link, unlink}
+use Rattle.forest_changes.specs.DomModel.Forest.Forest.{Nil, Tree}
+use Rattle.forest_changes.specs.DomModel.Revised.{revised}
+use Rattle.forest_changes.proofs.DomModel.Totals.{total-without, put_under_nowhere}
+use Rattle.forest_changes.proofs.DomModel.Stands.{Stands, true_or_false}
+use Rattle.forest_changes.proofs.DomModel.DropTree.{without_absent, without-unlink}
+use Rattle.forest_changes.proofs.DomModel.Move.{tree_of-unlink}
+use Rattle.forest_changes.proofs.DomModel.Walks.{document_first}
+use Rattle.forest_changes.proofs.DomModel.Within.{within_root}
+use Rattle.forest_changes.specs.UndoLog.Turning.{forth, FitsForth}
 use Rattle.point_order.specs.PointOrder.{is_in_document}
 use Rattle.forest_changes.specs.Change.{IsForest, Fits, spliced_at, applied}
 use Rattle.forest_changes.proofs.Contents.{chars_there}

@@ -1,9 +1,9 @@
 -- A forest grows again from the list of its nodes.
 use Rattle.std.proofs.Common.{◌≡◌, ℕ, zero, suc, ◌+◌, ◌≤◌, List, [], ◌∷◌, ◌++◌, refl, sym, ap, ◌∙◌, arith}
 use Rattle.std.proofs.Math.Numerals.{add-one}
-use Rattle.dom_model.specs.declared.Content.{Content}
-use Rattle.dom_model.specs.Forest.{Forest}
-use Rattle.dom_model.specs.Forest.Forest.{Nil, Tree}
+use Rattle.forest_changes.specs.DomModel.declared.Content.{Content}
+use Rattle.forest_changes.specs.DomModel.Forest.{Forest}
+use Rattle.forest_changes.specs.DomModel.Forest.Forest.{Nil, Tree}
 use Rattle.document_edits.specs.declared.edit.TreeNode.{TreeNode}
 use Rattle.document_edits.specs.Flat.{flat, put_last, grown, grown_onto}
 

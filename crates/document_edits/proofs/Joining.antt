@@ -1,10 +1,10 @@
 -- Changes one after another are told one after another.
 use Rattle.std.proofs.Common.{◌≡◌, List, [], ◌∷◌, ◌++◌, refl, sym, ap, ◌∙◌}
 use Rattle.std.proofs.lemmas.List.{append_assoc}
-use Rattle.dom_model.specs.declared.Content.{Content}
-use Rattle.dom_model.specs.Change.{Change}
-use Rattle.dom_model.specs.Forest.{Forest}
-use Rattle.undo_log.specs.Turning.{forth}
+use Rattle.forest_changes.specs.DomModel.declared.Content.{Content}
+use Rattle.forest_changes.specs.DomModel.Change.{Change}
+use Rattle.forest_changes.specs.DomModel.Forest.{Forest}
+use Rattle.forest_changes.specs.UndoLog.Turning.{forth}
 use Rattle.forest_changes.specs.Change.{applied}
 use Rattle.document_edits.specs.Told.{told, told_all}
 

@@ -7,3 +7,5 @@ pub mod Following
 pub mod Sharing
 pub mod Undoing
 pub mod Wholes
+pub use Rattle.forest_changes.proofs.DomModel
+pub use Rattle.forest_changes.proofs as ForestChanges

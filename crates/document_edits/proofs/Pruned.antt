@@ -1,12 +1,12 @@
 -- Changes are told without a look at the trees that are pruned.
 use Rattle.std.proofs.Common.{◌≡◌, ℕ, Bool, List, [], ◌∷◌, ◌++◌, refl, sym, ap, ◌∙◌, arith}
-use Rattle.dom_model.specs.declared.Content.{Content}
-use Rattle.dom_model.specs.Change.{Change}
-use Rattle.dom_model.specs.Change as change
-use Rattle.dom_model.specs.Forest.{Forest, tree_of}
-use Rattle.dom_model.specs.Pruned.{pruned}
-use Rattle.dom_model.proofs.Pruning.{tree_of-pruned}
-use Rattle.undo_log.specs.Turning.{FitsForth}
+use Rattle.forest_changes.specs.DomModel.declared.Content.{Content}
+use Rattle.forest_changes.specs.DomModel.Change.{Change}
+use Rattle.forest_changes.specs.DomModel.Change as change
+use Rattle.forest_changes.specs.DomModel.Forest.{Forest, tree_of}
+use Rattle.forest_changes.specs.DomModel.Pruned.{pruned}
+use Rattle.forest_changes.proofs.DomModel.Pruning.{tree_of-pruned}
+use Rattle.forest_changes.specs.UndoLog.Turning.{FitsForth}
 use Rattle.forest_changes.specs.Change.{IsForest, Fits, applied}
 use Rattle.forest_changes.specs.Named.{named, named_in, Each}
 use Rattle.forest_changes.specs.Down.{Prunes, IsLeft}

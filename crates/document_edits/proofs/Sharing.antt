@@ -3,7 +3,7 @@ use Rattle.std.proofs.Common.{◌≡◌, ◌≢◌, ℕ, ◌+◌, ◌-◌, ◌<�
 use Rattle.std.proofs.lemmas.Bool.Decides.{eqb_tells}
 use Rattle.std.proofs.lemmas.List.{drop_all, get_or-reverse, length-reverse}
 use Rattle.std.proofs.lemmas.List.Sums.{common_prefix_len-drop_yes, common_prefix_len-drop_no}
-use Rattle.dom_model.proofs.Links.{eqb_refl_true}
+use Rattle.forest_changes.proofs.DomModel.Links.{eqb_refl_true}
 use Rattle.document_edits.specs.Replaced.{shared_start, shared_end}
 
 -- the first n characters of two texts are the same

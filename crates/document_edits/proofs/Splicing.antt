@@ -4,7 +4,7 @@ use Rattle.std.proofs.lemmas.Bool.Decides.{eqb_tells, nat_tests}
 use Rattle.std.proofs.lemmas.List.{take-append-drop, drop-drop, length-drop, length-reverse, reverse-append, reverse-reverse, take_all}
 use Rattle.std.proofs.lemmas.List.Sums.{common_prefix_len-le}
 use Rattle.std.proofs.Math.Seq.{drop-append_seam}
-use Rattle.dom_model.proofs.Links.{eqb_refl_true}
+use Rattle.forest_changes.proofs.DomModel.Links.{eqb_refl_true}
 use Rattle.document_edits.specs.declared.edit.DocumentEdit.TheVariants.{Replace}
 use Rattle.document_edits.specs.Followed.{spliced}
 use Rattle.document_edits.specs.Replaced.{shared_start, shared_end, replaced, replaced_at}

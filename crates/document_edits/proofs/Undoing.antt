@@ -1,11 +1,11 @@
 -- What takes changes back is told as edits that lead back.
 use Rattle.std.proofs.Common.{◌≡◌, ℕ, Bool, List, [], ◌∷◌, ◌++◌, reverse, refl, sym, ap, subst, ◌∙◌, arith}
-use Rattle.dom_model.specs.declared.Content.{Content}
-use Rattle.dom_model.specs.Forest.{Forest, tree_of}
-use Rattle.dom_model.specs.Pruned.{pruned}
-use Rattle.undo_log.specs.Turning.{back, forth, inverses_forth, FitsBack, FitsForth}
-use Rattle.undo_log.proofs.Lists.{reverse-cons}
-use Rattle.undo_log.proofs.Turns.{forth-append}
+use Rattle.forest_changes.specs.DomModel.declared.Content.{Content}
+use Rattle.forest_changes.specs.DomModel.Forest.{Forest, tree_of}
+use Rattle.forest_changes.specs.DomModel.Pruned.{pruned}
+use Rattle.forest_changes.specs.UndoLog.Turning.{back, forth, inverses_forth, FitsBack, FitsForth}
+use Rattle.forest_changes.proofs.UndoLog.Lists.{reverse-cons}
+use Rattle.forest_changes.proofs.UndoLog.Turns.{forth-append}
 use Rattle.forest_changes.specs.Change.{Change, Fits, applied, inverse}
 use Rattle.forest_changes.specs.Named.{named, named_in, Each}
 use Rattle.forest_changes.specs.Down.{Prunes, IsLeft}

@@ -1,11 +1,11 @@
 -- Changes with the whole contents afterwards are told as the same edits.
 use Rattle.std.proofs.Common.{◌≡◌, List, [], ◌∷◌, ◌++◌, reverse, refl, sym, ap, ◌∙◌}
-use Rattle.dom_model.specs.declared.Content.{Content}
-use Rattle.dom_model.specs.Change.{Change}
-use Rattle.dom_model.specs.Change as change
-use Rattle.dom_model.specs.Forest.{Forest}
-use Rattle.undo_log.specs.Turning.{forth, inverses_forth, FitsForth}
-use Rattle.undo_log.proofs.Lists.{reverse-cons}
+use Rattle.forest_changes.specs.DomModel.declared.Content.{Content}
+use Rattle.forest_changes.specs.DomModel.Change.{Change}
+use Rattle.forest_changes.specs.DomModel.Change as change
+use Rattle.forest_changes.specs.DomModel.Forest.{Forest}
+use Rattle.forest_changes.specs.UndoLog.Turning.{forth, inverses_forth, FitsForth}
+use Rattle.forest_changes.proofs.UndoLog.Lists.{reverse-cons}
 use Rattle.forest_changes.specs.Change.{Fits, applied, inverse, whole, wholes}
 use Rattle.forest_changes.proofs.Twice.{forth_turns}
 use Rattle.forest_changes.proofs.Wholes.{applied_whole, inverse_whole, forth_wholes, wholes_join}

@@ -1,8 +1,8 @@
 -- The nodes of trees as one list, and the trees that grow from such a list.
 use Rattle.std.specs.Prelude.{ℕ, zero, suc, ◌+◌, List, [], ◌∷◌, ◌++◌}
-use Rattle.dom_model.specs.declared.Content.{Content}
-use Rattle.dom_model.specs.Forest.{Forest}
-use Rattle.dom_model.specs.Forest.Forest.{Nil, Tree}
+use Rattle.forest_changes.specs.DomModel.declared.Content.{Content}
+use Rattle.forest_changes.specs.DomModel.Forest.{Forest}
+use Rattle.forest_changes.specs.DomModel.Forest.Forest.{Nil, Tree}
 use Rattle.document_edits.specs.declared.edit.TreeNode.{TreeNode}
 
 -- the nodes of a forest in tree order, where its roots have this level

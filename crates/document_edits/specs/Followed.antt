@@ -1,10 +1,10 @@
 -- How one who keeps the document alone follows its edits.
 use Rattle.std.specs.Prelude.{ℕ, ◌+◌, List, ◌++◌, take, drop}
-use Rattle.dom_model.specs.declared.Content.{Content}
-use Rattle.dom_model.specs.declared.Content.TheVariants.{Document, Element, Words, Remark}
-use Rattle.dom_model.specs.Contents.{with_attributes}
-use Rattle.dom_model.specs.Forest.{Forest, without, put_under, link}
-use Rattle.dom_model.specs.Revised.{revised}
+use Rattle.forest_changes.specs.DomModel.declared.Content.{Content}
+use Rattle.forest_changes.specs.DomModel.declared.Content.TheVariants.{Document, Element, Words, Remark}
+use Rattle.forest_changes.specs.DomModel.Contents.{with_attributes}
+use Rattle.forest_changes.specs.DomModel.Forest.{Forest, without, put_under, link}
+use Rattle.forest_changes.specs.DomModel.Revised.{revised}
 use Rattle.document_edits.specs.declared.edit.DocumentEdit.{DocumentEdit}
 use Rattle.document_edits.specs.declared.edit.DocumentEdit.TheVariants.{Remove, Insert, Move, Replace, SetAttributes}
 use Rattle.document_edits.specs.Flat.{grown}

@@ -1,13 +1,13 @@
 -- How a change of the forest is told to one who keeps the document alone: as an edit of the
 -- document, or not at all.
 use Rattle.std.specs.Prelude.{ℕ, Bool, List, [], ◌∷◌, ◌++◌, length, reverse, Option, unwrap_or, if◌then◌else◌}
-use Rattle.dom_model.specs.declared.Content.{Content}
-use Rattle.dom_model.specs.Change.{Change, listed}
-use Rattle.dom_model.specs.Change as change
-use Rattle.dom_model.specs.Contents.{chars_of}
-use Rattle.dom_model.specs.Forest.{Forest, tree_of}
+use Rattle.forest_changes.specs.DomModel.declared.Content.{Content}
+use Rattle.forest_changes.specs.DomModel.Change.{Change, listed}
+use Rattle.forest_changes.specs.DomModel.Change as change
+use Rattle.forest_changes.specs.DomModel.Contents.{chars_of}
+use Rattle.forest_changes.specs.DomModel.Forest.{Forest, tree_of}
 use Rattle.point_order.specs.PointOrder.{is_in_document}
-use Rattle.undo_log.specs.Turning.{forth, inverses_forth}
+use Rattle.forest_changes.specs.UndoLog.Turning.{forth, inverses_forth}
 use Rattle.forest_changes.specs.Change.{applied, inverse, spliced_at}
 use Rattle.document_edits.specs.declared.edit.DocumentEdit.{DocumentEdit}
 use Rattle.document_edits.specs.declared.edit.DocumentEdit.TheVariants.{Remove, Insert, Move, SetAttributes}

@@ -1,6 +1,6 @@
 //! Edits of a document, by the labels of its nodes.
 
-use dom_model::{Attributes, Chars, Content, Items};
+use forest_changes::dom::{Attributes, Chars, Content, Items};
 
 /// A node of a tree that comes into the document: how many levels it stands below the root of the
 /// tree, its label, and its content.

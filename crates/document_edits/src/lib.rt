@@ -5,10 +5,10 @@
 #![tactic(auto)]
 
 ghost use Rattle.std.specs.Prelude.{◌≡◌, ℕ, Bool, List, ◌++◌};
-ghost use Rattle.dom_model.specs.declared.Content.{Content};
-ghost use Rattle.dom_model.specs.Forest.{Forest, tree_of};
-ghost use Rattle.dom_model.specs.Pruned.{pruned};
-ghost use Rattle.undo_log.specs.Turning.{forth, FitsForth};
+ghost use Rattle.forest_changes.specs.DomModel.declared.Content.{Content};
+ghost use Rattle.forest_changes.specs.DomModel.Forest.{Forest, tree_of};
+ghost use Rattle.forest_changes.specs.DomModel.Pruned.{pruned};
+ghost use Rattle.forest_changes.specs.UndoLog.Turning.{forth, FitsForth};
 ghost use Rattle.forest_changes.specs.Change.{Change, Fits, applied, whole, wholes};
 ghost use Rattle.forest_changes.specs.Named.{named, named_in, Each};
 ghost use Rattle.forest_changes.specs.Down.{Prunes, IsLeft};
@@ -20,6 +20,8 @@ mod edit;
 mod replacing;
 
 pub use edit::{DocumentEdit, TreeNode};
+pub use forest_changes::{dom, history};
+pub use point_order as boundary;
 pub use replacing::replaced;
 
 /// What a change of the forest is told as leads from the document before it to the document after

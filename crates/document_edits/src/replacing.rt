@@ -4,7 +4,7 @@ ghost use Rattle.std.specs.Prelude.{◌≡◌, ◌^◌, ◌<◌, ◌≤◌, IfOk
 ghost use Rattle.document_edits.specs.Replaced as spec;
 
 use crate::DocumentEdit;
-use dom_model::Chars;
+use forest_changes::dom::Chars;
 use std::alloc::{AllocError, Global};
 
 // How many characters are the same at the starts of two texts.

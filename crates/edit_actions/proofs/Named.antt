@@ -1,7 +1,7 @@
 -- What is named of the nodes of a document is found in it.
 use Rattle.std.proofs.Common.{ℕ, Option, Some, None}
-use Rattle.node_arena.specs.declared.NodeRef.{NodeRef}
-use Rattle.node_arena.specs.Reads.{Names}
+use Rattle.edit_model.specs.NodeArena.declared.NodeRef.{NodeRef}
+use Rattle.edit_model.specs.NodeArena.Reads.{Names}
 use Rattle.edit_doc.specs.Whole.{Whole}
 use Rattle.edit_doc.specs.Held.{Holds, Finds}
 

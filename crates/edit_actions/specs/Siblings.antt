@@ -1,6 +1,6 @@
 -- Lists of siblings, and the children of a node up to one of them.
 use Rattle.std.specs.Prelude.{ℕ, Bool, false, ◌||◌, ◌==◌, List, [], ◌∷◌, Option, Some, None, if◌then◌else◌}
-use Rattle.dom_model.specs.Forest.{is_label, either, parent_of, first_of, last_of}
+use Rattle.edit_model.specs.DomModel.Forest.{is_label, either, parent_of, first_of, last_of}
 use Rattle.edit_model.specs.State.{State}
 
 -- the parent of the first member that has one

@@ -1,7 +1,7 @@
 //! The ends of the active range, and the editing host that a command works in.
 
 ghost use Rattle.std.specs.Prelude.{◌≡◌, true};
-ghost use Rattle.point_order.specs.PointOrder.{is_placed};
+ghost use Rattle.edit_model.specs.PointOrder.PointOrder.{is_placed};
 ghost use Rattle.edit_model.specs.Valid.{IsPlacedPair};
 ghost use Rattle.edit_doc.specs.Held.{Finds};
 ghost use Rattle.edit_actions.specs.ActiveRange.{start_of, end_of, host_of_pair, affected_host};

@@ -4,8 +4,8 @@ ghost use Rattle.std.specs.Prelude.{◌≡◌, IfOk};
 ghost use Rattle.edit_model.specs.Compositions.{tag_of, attribute_list_of};
 ghost use Rattle.edit_doc.specs.Held.{Holds};
 
-use dom_model::Content;
 use edit_doc::{Attributes, Doc, Name, NodeRef};
+use edit_model::dom::Content;
 use std::alloc::{AllocError, Global};
 
 /// A copy of the name of an element; of another node the empty one.

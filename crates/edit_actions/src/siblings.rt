@@ -1,7 +1,7 @@
 //! Lists of siblings.
 
 ghost use Rattle.std.specs.Prelude.{◌≡◌, IfOk};
-ghost use Rattle.dom_model.specs.Forest.{is_label, children_of};
+ghost use Rattle.edit_model.specs.DomModel.Forest.{is_label, children_of};
 ghost use Rattle.edit_model.specs.Gives.{label_of, labels_of};
 ghost use Rattle.edit_doc.specs.Held.{Holds, Finds, EachHeld};
 ghost use Rattle.edit_actions.specs.Siblings.{first_parent, members, until, is_among, starts_in, ends_in};

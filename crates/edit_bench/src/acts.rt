@@ -1,15 +1,15 @@
 //! What a round does: an arm for each act.
 
 ghost use Rattle.std.specs.Prelude.{◌≡◌, ◌<◌, IfOk, IfSome};
-ghost use Rattle.edit_doc.specs.Held.{EachHeld, Holds};
-ghost use Rattle.edit_doc.specs.Whole.{IsClosed, IsOpen};
+ghost use Rattle.wrap_split.specs.EditDoc.Held.{EachHeld, Holds};
+ghost use Rattle.wrap_split.specs.EditDoc.Whole.{IsClosed, IsOpen};
 
-use dom_model::{Attributes, Name};
-use edit_doc::{Doc, EditFault, NodeList, NodeRef};
+use page_read::stepping::Steps;
+use script_read::dom::{Attributes, Name};
 use std::alloc::{AllocError, Global};
 use std::marker::Brand;
 use std::sync::ledger::{Blank, Ledger};
-use step_count::Steps;
+use wrap_split::doc::{Doc, EditFault, NodeList, NodeRef};
 use wrap_split::{
     CopyMade, IndentationSibling, NoSibling, NothingMade, WrapRule, remove_keeping_children,
     split_parent, wrap,
@@ -38,7 +38,7 @@ pub(crate) fn act_named(word: &str) -> Option<Act> {
     }
 }
 
-#[tactic(auto, using(edit_doc::proofs::Children::pushed_held, edit_doc::proofs::Children::none_held))]
+#[tactic(auto, using(crate::proofs::Below::pushed_held, crate::proofs::Below::none_held))]
 fn listed(alloc: Global, doc: &Doc, node: NodeRef) -> Result<NodeList, AllocError>
     requires { Holds doc.now node }
     ensures { IfOk result (λ list. EachHeld doc.now list) }
@@ -113,7 +113,7 @@ fn undo(doc: &mut Doc) -> bool
 }
 
 // Begins a command, acts, and commits, and answers how many edits it made, which are then undone.
-#[tactic(auto, unfolding(edit_doc::specs::Whole::opened))]
+#[tactic(auto, unfolding(crate::specs::Below::opened))]
 fn run_round(alloc: Global, doc: &mut Doc, act: Act, label: u32) -> Option<u64>
     requires { IsClosed doc.old }
     ensures { IfSome result (λ _. IsClosed doc.new) }

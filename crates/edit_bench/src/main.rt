@@ -15,10 +15,9 @@
 mod acts;
 
 ghost use Rattle.std.specs.Prelude.{IfOk, IfSome};
-ghost use Rattle.edit_doc.specs.Whole.{HasNoLoose, IsClosed};
+ghost use Rattle.wrap_split.specs.EditDoc.Whole.{HasNoLoose, IsClosed};
 
 use acts::{Act, act_named, run_rounds};
-use edit_doc::{Arena, Doc};
 use edit_io::{ReadSource, read_all};
 use page_read::read_page;
 use script_read::read_number;
@@ -26,6 +25,7 @@ use std::alloc::Global;
 use std::env;
 use std::env::Env;
 use std::process::ExitCode;
+use wrap_split::doc::{Arena, Doc};
 
 // What is done, to which node, and how often.
 #[derive(Clone, Copy)]
@@ -49,7 +49,7 @@ fn arena_of(alloc: Global, page: &[u8]) -> Option<Arena>
     read_page(alloc, page, 2_000_000).ok()
 }
 
-#[tactic(auto, unfolding(edit_doc::specs::Whole::first_doc))]
+#[tactic(auto, unfolding(crate::specs::Below::first_doc))]
 fn doc_of(alloc: Global, page: &[u8]) -> Option<Doc>
     ensures { IfSome result (λ doc. IsClosed doc) }
 {

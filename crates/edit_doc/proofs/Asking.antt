@@ -1,11 +1,11 @@
 -- The tests on edits, by what they ask.
 use Rattle.std.proofs.Common.{◌≡◌, ℕ, Bool, true, false, Option, Some, None, refl, sym, ap, ◌∙◌, eqb}
 use Rattle.std.specs.Prelude.{◌&&◌, ◌||◌, not, is_none}
-use Rattle.dom_model.specs.declared.Content.{Content}
-use Rattle.dom_model.specs.Contents.{is_parent_at}
-use Rattle.dom_model.specs.Forest.{Forest, is_label, parent_of, next_of}
-use Rattle.node_arena.specs.declared.NodeRef.{NodeRef}
-use Rattle.point_order.specs.PointOrder.{is_within, is_in_document}
+use Rattle.edit_model.specs.DomModel.declared.Content.{Content}
+use Rattle.edit_model.specs.DomModel.Contents.{is_parent_at}
+use Rattle.edit_model.specs.DomModel.Forest.{Forest, is_label, parent_of, next_of}
+use Rattle.edit_model.specs.NodeArena.declared.NodeRef.{NodeRef}
+use Rattle.edit_model.specs.PointOrder.PointOrder.{is_within, is_in_document}
 use Rattle.edit_model.specs.Confined.{is_open, is_place, may_go, may_insert, stands_so}
 use Rattle.edit_model.specs.Gives.{label_of}
 use Rattle.edit_doc.specs.Whole.{Whole}

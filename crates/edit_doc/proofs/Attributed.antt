@@ -5,31 +5,31 @@ use Rattle.std.specs.Option.{option_map_or, option_map, option_and_then, option_
 use Rattle.std.proofs.Common.{Bor}
 use Rattle.std.proofs.lemmas.Bool.Decides.{eqb_tells}
 use Rattle.std.proofs.lemmas.List.{append-nil}
-use Rattle.dom_model.specs.declared.Content.{Content}
-use Rattle.dom_model.specs.declared.Content.TheVariants.{Document, Element, Words, Remark}
-use Rattle.dom_model.specs.declared.attributes.Attribute.{Attribute}
-use Rattle.dom_model.specs.AttributeList.{set_in, unset_in, value_of, IsDistinctNames}
-use Rattle.dom_model.specs.Contents.{is_element, attributes_in, attributes_of, with_attributes, words_length}
-use Rattle.dom_model.specs.Document.{node_count, char_count}
-use Rattle.dom_model.specs.Forest.{Forest, Seen, tops, total, content_of, tree_of, IsDistinct}
-use Rattle.dom_model.specs.Forest.Forest.{Nil, Tree}
-use Rattle.dom_model.specs.Revised.{revised}
-use Rattle.dom_model.specs.Pruned.{pruned}
-use Rattle.dom_model.specs.ArenaState.{ArenaState as Arena, IsValid as IsArena, IsSlotted}
-use Rattle.dom_model.proofs.AttributeLemmas.{distinct-set, distinct-unset}
-use Rattle.dom_model.proofs.Revising.{total-revised}
-use Rattle.dom_model.proofs.Stands.{Stands, seek_Stands}
-use Rattle.dom_model.proofs.Pruning.{IsDistinct-pruned}
-use Rattle.node_arena.specs.declared.NodeRef.{NodeRef}
-use Rattle.live_range.specs.declared.places.Point.{Point}
-use Rattle.live_range.specs.declared.places.Pair.{Pair}
-use Rattle.live_range.specs.ActiveRange.{range_changed, same_point, range_start, range_end}
-use Rattle.point_order.specs.PointOrder.{is_before}
-use Rattle.forest_changes.specs.Change.{SetAttributes, applied, inverse}
-use Rattle.forest_changes.proofs.Twice.{forest_of}
-use Rattle.forest_changes.proofs.PrunedChanges.{content_of-pruned}
-use Rattle.edit_steps.specs.declared.step.Step.TheVariants as step
-use Rattle.edit_steps.specs.Step.{StepFits, change_of, step_applied, step_inverse}
+use Rattle.edit_model.specs.DomModel.declared.Content.{Content}
+use Rattle.edit_model.specs.DomModel.declared.Content.TheVariants.{Document, Element, Words, Remark}
+use Rattle.edit_model.specs.DomModel.declared.attributes.Attribute.{Attribute}
+use Rattle.edit_model.specs.DomModel.AttributeList.{set_in, unset_in, value_of, IsDistinctNames}
+use Rattle.edit_model.specs.DomModel.Contents.{is_element, attributes_in, attributes_of, with_attributes, words_length}
+use Rattle.edit_model.specs.DomModel.Document.{node_count, char_count}
+use Rattle.edit_model.specs.DomModel.Forest.{Forest, Seen, tops, total, content_of, tree_of, IsDistinct}
+use Rattle.edit_model.specs.DomModel.Forest.Forest.{Nil, Tree}
+use Rattle.edit_model.specs.DomModel.Revised.{revised}
+use Rattle.edit_model.specs.DomModel.Pruned.{pruned}
+use Rattle.edit_model.specs.DomModel.ArenaState.{ArenaState as Arena, IsValid as IsArena, IsSlotted}
+use Rattle.edit_model.proofs.DomModel.AttributeLemmas.{distinct-set, distinct-unset}
+use Rattle.edit_model.proofs.DomModel.Revising.{total-revised}
+use Rattle.edit_model.proofs.DomModel.Stands.{Stands, seek_Stands}
+use Rattle.edit_model.proofs.DomModel.Pruning.{IsDistinct-pruned}
+use Rattle.edit_model.specs.NodeArena.declared.NodeRef.{NodeRef}
+use Rattle.edit_model.specs.LiveRange.declared.places.Point.{Point}
+use Rattle.edit_model.specs.LiveRange.declared.places.Pair.{Pair}
+use Rattle.edit_model.specs.LiveRange.ActiveRange.{range_changed, same_point, range_start, range_end}
+use Rattle.edit_model.specs.PointOrder.PointOrder.{is_before}
+use Rattle.step_edits.specs.ForestChanges.Change.{SetAttributes, applied, inverse}
+use Rattle.step_edits.proofs.ForestChanges.Twice.{forest_of}
+use Rattle.step_edits.proofs.ForestChanges.PrunedChanges.{content_of-pruned}
+use Rattle.step_edits.specs.EditSteps.declared.step.Step.TheVariants as step
+use Rattle.step_edits.specs.EditSteps.Step.{StepFits, change_of, step_applied, step_inverse}
 use Rattle.edit_model.specs.State.{State}
 use Rattle.edit_model.specs.Edit.{Edit, Set, Unset, is_made_edit, change_of as edit_change, trees_after, points_after, overrides_after, with_set, with_unset}
 use Rattle.edit_model.specs.Confined.{is_own, may_set, may_unset, has_value}

@@ -2,18 +2,18 @@
 use Rattle.std.proofs.Common.{◌≡◌, ℕ, zero, suc, ◌+◌, ◌<◌, ◌≤◌, Bool, true, false, true≢false, ◌-◌, List, [], ◌∷◌, length, take, drop, Option, Some, None, IfSome, refl, sym, ap, subst, ◌∙◌, inl, inr, arith}
 use Rattle.std.specs.Prelude.{◌&&◌, nat_le, slice_index_or}
 use Rattle.std.proofs.lemmas.Bool.Decides.{eqb_tells}
-use Rattle.dom_model.specs.declared.Content.{Content}
-use Rattle.dom_model.specs.Document.{page_depth}
-use Rattle.dom_model.specs.Forest.{Forest, tops, times, count_of}
-use Rattle.dom_model.specs.Pruned.{pruned}
-use Rattle.dom_model.specs.ArenaState.{IsValid as IsArena}
-use Rattle.live_range.specs.LivePoints.{LivePoints}
-use Rattle.node_arena.specs.declared.NodeRef.{NodeRef}
-use Rattle.undo_log.specs.Turning.{back, inverses_back, FitsBack}
-use Rattle.undo_log.specs.Log.{Log, noted, is_resumed, begun as begun_log}
-use Rattle.undo_log.specs.Log.Open.{Closed}
-use Rattle.forest_changes.specs.Named.{Each}
-use Rattle.edit_steps.specs.declared.step.Step.{Step}
+use Rattle.edit_model.specs.DomModel.declared.Content.{Content}
+use Rattle.edit_model.specs.DomModel.Document.{page_depth}
+use Rattle.edit_model.specs.DomModel.Forest.{Forest, tops, times, count_of}
+use Rattle.edit_model.specs.DomModel.Pruned.{pruned}
+use Rattle.edit_model.specs.DomModel.ArenaState.{IsValid as IsArena}
+use Rattle.edit_model.specs.LiveRange.LivePoints.{LivePoints}
+use Rattle.edit_model.specs.NodeArena.declared.NodeRef.{NodeRef}
+use Rattle.step_edits.specs.UndoLog.Turning.{back, inverses_back, FitsBack}
+use Rattle.step_edits.specs.UndoLog.Log.{Log, noted, is_resumed, begun as begun_log}
+use Rattle.step_edits.specs.UndoLog.Log.Open.{Closed}
+use Rattle.step_edits.specs.ForestChanges.Named.{Each}
+use Rattle.step_edits.specs.EditSteps.declared.step.Step.{Step}
 use Rattle.edit_model.specs.State.{State}
 use Rattle.edit_model.specs.Valid.{IsPlaced, IsForest}
 use Rattle.edit_model.specs.History.{begun, document_of}

@@ -3,12 +3,12 @@ use Rattle.std.proofs.Common.{◌≡◌, ◌≢◌, ℕ, ◌+◌, ◌<◌, ◌�
 use Rattle.std.specs.Option.{option_map, option_map_or, option_and_then}
 use Rattle.std.proofs.lemmas.Bool.{eq-eqb}
 use Rattle.std.proofs.lemmas.Bool.Decides.{eqb_tells}
-use Rattle.dom_model.specs.Forest.{Forest, Seen, times, taken_from, put_in, first_in, after_in, IsDistinct, CanPut, seek, parent_of, children_of, next_of, link, unlink}
-use Rattle.dom_model.specs.Places.{place_in, index_of}
-use Rattle.dom_model.proofs.Links.{seen, parent_count, times-children_of, IsDistinct-unlink, parent_of-unlink, children_of-unlink, parent_of-link, children_of-link}
-use Rattle.dom_model.proofs.Neighbours.{parent_of-next}
-use Rattle.live_range.specs.declared.places.Point.{Point}
-use Rattle.node_arena.specs.declared.NodeRef.{NodeRef}
+use Rattle.edit_model.specs.DomModel.Forest.{Forest, Seen, times, taken_from, put_in, first_in, after_in, IsDistinct, CanPut, seek, parent_of, children_of, next_of, link, unlink}
+use Rattle.edit_model.specs.DomModel.Places.{place_in, index_of}
+use Rattle.edit_model.proofs.DomModel.Links.{seen, parent_count, times-children_of, IsDistinct-unlink, parent_of-unlink, children_of-unlink, parent_of-link, children_of-link}
+use Rattle.edit_model.proofs.DomModel.Neighbours.{parent_of-next}
+use Rattle.edit_model.specs.LiveRange.declared.places.Point.{Point}
+use Rattle.edit_model.specs.NodeArena.declared.NodeRef.{NodeRef}
 use Rattle.edit_model.specs.State.{State}
 use Rattle.edit_model.specs.Edit.{Insert, Remove, is_made_edit, changed, with_change, trees_after}
 use Rattle.edit_model.specs.Action.{applied}

@@ -5,27 +5,27 @@ use Rattle.std.specs.Prelude.{IsTrue, ◌==◌}
 use Rattle.std.proofs.lemmas.List.{take-append-le, drop-append-le}
 use Rattle.std.proofs.lemmas.List.Folds.{list_any-append}
 use Rattle.std.proofs.lemmas.Bool.Decides.{eqb_tells}
-use Rattle.dom_model.specs.declared.Content.{Content}
-use Rattle.dom_model.specs.Forest.{Forest, tops, times, count_of}
-use Rattle.dom_model.specs.Pruned.{pruned}
-use Rattle.dom_model.specs.ArenaState.{ArenaState as Arena, IsValid as IsArena}
-use Rattle.node_arena.specs.declared.NodeRef.{NodeRef}
-use Rattle.live_range.specs.LivePoints.{LivePoints}
-use Rattle.live_range.specs.PointsEdit.{has_label}
-use Rattle.live_range.specs.Names.{shown}
-use Rattle.undo_log.specs.Turning.{back, inverses_back, FitsBack}
-use Rattle.undo_log.specs.Log.{Open, noted, is_open, is_resumed, with_noted, with_step}
-use Rattle.undo_log.specs.Log.Open.{Closed, Begun, Resumed}
-use Rattle.undo_log.proofs.Turns.{back-append, inverses_back-append, FitsBack-more}
-use Rattle.forest_changes.specs.Change.{Change, Fits, Turns, applied, inverse}
-use Rattle.forest_changes.specs.Named.{Each, named, named_in}
-use Rattle.forest_changes.specs.Down.{Prunes, IsLeft, GoesDown}
-use Rattle.forest_changes.proofs.ChangeLists.{each_of, each_join, each_first, each_rest}
-use Rattle.forest_changes.proofs.DownChange.{down, prunes_roots}
-use Rattle.forest_changes.proofs.Twice.{turns, forest_of}
-use Rattle.edit_steps.specs.declared.step.Step.{Step}
-use Rattle.edit_steps.specs.Step.{change_of, changes_of, nodes_of, nodes_in, step_inverse, StepFits}
-use Rattle.edit_steps.specs.StepLaws.{change_of-inverse, held-inverse}
+use Rattle.edit_model.specs.DomModel.declared.Content.{Content}
+use Rattle.edit_model.specs.DomModel.Forest.{Forest, tops, times, count_of}
+use Rattle.edit_model.specs.DomModel.Pruned.{pruned}
+use Rattle.edit_model.specs.DomModel.ArenaState.{ArenaState as Arena, IsValid as IsArena}
+use Rattle.edit_model.specs.NodeArena.declared.NodeRef.{NodeRef}
+use Rattle.edit_model.specs.LiveRange.LivePoints.{LivePoints}
+use Rattle.edit_model.specs.LiveRange.PointsEdit.{has_label}
+use Rattle.edit_model.specs.LiveRange.Names.{shown}
+use Rattle.step_edits.specs.UndoLog.Turning.{back, inverses_back, FitsBack}
+use Rattle.step_edits.specs.UndoLog.Log.{Open, noted, is_open, is_resumed, with_noted, with_step}
+use Rattle.step_edits.specs.UndoLog.Log.Open.{Closed, Begun, Resumed}
+use Rattle.step_edits.proofs.UndoLog.Turns.{back-append, inverses_back-append, FitsBack-more}
+use Rattle.step_edits.specs.ForestChanges.Change.{Change, Fits, Turns, applied, inverse}
+use Rattle.step_edits.specs.ForestChanges.Named.{Each, named, named_in}
+use Rattle.step_edits.specs.ForestChanges.Down.{Prunes, IsLeft, GoesDown}
+use Rattle.step_edits.proofs.ForestChanges.ChangeLists.{each_of, each_join, each_first, each_rest}
+use Rattle.step_edits.proofs.ForestChanges.DownChange.{down, prunes_roots}
+use Rattle.step_edits.proofs.ForestChanges.Twice.{turns, forest_of}
+use Rattle.step_edits.specs.EditSteps.declared.step.Step.{Step}
+use Rattle.step_edits.specs.EditSteps.Step.{change_of, changes_of, nodes_of, nodes_in, step_inverse, StepFits}
+use Rattle.step_edits.specs.EditSteps.StepLaws.{change_of-inverse, held-inverse}
 use Rattle.edit_model.specs.declared.settings.Setting.{Setting}
 use Rattle.edit_model.specs.State.{State}
 use Rattle.edit_model.specs.Valid.{IsValid}

@@ -1,12 +1,12 @@
 -- The children of a node, listed from the first on.
 use Rattle.std.proofs.Common.{◌≡◌, ℕ, zero, suc, ◌<◌, List, [], ◌∷◌, ◌++◌, length, Option, Some, None, refl, sym, ap, ◌∙◌, subst, arith}
-use Rattle.dom_model.specs.declared.Content.{Content}
-use Rattle.dom_model.specs.Forest.{Forest, tops, total, parent_of, first_of, next_of, children_of, first_in, IsDistinct}
-use Rattle.dom_model.specs.Forest.Forest.{Nil, Tree}
-use Rattle.dom_model.specs.Places.{onward}
-use Rattle.dom_model.proofs.Neighbours.{parent_of-first, parent_of-next}
-use Rattle.dom_model.proofs.Parts.{At, at_label}
-use Rattle.node_arena.specs.declared.NodeRef.{NodeRef}
+use Rattle.edit_model.specs.DomModel.declared.Content.{Content}
+use Rattle.edit_model.specs.DomModel.Forest.{Forest, tops, total, parent_of, first_of, next_of, children_of, first_in, IsDistinct}
+use Rattle.edit_model.specs.DomModel.Forest.Forest.{Nil, Tree}
+use Rattle.edit_model.specs.DomModel.Places.{onward}
+use Rattle.edit_model.proofs.DomModel.Neighbours.{parent_of-first, parent_of-next}
+use Rattle.edit_model.proofs.DomModel.Parts.{At, at_label}
+use Rattle.edit_model.specs.NodeArena.declared.NodeRef.{NodeRef}
 use Rattle.edit_model.specs.Gives.{label_of, labels_of}
 use Rattle.edit_model.proofs.Steps.{labels_of_push}
 use Rattle.edit_doc.specs.Whole.{Whole, IsDoc}

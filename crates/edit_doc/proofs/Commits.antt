@@ -1,18 +1,18 @@
 -- A command ends.
 use Rattle.std.proofs.Common.{◌≡◌, ℕ, ◌<◌, Bool, false, List, [], ◌∷◌, length, None, refl, sym, ap, subst, ◌∙◌, arith}
 use Rattle.std.specs.Prelude.{IsTrue, nat_le}
-use Rattle.undo_log.specs.declared.Committed.TheVariants.{Nothing, Entry as Made}
-use Rattle.dom_model.specs.Forest.{count_of}
-use Rattle.dom_model.specs.Pruned.{pruned, IsWhole}
-use Rattle.dom_model.specs.ArenaState.{ArenaState as Arena, IsValid as IsArena}
-use Rattle.dom_model.proofs.Pruning.{count_of-pruned}
-use Rattle.node_arena.specs.Held.{DropsMade}
-use Rattle.live_range.specs.LivePoints.{LivePoints}
-use Rattle.live_range.specs.Names.{shown}
-use Rattle.undo_log.specs.Log.{Log, Open, noted, is_open, joined, committed_with}
-use Rattle.undo_log.specs.Log.Open.{Closed, Begun, Resumed}
-use Rattle.undo_log.proofs.Lists.{append-nil}
-use Rattle.edit_steps.specs.declared.step.Step.{Step}
+use Rattle.step_edits.specs.UndoLog.declared.Committed.TheVariants.{Nothing, Entry as Made}
+use Rattle.edit_model.specs.DomModel.Forest.{count_of}
+use Rattle.edit_model.specs.DomModel.Pruned.{pruned, IsWhole}
+use Rattle.edit_model.specs.DomModel.ArenaState.{ArenaState as Arena, IsValid as IsArena}
+use Rattle.edit_model.proofs.DomModel.Pruning.{count_of-pruned}
+use Rattle.edit_model.specs.NodeArena.Held.{DropsMade}
+use Rattle.edit_model.specs.LiveRange.LivePoints.{LivePoints}
+use Rattle.edit_model.specs.LiveRange.Names.{shown}
+use Rattle.step_edits.specs.UndoLog.Log.{Log, Open, noted, is_open, joined, committed_with}
+use Rattle.step_edits.specs.UndoLog.Log.Open.{Closed, Begun, Resumed}
+use Rattle.step_edits.proofs.UndoLog.Lists.{append-nil}
+use Rattle.step_edits.specs.EditSteps.declared.step.Step.{Step}
 use Rattle.edit_model.specs.State.{State}
 use Rattle.edit_model.specs.Valid.{IsPlaced}
 use Rattle.edit_model.specs.History.{document_of, rested, recorded}

@@ -3,10 +3,10 @@ use Rattle.std.proofs.Common.{◌≡◌, ℕ, Bool, true, false, Option, Some, N
 use Rattle.std.specs.Prelude.{◌||◌, nat_le}
 use Rattle.std.proofs.lemmas.Bool.Decides.{eqb_tells}
 use Rattle.std.specs.Option.{option_map_or}
-use Rattle.dom_model.specs.Editing.{is_editable}
-use Rattle.dom_model.specs.Forest.{is_label}
-use Rattle.dom_model.specs.ArenaState.{ArenaState as Arena}
-use Rattle.node_arena.specs.declared.NodeRef.{NodeRef}
+use Rattle.edit_model.specs.DomModel.Editing.{is_editable}
+use Rattle.edit_model.specs.DomModel.Forest.{is_label}
+use Rattle.edit_model.specs.DomModel.ArenaState.{ArenaState as Arena}
+use Rattle.edit_model.specs.NodeArena.declared.NodeRef.{NodeRef}
 use Rattle.edit_model.specs.Confined.{is_editable_for, is_inside, is_made, is_open, is_own}
 use Rattle.edit_model.specs.Gives.{label_of}
 use Rattle.edit_doc.specs.declared.Doc.TheInside.{Inside}

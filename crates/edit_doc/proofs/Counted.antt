@@ -1,11 +1,11 @@
 -- The numbers of the document after a tree is linked or made loose.
 use Rattle.std.proofs.Common.{◌≡◌, ℕ, ◌+◌, cond, eqb, Option, Some, refl, ap, ◌∙◌, inl, inr, arith}
 use Rattle.std.proofs.lemmas.Bool.Decides.{eqb_tells}
-use Rattle.dom_model.specs.declared.Content.{Content}
-use Rattle.dom_model.specs.Forest.{Forest, total, count_of, tree_of, parent_of, put_under, link, unlink, CanPut, IsWithin}
-use Rattle.dom_model.specs.Forest.Forest.{Nil, Tree}
-use Rattle.dom_model.proofs.DropTree.{without_absent}
-use Rattle.dom_model.proofs.Totals.{total-without, total-put_under}
+use Rattle.edit_model.specs.DomModel.declared.Content.{Content}
+use Rattle.edit_model.specs.DomModel.Forest.{Forest, total, count_of, tree_of, parent_of, put_under, link, unlink, CanPut, IsWithin}
+use Rattle.edit_model.specs.DomModel.Forest.Forest.{Nil, Tree}
+use Rattle.edit_model.proofs.DomModel.DropTree.{without_absent}
+use Rattle.edit_model.proofs.DomModel.Totals.{total-without, total-put_under}
 use Rattle.edit_model.specs.Valid.{IsForest}
 use Rattle.edit_model.proofs.Documents.{document-link, document-unlink}
 use Rattle.edit_model.proofs.Trees.{tree_of-inside}

@@ -1,22 +1,22 @@
 -- The history over what is left of a forest, where its steps name only that.
 use Rattle.std.proofs.Common.{◌≡◌, ℕ, ◌<◌, ◌≤◌, Bool, false, List, [], ◌∷◌, map, Option, None, refl, sym, ap, subst, ◌∙◌, arith}
-use Rattle.dom_model.specs.declared.Content.{Content}
-use Rattle.dom_model.specs.Forest.{Forest, count_of, tree_of, parent_of, first_in, IsDistinct}
-use Rattle.dom_model.specs.Pruned.{pruned}
-use Rattle.dom_model.proofs.Pruning.{count_of-pruned, tree_of-pruned, parent_of-pruned, children_of-pruned}
-use Rattle.dom_model.proofs.Stands.{times-tops}
-use Rattle.undo_log.specs.Turning.{back, forth, FitsBack, FitsForth}
-use Rattle.forest_changes.specs.Change.{Change, IsForest, Fits, applied}
-use Rattle.forest_changes.specs.Named.{Each, named_in}
-use Rattle.forest_changes.specs.Down.{Prunes, IsLeft, GoBackDown, GoForthDown}
-use Rattle.forest_changes.proofs.ChangeLists.{each_of, each_first, each_rest, each_join, back_down, forth_down}
-use Rattle.forest_changes.proofs.Twice.{count_of-applied, IsForest-applied}
-use Rattle.edit_steps.specs.declared.step.Step.{Step}
-use Rattle.edit_steps.specs.Step.{changes_of, nodes_of, nodes_in}
-use Rattle.edit_steps.proofs.StepLists.{named_labels}
-use Rattle.node_arena.specs.declared.NodeRef.{NodeRef}
-use Rattle.live_range.specs.declared.places.Places.{Places}
-use Rattle.live_range.specs.Names.{shown, named, marks_of}
+use Rattle.edit_model.specs.DomModel.declared.Content.{Content}
+use Rattle.edit_model.specs.DomModel.Forest.{Forest, count_of, tree_of, parent_of, first_in, IsDistinct}
+use Rattle.edit_model.specs.DomModel.Pruned.{pruned}
+use Rattle.edit_model.proofs.DomModel.Pruning.{count_of-pruned, tree_of-pruned, parent_of-pruned, children_of-pruned}
+use Rattle.edit_model.proofs.DomModel.Stands.{times-tops}
+use Rattle.step_edits.specs.UndoLog.Turning.{back, forth, FitsBack, FitsForth}
+use Rattle.step_edits.specs.ForestChanges.Change.{Change, IsForest, Fits, applied}
+use Rattle.step_edits.specs.ForestChanges.Named.{Each, named_in}
+use Rattle.step_edits.specs.ForestChanges.Down.{Prunes, IsLeft, GoBackDown, GoForthDown}
+use Rattle.step_edits.proofs.ForestChanges.ChangeLists.{each_of, each_first, each_rest, each_join, back_down, forth_down}
+use Rattle.step_edits.proofs.ForestChanges.Twice.{count_of-applied, IsForest-applied}
+use Rattle.step_edits.specs.EditSteps.declared.step.Step.{Step}
+use Rattle.step_edits.specs.EditSteps.Step.{changes_of, nodes_of, nodes_in}
+use Rattle.step_edits.proofs.EditSteps.StepLists.{named_labels}
+use Rattle.edit_model.specs.NodeArena.declared.NodeRef.{NodeRef}
+use Rattle.edit_model.specs.LiveRange.declared.places.Places.{Places}
+use Rattle.edit_model.specs.LiveRange.Names.{shown, named, marks_of}
 use Rattle.edit_model.specs.Gives.{labels_of}
 use Rattle.edit_model.specs.History.{used}
 use Rattle.edit_doc.specs.declared.command.EntrySnapshot.{EntrySnapshot}

@@ -2,14 +2,14 @@
 use Rattle.std.proofs.Common.{◌≡◌, ◌≢◌, ℕ, ◌≤◌, true, false, List, length, Option, Some, None, IfSome, refl, ap, ◌∙◌, arith}
 use Rattle.std.proofs.lemmas.Bool.{ne_eqb}
 use Rattle.std.proofs.lemmas.List.Elements.{All-weaker}
-use Rattle.dom_model.specs.declared.Content.{Content}
-use Rattle.dom_model.specs.Contents.{length_of}
-use Rattle.dom_model.specs.Forest.{Forest, parent_of, children_of, unlink, IsDistinct}
-use Rattle.dom_model.proofs.Links.{children_of-unlink}
-use Rattle.live_range.specs.declared.places.Pair.{Pair}
-use Rattle.live_range.specs.declared.places.Point.{Point}
-use Rattle.live_range.specs.LivePoints.{LivePoints}
-use Rattle.point_order.specs.PointOrder.{is_placed}
+use Rattle.edit_model.specs.DomModel.declared.Content.{Content}
+use Rattle.edit_model.specs.DomModel.Contents.{length_of}
+use Rattle.edit_model.specs.DomModel.Forest.{Forest, parent_of, children_of, unlink, IsDistinct}
+use Rattle.edit_model.proofs.DomModel.Links.{children_of-unlink}
+use Rattle.edit_model.specs.LiveRange.declared.places.Pair.{Pair}
+use Rattle.edit_model.specs.LiveRange.declared.places.Point.{Point}
+use Rattle.edit_model.specs.LiveRange.LivePoints.{LivePoints}
+use Rattle.edit_model.specs.PointOrder.PointOrder.{is_placed}
 use Rattle.edit_model.specs.Edit.{index_before}
 use Rattle.edit_model.specs.Valid.{IsPlacedPair, IsPlaced}
 use Rattle.edit_model.proofs.Points.{placed_is}

@@ -1,17 +1,17 @@
 -- A command that made edits leaves an entry.
 use Rattle.std.proofs.Common.{◌≡◌, ℕ, zero, suc, ◌<◌, false, Option, List, [], ◌∷◌, take, refl, sym, ap, subst, arith, inl, inr}
-use Rattle.dom_model.specs.declared.Content.{Content}
-use Rattle.dom_model.specs.Forest.{Forest}
-use Rattle.dom_model.proofs.Pruning.{count_of-pruned}
-use Rattle.undo_log.specs.Turning.{inverses_back}
-use Rattle.forest_changes.specs.Change.{applied, inverse}
-use Rattle.forest_changes.specs.Named.{Each, named_in}
-use Rattle.forest_changes.specs.Down.{IsLeft, GoBackDown}
-use Rattle.forest_changes.proofs.ChangeLists.{each_of, back_down}
-use Rattle.forest_changes.proofs.Twice.{forest_of}
-use Rattle.edit_steps.specs.declared.step.Step.{Step}
-use Rattle.edit_steps.specs.Step.{changes_of}
-use Rattle.node_arena.specs.declared.NodeRef.{NodeRef}
+use Rattle.edit_model.specs.DomModel.declared.Content.{Content}
+use Rattle.edit_model.specs.DomModel.Forest.{Forest}
+use Rattle.edit_model.proofs.DomModel.Pruning.{count_of-pruned}
+use Rattle.step_edits.specs.UndoLog.Turning.{inverses_back}
+use Rattle.step_edits.specs.ForestChanges.Change.{applied, inverse}
+use Rattle.step_edits.specs.ForestChanges.Named.{Each, named_in}
+use Rattle.step_edits.specs.ForestChanges.Down.{IsLeft, GoBackDown}
+use Rattle.step_edits.proofs.ForestChanges.ChangeLists.{each_of, back_down}
+use Rattle.step_edits.proofs.ForestChanges.Twice.{forest_of}
+use Rattle.step_edits.specs.EditSteps.declared.step.Step.{Step}
+use Rattle.step_edits.specs.EditSteps.Step.{changes_of}
+use Rattle.edit_model.specs.NodeArena.declared.NodeRef.{NodeRef}
 use Rattle.edit_doc.specs.declared.Doc.TheInside.{Inside}
 use Rattle.edit_doc.specs.declared.command.EntrySnapshot.{EntrySnapshot}
 use Rattle.edit_doc.specs.declared.command.Command.{Command}
@@ -23,7 +23,7 @@ use Rattle.edit_doc.specs.Sound.{IsSnapshot, UndoSound}
 use Rattle.edit_doc.proofs.GivingUp.{filtered_loose, loose_is, listed_loose, listed_after}
 use Rattle.edit_doc.proofs.HiddenTrees.{tops_stay}
 use Rattle.edit_doc.proofs.Off.{each_off}
-use Rattle.dom_model.proofs.Stands.{true_or_false}
+use Rattle.edit_model.proofs.DomModel.Stands.{true_or_false}
 use Rattle.edit_doc.proofs.Inner.{Ending}
 use Rattle.edit_doc.proofs.Turnings.{prunes_after}
 use Rattle.edit_doc.proofs.Rolls.{run, g, xs, below_g, snapshot_of}

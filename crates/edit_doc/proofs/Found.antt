@@ -1,12 +1,12 @@
 -- The document of a forest, and which nodes are left of it with the root of their tree.
 use Rattle.std.proofs.Common.{◌≡◌, ℕ, ◌+◌, ◌<◌, ◌≤◌, Bool, false, Some, None, sym, ap, ◌∙◌, inl, inr, arith}
 use Rattle.std.proofs.lemmas.Bool.Decides.{eqb_tells}
-use Rattle.dom_model.specs.Forest.{Forest, join, tops, times, count_of, tree_of, parent_of, IsDistinct, IsWithin}
-use Rattle.dom_model.specs.Forest.Forest.{Nil, Tree}
-use Rattle.dom_model.specs.Pruned.{pruned}
-use Rattle.dom_model.proofs.Links.{seen, tree_of_absent}
-use Rattle.dom_model.proofs.Pruning.{count_of-pruned, tree_of-pruned}
-use Rattle.dom_model.proofs.Stands.{true_or_false, times-tops, parent_stands}
+use Rattle.edit_model.specs.DomModel.Forest.{Forest, join, tops, times, count_of, tree_of, parent_of, IsDistinct, IsWithin}
+use Rattle.edit_model.specs.DomModel.Forest.Forest.{Nil, Tree}
+use Rattle.edit_model.specs.DomModel.Pruned.{pruned}
+use Rattle.edit_model.proofs.DomModel.Links.{seen, tree_of_absent}
+use Rattle.edit_model.proofs.DomModel.Pruning.{count_of-pruned, tree_of-pruned}
+use Rattle.edit_model.proofs.DomModel.Stands.{true_or_false, times-tops, parent_stands}
 use Rattle.edit_doc.proofs.HiddenTrees.{tops_stay}
 
 module _ {C : Type 0} where

@@ -1,9 +1,9 @@
 -- A document outside commands without trees that its history doesn't name.
 use Rattle.std.proofs.Common.{◌≡◌, [], ℕ, Bool, false, sym, ap, subst, ◌∙◌, None}
-use Rattle.dom_model.specs.ArenaState.{ArenaState as Arena, IsValid as IsArena}
-use Rattle.forest_changes.specs.Change.{IsForest}
-use Rattle.forest_changes.specs.Down.{Prunes}
-use Rattle.forest_changes.proofs.Twice.{forest_of}
+use Rattle.edit_model.specs.DomModel.ArenaState.{ArenaState as Arena, IsValid as IsArena}
+use Rattle.step_edits.specs.ForestChanges.Change.{IsForest}
+use Rattle.step_edits.specs.ForestChanges.Down.{Prunes}
+use Rattle.step_edits.proofs.ForestChanges.Twice.{forest_of}
 use Rattle.edit_model.specs.Valid.{IsPlaced}
 use Rattle.edit_model.specs.History.{document_of}
 use Rattle.edit_doc.specs.declared.command.Command.{Command}

@@ -2,9 +2,9 @@
 use Rattle.std.proofs.Common.{◌≡◌, ℕ, true, true≢false, Bool, ◌||◌, not, eqb, Option, Some, None, refl, sym}
 use Rattle.std.specs.Prelude.{is_none}
 use Rattle.std.proofs.lemmas.Bool.{and_parts}
-use Rattle.dom_model.specs.Contents.{is_parent_at, is_break}
-use Rattle.dom_model.specs.Forest.{parent_of}
-use Rattle.point_order.specs.PointOrder.{is_within}
+use Rattle.edit_model.specs.DomModel.Contents.{is_parent_at, is_break}
+use Rattle.edit_model.specs.DomModel.Forest.{parent_of}
+use Rattle.edit_model.specs.PointOrder.PointOrder.{is_within}
 use Rattle.edit_model.specs.State.{State}
 use Rattle.edit_model.specs.Confined.{is_open, is_own, is_there, is_place, may_leave, may_go, may_insert, may_remove, may_move, may_replace, may_set, may_unset}
 use Rattle.edit_model.specs.Edit.{Edit, Insert, Remove, Move, Replace, Set, Unset, is_made_edit}

@@ -3,22 +3,22 @@ use Rattle.std.proofs.Common.{◌≡◌, ◌≢◌, ℕ, zero, suc, ◌+◌, ◌
 use Rattle.std.specs.Prelude.{◌&&◌, ◌||◌, ◌==◌, not, nat_le, is_some}
 use Rattle.std.proofs.lemmas.Bool.Decides.{eqb_tells, nat_tests}
 use Rattle.std.proofs.lemmas.List.Folds.{list_any-append}
-use Rattle.dom_model.specs.declared.Content.{Content}
-use Rattle.dom_model.specs.Forest.{Forest, tops, times, count_of, tree_of, parent_of, without, IsDistinct}
-use Rattle.dom_model.specs.Forest.Forest.{Nil, Tree}
-use Rattle.dom_model.specs.Pruned.{pruned}
-use Rattle.dom_model.specs.ArenaState.{ArenaState as Arena, IsValid as IsArena}
-use Rattle.dom_model.proofs.Stands.{true_or_false, times-tops}
-use Rattle.dom_model.proofs.Pruning.{count_of-pruned}
-use Rattle.dom_model.proofs.Totals.{total-without}
-use Rattle.forest_changes.specs.Named.{Each}
-use Rattle.live_range.specs.PointsEdit.{has_label}
+use Rattle.edit_model.specs.DomModel.declared.Content.{Content}
+use Rattle.edit_model.specs.DomModel.Forest.{Forest, tops, times, count_of, tree_of, parent_of, without, IsDistinct}
+use Rattle.edit_model.specs.DomModel.Forest.Forest.{Nil, Tree}
+use Rattle.edit_model.specs.DomModel.Pruned.{pruned}
+use Rattle.edit_model.specs.DomModel.ArenaState.{ArenaState as Arena, IsValid as IsArena}
+use Rattle.edit_model.proofs.DomModel.Stands.{true_or_false, times-tops}
+use Rattle.edit_model.proofs.DomModel.Pruning.{count_of-pruned}
+use Rattle.edit_model.proofs.DomModel.Totals.{total-without}
+use Rattle.step_edits.specs.ForestChanges.Named.{Each}
+use Rattle.edit_model.specs.LiveRange.PointsEdit.{has_label}
 use Rattle.edit_model.specs.Gives.{labels_of}
 use Rattle.edit_model.proofs.Steps.{labels_of-append}
-use Rattle.forest_changes.proofs.DownChange.{pruned_tree}
-use Rattle.forest_changes.proofs.Twice.{forest_of}
-use Rattle.node_arena.specs.declared.NodeRef.{NodeRef}
-use Rattle.node_arena.specs.Held.{Holds, DropsTree, label}
+use Rattle.step_edits.proofs.ForestChanges.DownChange.{pruned_tree}
+use Rattle.step_edits.proofs.ForestChanges.Twice.{forest_of}
+use Rattle.edit_model.specs.NodeArena.declared.NodeRef.{NodeRef}
+use Rattle.edit_model.specs.NodeArena.Held.{Holds, DropsTree, label}
 use Rattle.edit_doc.specs.declared.command.Command.{Command}
 use Rattle.edit_doc.specs.GivingUp.{GivesUp, is_unnamed, is_loose, loose_roots}
 use Rattle.edit_doc.specs.Marks.{has_named}

@@ -1,9 +1,9 @@
 -- Where no kept point stands at a node, nothing grows at its places.
 use Rattle.std.proofs.Common.{◌≡◌, Bool, true, false, if◌then◌else◌, refl, subst}
-use Rattle.live_range.specs.declared.places.Point.{Point}
-use Rattle.live_range.specs.PointsEdit.{has_label}
-use Rattle.live_range.specs.LivePoints.{labels_of}
-use Rattle.point_order.specs.PointOrder.{is_before}
+use Rattle.edit_model.specs.LiveRange.declared.places.Point.{Point}
+use Rattle.edit_model.specs.LiveRange.PointsEdit.{has_label}
+use Rattle.edit_model.specs.LiveRange.LivePoints.{labels_of}
+use Rattle.edit_model.specs.PointOrder.PointOrder.{is_before}
 use Rattle.edit_model.specs.State.{State}
 use Rattle.edit_model.specs.Confined.{may_grow}
 use Rattle.edit_model.specs.Edit.{changed, overrides_after}

@@ -3,17 +3,17 @@ use Rattle.std.proofs.Common.{◌≡◌, ℕ, zero, suc, ◌+◌, ◌<◌, ◌�
 use Rattle.std.specs.Prelude.{◌&&◌, nat_le}
 use Rattle.std.specs.Option.{option_map, option_map_or, option_and_then}
 use Rattle.std.proofs.lemmas.Bool.Decides.{eqb_tells, nat_tests}
-use Rattle.dom_model.specs.declared.Content.{Content}
-use Rattle.dom_model.specs.Contents.{length_of, length_in}
-use Rattle.dom_model.specs.Document.{node_count, char_count, page_depth}
-use Rattle.dom_model.specs.Forest.{Forest, Seen, tops, times, count_of, tree_of, parent_of, IsDistinct, IsWithin, RisesFrom}
-use Rattle.dom_model.specs.Forest.Forest.{Nil, Tree}
-use Rattle.dom_model.specs.Places.{levels, kids_in}
-use Rattle.dom_model.specs.Pruned.{pruned}
-use Rattle.dom_model.proofs.Pruning.{count_of-pruned, seek-pruned, parent_of-pruned}
-use Rattle.dom_model.proofs.Stands.{true_or_false, times-tops, top_stands, seek_Stands, seek_absent}
-use Rattle.live_range.specs.LivePoints.{LivePoints}
-use Rattle.forest_changes.specs.Change.{IsForest}
+use Rattle.edit_model.specs.DomModel.declared.Content.{Content}
+use Rattle.edit_model.specs.DomModel.Contents.{length_of, length_in}
+use Rattle.edit_model.specs.DomModel.Document.{node_count, char_count, page_depth}
+use Rattle.edit_model.specs.DomModel.Forest.{Forest, Seen, tops, times, count_of, tree_of, parent_of, IsDistinct, IsWithin, RisesFrom}
+use Rattle.edit_model.specs.DomModel.Forest.Forest.{Nil, Tree}
+use Rattle.edit_model.specs.DomModel.Places.{levels, kids_in}
+use Rattle.edit_model.specs.DomModel.Pruned.{pruned}
+use Rattle.edit_model.proofs.DomModel.Pruning.{count_of-pruned, seek-pruned, parent_of-pruned}
+use Rattle.edit_model.proofs.DomModel.Stands.{true_or_false, times-tops, top_stands, seek_Stands, seek_absent}
+use Rattle.edit_model.specs.LiveRange.LivePoints.{LivePoints}
+use Rattle.step_edits.specs.ForestChanges.Change.{IsForest}
 use Rattle.edit_model.specs.Valid.{IsPlaced, IsForest as IsModelForest}
 use Rattle.edit_model.proofs.Points.{Leaves, points_left}
 use Rattle.edit_model.proofs.Documents.{document_shape}

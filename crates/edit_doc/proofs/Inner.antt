@@ -1,15 +1,15 @@
 -- The fields of a document under edits, and whether a command is open.
 use Rattle.std.proofs.Common.{◌≡◌, ◌<◌, List, length, Option, None, refl, sym, ap, subst, ◌∙◌}
 use Rattle.std.specs.Prelude.{IsTrue, IsSome}
-use Rattle.dom_model.specs.ArenaState.{IsValid as IsArena}
-use Rattle.undo_log.specs.Log.{Open, noted, is_open}
-use Rattle.undo_log.specs.Log.Open.{Closed, Begun, Resumed}
-use Rattle.edit_steps.specs.declared.step.Step.{Step}
+use Rattle.edit_model.specs.DomModel.ArenaState.{IsValid as IsArena}
+use Rattle.step_edits.specs.UndoLog.Log.{Open, noted, is_open}
+use Rattle.step_edits.specs.UndoLog.Log.Open.{Closed, Begun, Resumed}
+use Rattle.step_edits.specs.EditSteps.declared.step.Step.{Step}
 use Rattle.edit_model.specs.State.{State}
 use Rattle.edit_doc.specs.declared.Doc.TheInside.{Inside}
 use Rattle.edit_doc.specs.Whole.{Whole, IsOpen, IsClosed}
 use Rattle.edit_doc.specs.History.{whole_of, began_with}
-use Rattle.live_range.specs.declared.places.Places.{Places}
+use Rattle.edit_model.specs.LiveRange.declared.places.Places.{Places}
 use Rattle.edit_doc.specs.declared.command.EntrySnapshot.{EntrySnapshot}
 use Rattle.edit_doc.specs.Fields.{AreResting, Enters}
 use Rattle.edit_doc.specs.GivingUp.{loose_roots}

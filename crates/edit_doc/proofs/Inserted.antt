@@ -3,17 +3,17 @@ use Rattle.std.proofs.Common.{◌≡◌, ℕ, zero, suc, ◌+◌, ◌<◌, ◌�
 use Rattle.std.specs.Prelude.{nat_lt}
 use Rattle.std.specs.Option.{option_map_or}
 use Rattle.std.proofs.lemmas.Bool.Decides.{eqb_tells}
-use Rattle.dom_model.specs.declared.Content.{Content}
-use Rattle.dom_model.specs.declared.Content.TheVariants.{Document, Element, Words, Remark}
-use Rattle.dom_model.specs.Contents.{words_length, char_length}
-use Rattle.dom_model.specs.Forest.{Forest, total, times, put_in, count_of, tree_of, parent_of, children_of, link, CanPut, IsDistinct}
-use Rattle.dom_model.specs.Places.{place_in, index_of}
-use Rattle.dom_model.specs.ArenaState.{ArenaState as Arena, IsValid as IsArena}
-use Rattle.dom_model.proofs.Deepest.{total-bound}
-use Rattle.dom_model.proofs.Links.{total-link, parent_of-link, children_of-link, absent_n, seen}
-use Rattle.dom_model.proofs.Totals.{total-without}
-use Rattle.dom_model.proofs.Stands.{true_or_false}
-use Rattle.point_order.specs.PointOrder.{is_in_document}
+use Rattle.edit_model.specs.DomModel.declared.Content.{Content}
+use Rattle.edit_model.specs.DomModel.declared.Content.TheVariants.{Document, Element, Words, Remark}
+use Rattle.edit_model.specs.DomModel.Contents.{words_length, char_length}
+use Rattle.edit_model.specs.DomModel.Forest.{Forest, total, times, put_in, count_of, tree_of, parent_of, children_of, link, CanPut, IsDistinct}
+use Rattle.edit_model.specs.DomModel.Places.{place_in, index_of}
+use Rattle.edit_model.specs.DomModel.ArenaState.{ArenaState as Arena, IsValid as IsArena}
+use Rattle.edit_model.proofs.DomModel.Deepest.{total-bound}
+use Rattle.edit_model.proofs.DomModel.Links.{total-link, parent_of-link, children_of-link, absent_n, seen}
+use Rattle.edit_model.proofs.DomModel.Totals.{total-without}
+use Rattle.edit_model.proofs.DomModel.Stands.{true_or_false}
+use Rattle.edit_model.specs.PointOrder.PointOrder.{is_in_document}
 use Rattle.edit_model.specs.Edit.{index_before}
 use Rattle.edit_model.specs.Valid.{IsForest}
 use Rattle.edit_doc.specs.Fields.{with_more}

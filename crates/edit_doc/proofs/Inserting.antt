@@ -1,26 +1,26 @@
 -- A loose tree that is linked.
 use Rattle.std.proofs.Common.{◌≡◌, ℕ, ◌<◌, ◌≤◌, ◌^◌, Bool, true, false, List, length, Option, Some, None, refl, sym, ap, subst, ◌∙◌, arith}
-use Rattle.dom_model.specs.declared.Content.{Content}
-use Rattle.dom_model.specs.Contents.{is_parent_at, words_length}
-use Rattle.dom_model.specs.Document.{node_count, char_count, page_depth}
-use Rattle.dom_model.specs.Forest.{Forest, total, count_of, tree_of, link, CanPut, IsDistinct}
-use Rattle.dom_model.specs.Places.{place_in, index_of}
-use Rattle.dom_model.specs.Pruned.{pruned}
-use Rattle.dom_model.specs.ArenaState.{ArenaState as Arena, IsValid as IsArena, IsSlotted}
-use Rattle.dom_model.proofs.Pruning.{children_of-pruned}
-use Rattle.node_arena.specs.declared.NodeRef.{NodeRef}
-use Rattle.node_arena.specs.Held.{label}
-use Rattle.live_range.specs.PointsEdit as range
-use Rattle.live_range.specs.LivePoints.{LivePoints, Fits, mapped}
-use Rattle.point_order.specs.PointOrder.{is_in_document}
-use Rattle.forest_changes.specs.Change.{applied}
-use Rattle.forest_changes.specs.Named.{Each, named}
-use Rattle.forest_changes.specs.Down.{IsLeft}
-use Rattle.forest_changes.proofs.PrunedChanges.{CanPut-pruned}
-use Rattle.forest_changes.proofs.Twice.{forest_of}
-use Rattle.edit_steps.specs.declared.step.Step.{Step}
-use Rattle.edit_steps.specs.declared.step.Step.TheVariants as step
-use Rattle.edit_steps.specs.Step.{StepFits, change_of, step_applied, step_inverse}
+use Rattle.edit_model.specs.DomModel.declared.Content.{Content}
+use Rattle.edit_model.specs.DomModel.Contents.{is_parent_at, words_length}
+use Rattle.edit_model.specs.DomModel.Document.{node_count, char_count, page_depth}
+use Rattle.edit_model.specs.DomModel.Forest.{Forest, total, count_of, tree_of, link, CanPut, IsDistinct}
+use Rattle.edit_model.specs.DomModel.Places.{place_in, index_of}
+use Rattle.edit_model.specs.DomModel.Pruned.{pruned}
+use Rattle.edit_model.specs.DomModel.ArenaState.{ArenaState as Arena, IsValid as IsArena, IsSlotted}
+use Rattle.edit_model.proofs.DomModel.Pruning.{children_of-pruned}
+use Rattle.edit_model.specs.NodeArena.declared.NodeRef.{NodeRef}
+use Rattle.edit_model.specs.NodeArena.Held.{label}
+use Rattle.edit_model.specs.LiveRange.PointsEdit as range
+use Rattle.edit_model.specs.LiveRange.LivePoints.{LivePoints, Fits, mapped}
+use Rattle.edit_model.specs.PointOrder.PointOrder.{is_in_document}
+use Rattle.step_edits.specs.ForestChanges.Change.{applied}
+use Rattle.step_edits.specs.ForestChanges.Named.{Each, named}
+use Rattle.step_edits.specs.ForestChanges.Down.{IsLeft}
+use Rattle.step_edits.proofs.ForestChanges.PrunedChanges.{CanPut-pruned}
+use Rattle.step_edits.proofs.ForestChanges.Twice.{forest_of}
+use Rattle.step_edits.specs.EditSteps.declared.step.Step.{Step}
+use Rattle.step_edits.specs.EditSteps.declared.step.Step.TheVariants as step
+use Rattle.step_edits.specs.EditSteps.Step.{StepFits, change_of, step_applied, step_inverse}
 use Rattle.edit_model.specs.declared.settings.Setting.{Setting}
 use Rattle.edit_model.specs.State.{State}
 use Rattle.edit_model.specs.Edit.{Insert, is_made_edit, change_of as edit_change, trees_after, points_after, index_before}

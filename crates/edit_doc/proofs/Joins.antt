@@ -2,22 +2,22 @@
 use Rattle.std.proofs.Common.{◌≡◌, ℕ, ◌<◌, ◌≤◌, Bool, true, false, List, [], ◌∷◌, ◌++◌, length, take, Option, refl, sym, ap, subst, ◌∙◌, arith, inl, inr}
 use Rattle.std.specs.Prelude.{IsTrue}
 use Rattle.std.proofs.lemmas.List.{map-append}
-use Rattle.dom_model.specs.declared.Content.{Content}
-use Rattle.dom_model.specs.Forest.{Forest, tops, times}
-use Rattle.dom_model.proofs.Pruning.{count_of-pruned}
-use Rattle.live_range.specs.Names.{shown}
-use Rattle.undo_log.specs.Turning.{back, inverses_back, FitsBack, TurnsBack}
-use Rattle.undo_log.specs.Log.{Log, IsLog, Open, noted, is_resumed, joined, committed, committed_with}
-use Rattle.undo_log.specs.Log.Open.{Closed, Begun, Resumed}
-use Rattle.undo_log.proofs.Turns.{back-join, FitsBack-join}
-use Rattle.forest_changes.specs.Change.{Change, Fits, applied, inverse}
-use Rattle.forest_changes.specs.Named.{Each, named, named_in}
-use Rattle.forest_changes.specs.Down.{IsLeft, GoBackDown}
-use Rattle.forest_changes.proofs.ChangeLists.{each_of, each_join, each_first, each_rest, back_down}
-use Rattle.forest_changes.proofs.Twice.{forest_of, back_turns}
-use Rattle.edit_steps.specs.declared.step.Step.{Step}
-use Rattle.edit_steps.specs.Step.{change_of, changes_of, nodes_of, nodes_in}
-use Rattle.node_arena.specs.declared.NodeRef.{NodeRef}
+use Rattle.edit_model.specs.DomModel.declared.Content.{Content}
+use Rattle.edit_model.specs.DomModel.Forest.{Forest, tops, times}
+use Rattle.edit_model.proofs.DomModel.Pruning.{count_of-pruned}
+use Rattle.edit_model.specs.LiveRange.Names.{shown}
+use Rattle.step_edits.specs.UndoLog.Turning.{back, inverses_back, FitsBack, TurnsBack}
+use Rattle.step_edits.specs.UndoLog.Log.{Log, IsLog, Open, noted, is_resumed, joined, committed, committed_with}
+use Rattle.step_edits.specs.UndoLog.Log.Open.{Closed, Begun, Resumed}
+use Rattle.step_edits.proofs.UndoLog.Turns.{back-join, FitsBack-join}
+use Rattle.step_edits.specs.ForestChanges.Change.{Change, Fits, applied, inverse}
+use Rattle.step_edits.specs.ForestChanges.Named.{Each, named, named_in}
+use Rattle.step_edits.specs.ForestChanges.Down.{IsLeft, GoBackDown}
+use Rattle.step_edits.proofs.ForestChanges.ChangeLists.{each_of, each_join, each_first, each_rest, back_down}
+use Rattle.step_edits.proofs.ForestChanges.Twice.{forest_of, back_turns}
+use Rattle.step_edits.specs.EditSteps.declared.step.Step.{Step}
+use Rattle.step_edits.specs.EditSteps.Step.{change_of, changes_of, nodes_of, nodes_in}
+use Rattle.edit_model.specs.NodeArena.declared.NodeRef.{NodeRef}
 use Rattle.edit_model.specs.State.{State}
 use Rattle.edit_model.specs.History.{used, joined_in, joined as joined_history, recorded, rested}
 use Rattle.edit_doc.specs.declared.Doc.TheInside.{Inside}
@@ -33,12 +33,12 @@ use Rattle.edit_doc.specs.Trail.{trail_of}
 use Rattle.edit_doc.specs.Live.{live}
 use Rattle.edit_doc.proofs.GivingUp.{filtered_loose, loose_is, listed_loose, listed_after, listed_before}
 use Rattle.edit_doc.proofs.Off.{Passes, passes_back, off_moved, each_here, each_off}
-use Rattle.live_range.specs.PointsEdit.{has_label}
+use Rattle.edit_model.specs.LiveRange.PointsEdit.{has_label}
 use Rattle.edit_model.specs.Gives.{labels_of}
 use Rattle.edit_doc.proofs.Inner.{seen, Ending, Entering}
 use Rattle.edit_doc.proofs.HiddenTrees.{hidden_is, is_hidden_from, pruned_more, tops_stay}
 use Rattle.edit_doc.proofs.Laid.{undo_later}
-use Rattle.dom_model.proofs.Stands.{true_or_false}
+use Rattle.edit_model.proofs.DomModel.Stands.{true_or_false}
 use Rattle.edit_doc.proofs.Rests.{AtRest, none_noted}
 use Rattle.edit_doc.proofs.Rolls.{run, g, xs, forest_g, snapshot_of}
 use Rattle.edit_doc.proofs.Downs.{back_forest}

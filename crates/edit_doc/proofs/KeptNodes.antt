@@ -2,19 +2,19 @@
 use Rattle.std.proofs.Common.{◌≡◌, ◌⊎◌, ℕ, zero, suc, ◌+◌, ◌<◌, Bool, true, false, cond, eqb, List, [], ◌∷◌, map, Option, refl, sym, ap, subst, ◌∙◌, inl, inr, arith}
 use Rattle.std.specs.Prelude.{◌==◌}
 use Rattle.std.proofs.lemmas.Bool.Decides.{eqb_tells, nat_tests}
-use Rattle.dom_model.specs.declared.Content.{Content}
-use Rattle.dom_model.specs.Forest.{Forest, tops, times, count_of, tree_of, IsDistinct, IsWithin}
-use Rattle.dom_model.specs.Forest.Forest.{Nil, Tree}
-use Rattle.dom_model.specs.ArenaState.{IsValid as IsArena, IsSlotted}
-use Rattle.dom_model.proofs.Stands.{times-tops}
-use Rattle.live_range.specs.PointsEdit.{has_label}
-use Rattle.undo_log.specs.Log.{noted}
-use Rattle.undo_log.specs.Log.Open.{Closed}
-use Rattle.forest_changes.specs.Change.{Change, IsForest}
-use Rattle.forest_changes.specs.Named.{Each, named_in}
-use Rattle.forest_changes.proofs.Twice.{forest_of}
-use Rattle.edit_steps.specs.declared.step.Step.{Step}
-use Rattle.edit_steps.specs.Step.{changes_of}
+use Rattle.edit_model.specs.DomModel.declared.Content.{Content}
+use Rattle.edit_model.specs.DomModel.Forest.{Forest, tops, times, count_of, tree_of, IsDistinct, IsWithin}
+use Rattle.edit_model.specs.DomModel.Forest.Forest.{Nil, Tree}
+use Rattle.edit_model.specs.DomModel.ArenaState.{IsValid as IsArena, IsSlotted}
+use Rattle.edit_model.proofs.DomModel.Stands.{times-tops}
+use Rattle.edit_model.specs.LiveRange.PointsEdit.{has_label}
+use Rattle.step_edits.specs.UndoLog.Log.{noted}
+use Rattle.step_edits.specs.UndoLog.Log.Open.{Closed}
+use Rattle.step_edits.specs.ForestChanges.Change.{Change, IsForest}
+use Rattle.step_edits.specs.ForestChanges.Named.{Each, named_in}
+use Rattle.step_edits.proofs.ForestChanges.Twice.{forest_of}
+use Rattle.step_edits.specs.EditSteps.declared.step.Step.{Step}
+use Rattle.step_edits.specs.EditSteps.Step.{changes_of}
 use Rattle.edit_model.specs.History.{document_of}
 use Rattle.edit_doc.specs.declared.Doc.TheInside.{Inside}
 use Rattle.edit_doc.specs.declared.command.EntrySnapshot.{EntrySnapshot}

@@ -1,16 +1,16 @@
 -- The history as it lies over a forest: its lengths, and what it becomes as its parts change.
 use Rattle.std.proofs.Common.{◌≡◌, ℕ, suc, ◌<◌, ◌≤◌, Bool, false, List, [], ◌∷◌, length, Option, None, refl, sym, ap, ◌∙◌, arith}
 use Rattle.std.specs.Prelude.{IsTrue, ◌↔◌}
-use Rattle.dom_model.specs.declared.Content.{Content}
-use Rattle.dom_model.specs.Forest.{Forest, parent_of}
-use Rattle.undo_log.specs.Log.{first_length}
-use Rattle.undo_log.specs.Turning.{inverses_back, inverses_forth}
-use Rattle.forest_changes.specs.Change.{Change, applied, inverse}
-use Rattle.forest_changes.specs.Named.{named_in}
-use Rattle.forest_changes.proofs.ChangeLists.{each_of}
-use Rattle.edit_steps.specs.declared.step.Step.{Step}
-use Rattle.edit_steps.specs.Step.{changes_of}
-use Rattle.node_arena.specs.declared.NodeRef.{NodeRef}
+use Rattle.edit_model.specs.DomModel.declared.Content.{Content}
+use Rattle.edit_model.specs.DomModel.Forest.{Forest, parent_of}
+use Rattle.step_edits.specs.UndoLog.Log.{first_length}
+use Rattle.step_edits.specs.UndoLog.Turning.{inverses_back, inverses_forth}
+use Rattle.step_edits.specs.ForestChanges.Change.{Change, applied, inverse}
+use Rattle.step_edits.specs.ForestChanges.Named.{named_in}
+use Rattle.step_edits.proofs.ForestChanges.ChangeLists.{each_of}
+use Rattle.step_edits.specs.EditSteps.declared.step.Step.{Step}
+use Rattle.step_edits.specs.EditSteps.Step.{changes_of}
+use Rattle.edit_model.specs.NodeArena.declared.NodeRef.{NodeRef}
 use Rattle.edit_model.specs.Gives.{labels_of}
 use Rattle.edit_doc.specs.declared.command.EntrySnapshot.{EntrySnapshot}
 use Rattle.edit_doc.specs.declared.command.Command.{Command}

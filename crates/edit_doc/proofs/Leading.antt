@@ -1,26 +1,26 @@
 -- The entries that undo would take lead from one document to the next.
 use Rattle.std.proofs.Common.{◌≡◌, ℕ, ◌<◌, ◌≤◌, Bool, false, cond, eqb, List, [], ◌∷◌, Option, reverse, refl, sym, ap, subst, ◌∙◌, arith}
 use Rattle.std.proofs.lemmas.List.{reverse-append}
-use Rattle.dom_model.specs.declared.Content.{Content}
-use Rattle.dom_model.specs.Forest.{Forest, count_of}
-use Rattle.dom_model.specs.Pruned.{pruned}
-use Rattle.dom_model.specs.ArenaState.{IsValid as IsArena}
-use Rattle.dom_model.proofs.Pruning.{tree_of-pruned}
-use Rattle.dom_model.proofs.Totals.{total-without}
-use Rattle.dom_model.proofs.Walks.{document_first}
-use Rattle.node_arena.specs.declared.NodeRef.{NodeRef}
-use Rattle.undo_log.specs.Log.{noted}
-use Rattle.undo_log.specs.Log.Open.{Closed}
-use Rattle.undo_log.specs.Turning.{back, forth, inverses_back, FitsBack, FitsForth}
-use Rattle.forest_changes.specs.Change.{IsForest, Fits, applied, inverse}
-use Rattle.forest_changes.specs.Down.{IsLeft}
-use Rattle.forest_changes.specs.Leaves.{IsBelow}
-use Rattle.forest_changes.specs.Named.{Each, named_in}
-use Rattle.forest_changes.proofs.ChangeLists.{each_of, back_down, forth_down}
-use Rattle.forest_changes.proofs.DownChange.{IsForest-pruned}
-use Rattle.forest_changes.proofs.Twice.{forest_of, back_turns}
-use Rattle.edit_steps.specs.declared.step.Step.{Step}
-use Rattle.edit_steps.specs.Step.{changes_of}
+use Rattle.edit_model.specs.DomModel.declared.Content.{Content}
+use Rattle.edit_model.specs.DomModel.Forest.{Forest, count_of}
+use Rattle.edit_model.specs.DomModel.Pruned.{pruned}
+use Rattle.edit_model.specs.DomModel.ArenaState.{IsValid as IsArena}
+use Rattle.edit_model.proofs.DomModel.Pruning.{tree_of-pruned}
+use Rattle.edit_model.proofs.DomModel.Totals.{total-without}
+use Rattle.edit_model.proofs.DomModel.Walks.{document_first}
+use Rattle.edit_model.specs.NodeArena.declared.NodeRef.{NodeRef}
+use Rattle.step_edits.specs.UndoLog.Log.{noted}
+use Rattle.step_edits.specs.UndoLog.Log.Open.{Closed}
+use Rattle.step_edits.specs.UndoLog.Turning.{back, forth, inverses_back, FitsBack, FitsForth}
+use Rattle.step_edits.specs.ForestChanges.Change.{IsForest, Fits, applied, inverse}
+use Rattle.step_edits.specs.ForestChanges.Down.{IsLeft}
+use Rattle.step_edits.specs.ForestChanges.Leaves.{IsBelow}
+use Rattle.step_edits.specs.ForestChanges.Named.{Each, named_in}
+use Rattle.step_edits.proofs.ForestChanges.ChangeLists.{each_of, back_down, forth_down}
+use Rattle.step_edits.proofs.ForestChanges.DownChange.{IsForest-pruned}
+use Rattle.step_edits.proofs.ForestChanges.Twice.{forest_of, back_turns}
+use Rattle.step_edits.specs.EditSteps.declared.step.Step.{Step}
+use Rattle.step_edits.specs.EditSteps.Step.{changes_of}
 use Rattle.edit_model.specs.History.{Entry, used, document_of}
 use Rattle.edit_model.proofs.Resting.{forest-document}
 use Rattle.edit_doc.specs.declared.Doc.TheInside.{Inside}

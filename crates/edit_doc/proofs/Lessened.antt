@@ -5,23 +5,23 @@ use Rattle.std.specs.Option.{option_map}
 use Rattle.std.proofs.lemmas.Bool.{and_parts, ltb-true, leb-true}
 use Rattle.std.proofs.lemmas.Bool.Decides.{eqb_tells}
 use Rattle.std.proofs.lemmas.List.{length-take, length-drop}
-use Rattle.dom_model.specs.declared.Content.{Content}
-use Rattle.dom_model.specs.declared.Content.TheVariants.{Document, Element, Words, Remark}
-use Rattle.dom_model.specs.Contents.{words_length, char_length}
-use Rattle.dom_model.specs.Document.{char_count}
-use Rattle.dom_model.specs.Forest.{Forest, Seen, tops, total, seek, count_of, content_of, tree_of, parent_of, unlink, IsDistinct}
-use Rattle.dom_model.specs.Forest.Forest.{Nil, Tree}
-use Rattle.dom_model.specs.Revised.{revised}
-use Rattle.dom_model.specs.Pruned.{pruned}
-use Rattle.dom_model.specs.ArenaState.{ArenaState as Arena, IsValid as IsArena}
-use Rattle.dom_model.proofs.Deepest.{total-bound}
-use Rattle.dom_model.proofs.Stands.{Stands, seek_Stands}
-use Rattle.dom_model.proofs.Pruning.{IsDistinct-pruned}
-use Rattle.dom_model.proofs.Links.{found_count}
-use Rattle.dom_model.proofs.Totals.{total-without}
-use Rattle.point_order.specs.PointOrder.{is_in_document}
-use Rattle.forest_changes.proofs.PrunedChanges.{content_of-pruned}
-use Rattle.forest_changes.proofs.Twice.{forest_of}
+use Rattle.edit_model.specs.DomModel.declared.Content.{Content}
+use Rattle.edit_model.specs.DomModel.declared.Content.TheVariants.{Document, Element, Words, Remark}
+use Rattle.edit_model.specs.DomModel.Contents.{words_length, char_length}
+use Rattle.edit_model.specs.DomModel.Document.{char_count}
+use Rattle.edit_model.specs.DomModel.Forest.{Forest, Seen, tops, total, seek, count_of, content_of, tree_of, parent_of, unlink, IsDistinct}
+use Rattle.edit_model.specs.DomModel.Forest.Forest.{Nil, Tree}
+use Rattle.edit_model.specs.DomModel.Revised.{revised}
+use Rattle.edit_model.specs.DomModel.Pruned.{pruned}
+use Rattle.edit_model.specs.DomModel.ArenaState.{ArenaState as Arena, IsValid as IsArena}
+use Rattle.edit_model.proofs.DomModel.Deepest.{total-bound}
+use Rattle.edit_model.proofs.DomModel.Stands.{Stands, seek_Stands}
+use Rattle.edit_model.proofs.DomModel.Pruning.{IsDistinct-pruned}
+use Rattle.edit_model.proofs.DomModel.Links.{found_count}
+use Rattle.edit_model.proofs.DomModel.Totals.{total-without}
+use Rattle.edit_model.specs.PointOrder.PointOrder.{is_in_document}
+use Rattle.step_edits.proofs.ForestChanges.PrunedChanges.{content_of-pruned}
+use Rattle.step_edits.proofs.ForestChanges.Twice.{forest_of}
 use Rattle.edit_model.specs.Confined.{spliced, may_change}
 use Rattle.edit_model.specs.Edit.{with_replaced}
 use Rattle.edit_model.proofs.Documents.{document-revised}

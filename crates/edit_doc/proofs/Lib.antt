@@ -70,3 +70,4 @@ pub mod Leading
 pub mod Telling
 pub mod LoggedEdits
 pub mod ToldSince
+pub use Rattle.step_edits.proofs.ForestChanges

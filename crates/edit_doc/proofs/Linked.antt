@@ -1,21 +1,21 @@
 -- What an insert of a loose tree is to the arena and to the fields of the command.
-use Rattle.live_range.specs.PointsEdit.{has_label}
+use Rattle.edit_model.specs.LiveRange.PointsEdit.{has_label}
 use Rattle.std.proofs.Common.{◌≡◌, true, [], ◌∷◌, Option, Some, None, refl, sym, ap, subst, ◌∙◌, inl, inr}
 use Rattle.std.proofs.lemmas.List.{append-nil}
-use Rattle.dom_model.specs.declared.Content.{Content}
-use Rattle.dom_model.specs.Contents.{is_parent_at}
-use Rattle.dom_model.specs.Forest.{Forest, CanPut}
-use Rattle.dom_model.specs.Pruned.{pruned}
-use Rattle.dom_model.specs.ArenaState.{IsValid as IsArena, IsSlotted}
-use Rattle.node_arena.specs.declared.NodeRef.{NodeRef}
-use Rattle.node_arena.specs.Held.{label}
-use Rattle.forest_changes.specs.Change.{Insert, inverse}
-use Rattle.forest_changes.specs.Named.{Each, listed}
-use Rattle.forest_changes.specs.Down.{IsLeft}
-use Rattle.forest_changes.proofs.PrunedChanges.{CanPut-pruned}
-use Rattle.forest_changes.proofs.Twice.{forest_of}
-use Rattle.edit_steps.specs.declared.step.Step.TheVariants as step
-use Rattle.edit_steps.specs.Step.{StepFits}
+use Rattle.edit_model.specs.DomModel.declared.Content.{Content}
+use Rattle.edit_model.specs.DomModel.Contents.{is_parent_at}
+use Rattle.edit_model.specs.DomModel.Forest.{Forest, CanPut}
+use Rattle.edit_model.specs.DomModel.Pruned.{pruned}
+use Rattle.edit_model.specs.DomModel.ArenaState.{IsValid as IsArena, IsSlotted}
+use Rattle.edit_model.specs.NodeArena.declared.NodeRef.{NodeRef}
+use Rattle.edit_model.specs.NodeArena.Held.{label}
+use Rattle.step_edits.specs.ForestChanges.Change.{Insert, inverse}
+use Rattle.step_edits.specs.ForestChanges.Named.{Each, listed}
+use Rattle.step_edits.specs.ForestChanges.Down.{IsLeft}
+use Rattle.step_edits.proofs.ForestChanges.PrunedChanges.{CanPut-pruned}
+use Rattle.step_edits.proofs.ForestChanges.Twice.{forest_of}
+use Rattle.step_edits.specs.EditSteps.declared.step.Step.TheVariants as step
+use Rattle.step_edits.specs.EditSteps.Step.{StepFits}
 use Rattle.edit_model.specs.Gives.{label_of}
 use Rattle.edit_doc.specs.declared.Doc.TheInside.{Inside}
 use Rattle.edit_doc.specs.declared.command.Command.{Command}

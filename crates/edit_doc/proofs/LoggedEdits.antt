@@ -1,25 +1,25 @@
 -- The edits of an entry, kept as they are seen from the forest before it on, are those that the entry has.
 use Rattle.std.proofs.Common.{◌≡◌, ℕ, ◌<◌, Bool, true, List, [], ◌∷◌, ◌++◌, length, map, Option, unwrap_or, refl, sym, ap, subst, ◌∙◌, append_assoc, append-nil}
-use Rattle.dom_model.specs.declared.attributes.Attribute.{Attribute}
-use Rattle.dom_model.specs.declared.Content.{Content}
-use Rattle.dom_model.specs.declared.Content.TheVariants.{Document, Element, Words, Remark}
-use Rattle.dom_model.specs.Contents.{name_in, with_chars, with_attributes}
-use Rattle.dom_model.specs.Forest.{Forest, either, count_of, content_of, parent_of, unlink}
-use Rattle.dom_model.specs.Pruned.{pruned}
-use Rattle.dom_model.specs.ArenaState.{ArenaState as Arena, IsValid as IsArena}
-use Rattle.dom_model.proofs.Kept.{content_of-link, content_of-unlink}
-use Rattle.dom_model.proofs.Links.{IsDistinct-unlink}
-use Rattle.undo_log.specs.Log.{noted, first_entry, FitsUndo}
-use Rattle.undo_log.specs.Log.Open.{Closed}
-use Rattle.undo_log.specs.Turning.{back, inverses_back, FitsBack, FitsForth}
-use Rattle.undo_log.specs.Watching.{Seen, SeenMade}
-use Rattle.forest_changes.specs.Change.{Change, Remove, Insert, Move, SetText, Splice, SetAttributes, IsForest, Fits, applied, inverse, whole, wholes, spliced_at}
-use Rattle.forest_changes.specs.Named.{Each, named_in}
-use Rattle.forest_changes.proofs.Twice.{given_parent, forest_of}
-use Rattle.forest_changes.proofs.Wholes.{named_wholes, wholes_pruned}
-use Rattle.edit_steps.specs.declared.step.Step.{Step}
-use Rattle.edit_steps.specs.Step.{change_of, changes_of, step_applied, step_inverse, StepFits}
-use Rattle.edit_steps.proofs.StepLists.{go_back}
+use Rattle.edit_model.specs.DomModel.declared.attributes.Attribute.{Attribute}
+use Rattle.edit_model.specs.DomModel.declared.Content.{Content}
+use Rattle.edit_model.specs.DomModel.declared.Content.TheVariants.{Document, Element, Words, Remark}
+use Rattle.edit_model.specs.DomModel.Contents.{name_in, with_chars, with_attributes}
+use Rattle.edit_model.specs.DomModel.Forest.{Forest, either, count_of, content_of, parent_of, unlink}
+use Rattle.edit_model.specs.DomModel.Pruned.{pruned}
+use Rattle.edit_model.specs.DomModel.ArenaState.{ArenaState as Arena, IsValid as IsArena}
+use Rattle.edit_model.proofs.DomModel.Kept.{content_of-link, content_of-unlink}
+use Rattle.edit_model.proofs.DomModel.Links.{IsDistinct-unlink}
+use Rattle.step_edits.specs.UndoLog.Log.{noted, first_entry, FitsUndo}
+use Rattle.step_edits.specs.UndoLog.Log.Open.{Closed}
+use Rattle.step_edits.specs.UndoLog.Turning.{back, inverses_back, FitsBack, FitsForth}
+use Rattle.step_edits.specs.UndoLog.Watching.{Seen, SeenMade}
+use Rattle.step_edits.specs.ForestChanges.Change.{Change, Remove, Insert, Move, SetText, Splice, SetAttributes, IsForest, Fits, applied, inverse, whole, wholes, spliced_at}
+use Rattle.step_edits.specs.ForestChanges.Named.{Each, named_in}
+use Rattle.step_edits.proofs.ForestChanges.Twice.{given_parent, forest_of}
+use Rattle.step_edits.proofs.ForestChanges.Wholes.{named_wholes, wholes_pruned}
+use Rattle.step_edits.specs.EditSteps.declared.step.Step.{Step}
+use Rattle.step_edits.specs.EditSteps.Step.{change_of, changes_of, step_applied, step_inverse, StepFits}
+use Rattle.step_edits.proofs.EditSteps.StepLists.{go_back}
 use Rattle.edit_model.specs.History.{used, document_of}
 use Rattle.edit_model.proofs.Things.{name_of-revised}
 use Rattle.edit_doc.specs.declared.Doc.TheInside.{Inside}

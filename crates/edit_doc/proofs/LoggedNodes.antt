@@ -4,18 +4,18 @@ use Rattle.std.specs.Prelude.{nat_le}
 use Rattle.std.specs.Option.{option_map, option_map_or}
 use Rattle.std.proofs.lemmas.List.{map-append}
 use Rattle.std.proofs.lemmas.Bool.Decides.{eqb_tells, nat_tests}
-use Rattle.dom_model.specs.declared.Content.{Content}
-use Rattle.dom_model.specs.Forest.{Forest, Seen, seek, either, first_in, tops, times, count_of, content_of, parent_of, tree_of, IsDistinct, RisesFrom, IsWithin}
-use Rattle.dom_model.specs.Forest.Forest.{Nil, Tree}
-use Rattle.dom_model.specs.Pruned.{pruned}
-use Rattle.dom_model.specs.Room.{spliced}
-use Rattle.dom_model.proofs.Links.{seen, tree_of_absent}
-use Rattle.dom_model.proofs.Stands.{true_or_false, times-tops, seek_absent}
-use Rattle.live_range.specs.PointsEdit.{has_label}
-use Rattle.forest_changes.specs.Change.{Change, Remove, Insert, Move, SetText, Splice, SetAttributes, IsForest}
-use Rattle.forest_changes.specs.Named.{Each, named, named_in}
-use Rattle.forest_changes.specs.Down.{IsLeft}
-use Rattle.forest_changes.proofs.ChangeLists.{each_first, each_rest}
+use Rattle.edit_model.specs.DomModel.declared.Content.{Content}
+use Rattle.edit_model.specs.DomModel.Forest.{Forest, Seen, seek, either, first_in, tops, times, count_of, content_of, parent_of, tree_of, IsDistinct, RisesFrom, IsWithin}
+use Rattle.edit_model.specs.DomModel.Forest.Forest.{Nil, Tree}
+use Rattle.edit_model.specs.DomModel.Pruned.{pruned}
+use Rattle.edit_model.specs.DomModel.Room.{spliced}
+use Rattle.edit_model.proofs.DomModel.Links.{seen, tree_of_absent}
+use Rattle.edit_model.proofs.DomModel.Stands.{true_or_false, times-tops, seek_absent}
+use Rattle.edit_model.specs.LiveRange.PointsEdit.{has_label}
+use Rattle.step_edits.specs.ForestChanges.Change.{Change, Remove, Insert, Move, SetText, Splice, SetAttributes, IsForest}
+use Rattle.step_edits.specs.ForestChanges.Named.{Each, named, named_in}
+use Rattle.step_edits.specs.ForestChanges.Down.{IsLeft}
+use Rattle.step_edits.proofs.ForestChanges.ChangeLists.{each_first, each_rest}
 use Rattle.edit_model.specs.History.{used}
 use Rattle.edit_model.proofs.Resting.{forest-document, seek_document}
 use Rattle.edit_doc.specs.declared.logged.LoggedEdit.{LoggedEdit}

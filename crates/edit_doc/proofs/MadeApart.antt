@@ -4,24 +4,24 @@ use Rattle.std.specs.Prelude.{◌&&◌, not, nat_le}
 use Rattle.std.specs.List.{filter}
 use Rattle.std.specs.Option.{option_map_or}
 use Rattle.std.proofs.lemmas.Bool.Decides.{eqb_tells, nat_tests}
-use Rattle.dom_model.specs.declared.Content.{Content}
-use Rattle.dom_model.specs.Contents.{IsNode}
-use Rattle.dom_model.specs.Forest.{Forest, Seen, RisesFrom, tops, times, first_in, count_of, tree_of, parent_of, with_leaf}
-use Rattle.dom_model.specs.Forest.Forest.{Nil, Tree}
-use Rattle.dom_model.specs.Pruned.{pruned, IsWhole}
-use Rattle.dom_model.proofs.Links.{child_of_parent, parent_count}
-use Rattle.dom_model.proofs.Pruning.{count_of-pruned, parent_of-pruned, whole_stays}
-use Rattle.dom_model.proofs.Stands.{Stands, true_or_false, seek_Stands, count_of-Stands}
-use Rattle.dom_model.proofs.Totals.{total-without}
-use Rattle.dom_model.proofs.Walks.{document_first}
-use Rattle.dom_model.proofs.Within.{within_root}
-use Rattle.live_range.specs.PointsEdit.{has_label}
-use Rattle.forest_changes.specs.Change.{Change, IsForest}
-use Rattle.forest_changes.specs.Down.{Prunes, IsLeft}
-use Rattle.forest_changes.specs.Leaves.{IsBelow, IsMade}
-use Rattle.forest_changes.specs.Named.{Each, named_in}
-use Rattle.forest_changes.proofs.DownChange.{IsForest-pruned, prunes_whole}
-use Rattle.forest_changes.proofs.Places.{rising_top}
+use Rattle.edit_model.specs.DomModel.declared.Content.{Content}
+use Rattle.edit_model.specs.DomModel.Contents.{IsNode}
+use Rattle.edit_model.specs.DomModel.Forest.{Forest, Seen, RisesFrom, tops, times, first_in, count_of, tree_of, parent_of, with_leaf}
+use Rattle.edit_model.specs.DomModel.Forest.Forest.{Nil, Tree}
+use Rattle.edit_model.specs.DomModel.Pruned.{pruned, IsWhole}
+use Rattle.edit_model.proofs.DomModel.Links.{child_of_parent, parent_count}
+use Rattle.edit_model.proofs.DomModel.Pruning.{count_of-pruned, parent_of-pruned, whole_stays}
+use Rattle.edit_model.proofs.DomModel.Stands.{Stands, true_or_false, seek_Stands, count_of-Stands}
+use Rattle.edit_model.proofs.DomModel.Totals.{total-without}
+use Rattle.edit_model.proofs.DomModel.Walks.{document_first}
+use Rattle.edit_model.proofs.DomModel.Within.{within_root}
+use Rattle.edit_model.specs.LiveRange.PointsEdit.{has_label}
+use Rattle.step_edits.specs.ForestChanges.Change.{Change, IsForest}
+use Rattle.step_edits.specs.ForestChanges.Down.{Prunes, IsLeft}
+use Rattle.step_edits.specs.ForestChanges.Leaves.{IsBelow, IsMade}
+use Rattle.step_edits.specs.ForestChanges.Named.{Each, named_in}
+use Rattle.step_edits.proofs.ForestChanges.DownChange.{IsForest-pruned, prunes_whole}
+use Rattle.step_edits.proofs.ForestChanges.Places.{rising_top}
 use Rattle.edit_model.specs.History.{used, document_of}
 use Rattle.edit_doc.specs.History.{roots_from, is_hidden}
 use Rattle.edit_doc.specs.Onward.{with_made, RiseFrom}

@@ -3,23 +3,23 @@ use Rattle.std.proofs.Common.{◌≡◌, ◌⊎◌, ℕ, ◌+◌, ◌<◌, ◌�
 use Rattle.std.specs.Prelude.{nat_le, nat_lt, ◌||◌, ◌==◌}
 use Rattle.std.proofs.lemmas.Bool.Decides.{eqb_tells, nat_tests}
 use Rattle.std.proofs.lemmas.List.Elements.{filter-append}
-use Rattle.dom_model.specs.declared.Content.{Content}
-use Rattle.dom_model.specs.Contents.{with_chars, with_attributes}
-use Rattle.dom_model.specs.Forest.{Forest, join, tops, times, count_of, tree_of, without, put_under, put_rising, link, unlink, with_leaf, RisesFrom}
-use Rattle.dom_model.specs.Forest.Forest.{Nil, Tree}
-use Rattle.dom_model.specs.Revised.{revised}
-use Rattle.dom_model.specs.Pruned.{pruned}
-use Rattle.dom_model.proofs.Stands.{true_or_false}
+use Rattle.edit_model.specs.DomModel.declared.Content.{Content}
+use Rattle.edit_model.specs.DomModel.Contents.{with_chars, with_attributes}
+use Rattle.edit_model.specs.DomModel.Forest.{Forest, join, tops, times, count_of, tree_of, without, put_under, put_rising, link, unlink, with_leaf, RisesFrom}
+use Rattle.edit_model.specs.DomModel.Forest.Forest.{Nil, Tree}
+use Rattle.edit_model.specs.DomModel.Revised.{revised}
+use Rattle.edit_model.specs.DomModel.Pruned.{pruned}
+use Rattle.edit_model.proofs.DomModel.Stands.{true_or_false}
 use Rattle.std.proofs.lemmas.List.{map-append}
 use Rattle.std.proofs.lemmas.List.Folds.{list_any-append}
-use Rattle.undo_log.proofs.Turns.{back-join}
-use Rattle.live_range.specs.PointsEdit.{has_label}
-use Rattle.forest_changes.specs.Change.{Change, Remove, Insert, Move, SetText, Splice, SetAttributes, Fits, applied, inverse, spliced_at}
-use Rattle.forest_changes.specs.Named.{Each, named, named_in}
-use Rattle.forest_changes.proofs.ChangeLists.{each_first, each_rest}
-use Rattle.undo_log.specs.Turning.{back, forth, inverses_back, FitsForth}
-use Rattle.edit_steps.specs.declared.step.Step.{Step}
-use Rattle.edit_steps.specs.Step.{change_of, changes_of}
+use Rattle.step_edits.proofs.UndoLog.Turns.{back-join}
+use Rattle.edit_model.specs.LiveRange.PointsEdit.{has_label}
+use Rattle.step_edits.specs.ForestChanges.Change.{Change, Remove, Insert, Move, SetText, Splice, SetAttributes, Fits, applied, inverse, spliced_at}
+use Rattle.step_edits.specs.ForestChanges.Named.{Each, named, named_in}
+use Rattle.step_edits.proofs.ForestChanges.ChangeLists.{each_first, each_rest}
+use Rattle.step_edits.specs.UndoLog.Turning.{back, forth, inverses_back, FitsForth}
+use Rattle.step_edits.specs.EditSteps.declared.step.Step.{Step}
+use Rattle.step_edits.specs.EditSteps.Step.{change_of, changes_of}
 use Rattle.edit_model.specs.History.{used}
 use Rattle.edit_doc.specs.History.{forest_before, edits_before, roots_from}
 use Rattle.edit_doc.proofs.HiddenTrees.{true_le, false_le, le_true, le_false}

@@ -3,34 +3,34 @@ use Rattle.std.proofs.Common.{◌≡◌, ◌≢◌, ℕ, ◌+◌, ◌<◌, ◌�
 use Rattle.std.specs.Prelude.{◌&&◌, nat_lt, IsNone, IsSome, unwrap_or}
 use Rattle.std.proofs.lemmas.Bool.Decides.{eqb_tells}
 use Rattle.std.proofs.lemmas.List.{append-nil}
-use Rattle.dom_model.specs.declared.Content.{Content}
-use Rattle.dom_model.specs.Contents.{words_length}
-use Rattle.dom_model.specs.Document.{node_count, char_count, page_depth}
-use Rattle.dom_model.specs.Forest.{Forest, total, taken_from, count_of, depth_of, tree_of, parent_of, next_of, children_of, link, unlink, CanPut, IsDistinct}
-use Rattle.dom_model.specs.Places.{levels, place_in, index_of}
-use Rattle.dom_model.specs.Pruned.{pruned}
-use Rattle.dom_model.specs.ArenaState.{ArenaState as Arena, IsValid as IsArena, IsSlotted}
-use Rattle.dom_model.proofs.Links.{children_of-unlink}
-use Rattle.dom_model.proofs.Move.{tree_of-unlink}
-use Rattle.dom_model.proofs.Pruning.{children_of-pruned, IsDistinct-pruned}
-use Rattle.dom_model.proofs.Stands.{true_or_false}
-use Rattle.dom_model.proofs.Totals.{total-unlink}
-use Rattle.node_arena.specs.declared.NodeRef.{NodeRef}
-use Rattle.node_arena.specs.Held.{label}
-use Rattle.live_range.specs.declared.places.Point.{Point}
-use Rattle.live_range.specs.PointsEdit as range
-use Rattle.live_range.specs.PointsEdit.{has_label}
-use Rattle.live_range.specs.LivePoints.{LivePoints, Fits, mapped, labels_of}
-use Rattle.point_order.specs.PointOrder.{is_in_document}
-use Rattle.forest_changes.specs.Change.{applied, inverse, Fits as ChangeFits}
-use Rattle.dom_model.specs.Change as change
-use Rattle.forest_changes.specs.Named.{Each, listed, named}
-use Rattle.forest_changes.specs.Down.{IsLeft}
-use Rattle.forest_changes.proofs.DownChange.{IsForest-pruned, up as goes_up}
-use Rattle.forest_changes.proofs.Twice.{forest_of}
-use Rattle.edit_steps.specs.declared.step.Step.{Step}
-use Rattle.edit_steps.specs.declared.step.Step.TheVariants as step
-use Rattle.edit_steps.specs.Step.{StepFits, change_of, step_applied, step_inverse}
+use Rattle.edit_model.specs.DomModel.declared.Content.{Content}
+use Rattle.edit_model.specs.DomModel.Contents.{words_length}
+use Rattle.edit_model.specs.DomModel.Document.{node_count, char_count, page_depth}
+use Rattle.edit_model.specs.DomModel.Forest.{Forest, total, taken_from, count_of, depth_of, tree_of, parent_of, next_of, children_of, link, unlink, CanPut, IsDistinct}
+use Rattle.edit_model.specs.DomModel.Places.{levels, place_in, index_of}
+use Rattle.edit_model.specs.DomModel.Pruned.{pruned}
+use Rattle.edit_model.specs.DomModel.ArenaState.{ArenaState as Arena, IsValid as IsArena, IsSlotted}
+use Rattle.edit_model.proofs.DomModel.Links.{children_of-unlink}
+use Rattle.edit_model.proofs.DomModel.Move.{tree_of-unlink}
+use Rattle.edit_model.proofs.DomModel.Pruning.{children_of-pruned, IsDistinct-pruned}
+use Rattle.edit_model.proofs.DomModel.Stands.{true_or_false}
+use Rattle.edit_model.proofs.DomModel.Totals.{total-unlink}
+use Rattle.edit_model.specs.NodeArena.declared.NodeRef.{NodeRef}
+use Rattle.edit_model.specs.NodeArena.Held.{label}
+use Rattle.edit_model.specs.LiveRange.declared.places.Point.{Point}
+use Rattle.edit_model.specs.LiveRange.PointsEdit as range
+use Rattle.edit_model.specs.LiveRange.PointsEdit.{has_label}
+use Rattle.edit_model.specs.LiveRange.LivePoints.{LivePoints, Fits, mapped, labels_of}
+use Rattle.edit_model.specs.PointOrder.PointOrder.{is_in_document}
+use Rattle.step_edits.specs.ForestChanges.Change.{applied, inverse, Fits as ChangeFits}
+use Rattle.edit_model.specs.DomModel.Change as change
+use Rattle.step_edits.specs.ForestChanges.Named.{Each, listed, named}
+use Rattle.step_edits.specs.ForestChanges.Down.{IsLeft}
+use Rattle.step_edits.proofs.ForestChanges.DownChange.{IsForest-pruned, up as goes_up}
+use Rattle.step_edits.proofs.ForestChanges.Twice.{forest_of}
+use Rattle.step_edits.specs.EditSteps.declared.step.Step.{Step}
+use Rattle.step_edits.specs.EditSteps.declared.step.Step.TheVariants as step
+use Rattle.step_edits.specs.EditSteps.Step.{StepFits, change_of, step_applied, step_inverse}
 use Rattle.edit_model.specs.declared.settings.Setting.{Setting}
 use Rattle.edit_model.specs.State.{State}
 use Rattle.edit_model.specs.Edit.{Move, is_made_edit, change_of as edit_change, trees_after, points_after, index_before, parent_or_0}

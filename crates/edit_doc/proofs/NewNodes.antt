@@ -4,42 +4,42 @@ use Rattle.std.specs.Prelude.{IsTrue, IfOk, OnErr, slice_index_or, ◌==◌}
 use Rattle.std.proofs.lemmas.List.Folds.{list_any-append}
 use Rattle.std.proofs.lemmas.List.{take-append-le, drop-append-le}
 use Rattle.std.proofs.lemmas.Bool.Decides.{eqb_tells, nat_tests}
-use Rattle.dom_model.specs.declared.Content.{Content}
-use Rattle.dom_model.specs.declared.attributes.Attribute.{Attribute}
-use Rattle.dom_model.specs.declared.Content.TheVariants.{Element, Words}
-use Rattle.dom_model.specs.AttributeList.{IsDistinctNames}
-use Rattle.dom_model.specs.Document.{node_count, char_count, page_depth}
-use Rattle.dom_model.specs.Forest.{Forest, Seen, total, tops, times, count_of, tree_of, parent_of, first_of, first_in, with_leaf}
-use Rattle.dom_model.specs.Forest.Forest.{Nil, Tree}
-use Rattle.dom_model.specs.Places.{levels, kids_in}
-use Rattle.dom_model.specs.Pruned.{pruned}
-use Rattle.dom_model.specs.ArenaState.{ArenaState as Arena, IsValid as IsArena}
-use Rattle.dom_model.proofs.Totals.{total-join}
-use Rattle.dom_model.proofs.Links.{parent_of-with_leaf, children_of-with_leaf, eqb_refl_true, tree_of_absent}
-use Rattle.dom_model.proofs.Stands.{seek_absent, times-tops}
+use Rattle.edit_model.specs.DomModel.declared.Content.{Content}
+use Rattle.edit_model.specs.DomModel.declared.attributes.Attribute.{Attribute}
+use Rattle.edit_model.specs.DomModel.declared.Content.TheVariants.{Element, Words}
+use Rattle.edit_model.specs.DomModel.AttributeList.{IsDistinctNames}
+use Rattle.edit_model.specs.DomModel.Document.{node_count, char_count, page_depth}
+use Rattle.edit_model.specs.DomModel.Forest.{Forest, Seen, total, tops, times, count_of, tree_of, parent_of, first_of, first_in, with_leaf}
+use Rattle.edit_model.specs.DomModel.Forest.Forest.{Nil, Tree}
+use Rattle.edit_model.specs.DomModel.Places.{levels, kids_in}
+use Rattle.edit_model.specs.DomModel.Pruned.{pruned}
+use Rattle.edit_model.specs.DomModel.ArenaState.{ArenaState as Arena, IsValid as IsArena}
+use Rattle.edit_model.proofs.DomModel.Totals.{total-join}
+use Rattle.edit_model.proofs.DomModel.Links.{parent_of-with_leaf, children_of-with_leaf, eqb_refl_true, tree_of_absent}
+use Rattle.edit_model.proofs.DomModel.Stands.{seek_absent, times-tops}
 use Rattle.std.specs.Option.{option_and_then, option_map_or}
-use Rattle.node_arena.specs.declared.NodeRef.{NodeRef}
-use Rattle.node_arena.specs.declared.MakeFault.{MakeFault}
-use Rattle.node_arena.specs.declared.MakeFault.TheVariants.{Full as ArenaFull, Memory as ArenaMemory}
-use Rattle.node_arena.specs.Held.{Makes}
-use Rattle.live_range.specs.declared.places.Places.{Places}
-use Rattle.live_range.specs.LivePoints.{LivePoints}
-use Rattle.live_range.specs.PointsEdit.{has_label}
-use Rattle.live_range.specs.Names.{shown, named as named_marks, marks_of}
-use Rattle.undo_log.specs.Turning.{inverses_back, inverses_forth, FitsBack, FitsForth}
-use Rattle.undo_log.specs.Log.{Open, noted, is_open}
-use Rattle.undo_log.specs.Log.Open.{Closed, Begun, Resumed}
-use Rattle.forest_changes.specs.Change.{Change, IsForest, Fits, applied, inverse}
-use Rattle.forest_changes.specs.Named.{Each, named_in}
-use Rattle.forest_changes.specs.Down.{Prunes, IsLeft}
-use Rattle.forest_changes.specs.Leaves.{IsBelow, IsMade, BackBeside, ForthBeside}
-use Rattle.forest_changes.proofs.BesideLeaf.{fresh, tree_of-with_leaf}
-use Rattle.forest_changes.proofs.ManyLeaves.{back_beside, forth_beside, has_made, pruned-with_leaf}
-use Rattle.forest_changes.proofs.ChangeLists.{each_of, each_join, back_down, forth_down, back_fits_up, forth_fits_up}
-use Rattle.forest_changes.proofs.DownChange.{prunes_whole}
-use Rattle.forest_changes.proofs.Twice.{forest_of}
-use Rattle.edit_steps.specs.declared.step.Step.{Step}
-use Rattle.edit_steps.specs.Step.{changes_of, nodes_in}
+use Rattle.edit_model.specs.NodeArena.declared.NodeRef.{NodeRef}
+use Rattle.edit_model.specs.NodeArena.declared.MakeFault.{MakeFault}
+use Rattle.edit_model.specs.NodeArena.declared.MakeFault.TheVariants.{Full as ArenaFull, Memory as ArenaMemory}
+use Rattle.edit_model.specs.NodeArena.Held.{Makes}
+use Rattle.edit_model.specs.LiveRange.declared.places.Places.{Places}
+use Rattle.edit_model.specs.LiveRange.LivePoints.{LivePoints}
+use Rattle.edit_model.specs.LiveRange.PointsEdit.{has_label}
+use Rattle.edit_model.specs.LiveRange.Names.{shown, named as named_marks, marks_of}
+use Rattle.step_edits.specs.UndoLog.Turning.{inverses_back, inverses_forth, FitsBack, FitsForth}
+use Rattle.step_edits.specs.UndoLog.Log.{Open, noted, is_open}
+use Rattle.step_edits.specs.UndoLog.Log.Open.{Closed, Begun, Resumed}
+use Rattle.step_edits.specs.ForestChanges.Change.{Change, IsForest, Fits, applied, inverse}
+use Rattle.step_edits.specs.ForestChanges.Named.{Each, named_in}
+use Rattle.step_edits.specs.ForestChanges.Down.{Prunes, IsLeft}
+use Rattle.step_edits.specs.ForestChanges.Leaves.{IsBelow, IsMade, BackBeside, ForthBeside}
+use Rattle.step_edits.proofs.ForestChanges.BesideLeaf.{fresh, tree_of-with_leaf}
+use Rattle.step_edits.proofs.ForestChanges.ManyLeaves.{back_beside, forth_beside, has_made, pruned-with_leaf}
+use Rattle.step_edits.proofs.ForestChanges.ChangeLists.{each_of, each_join, back_down, forth_down, back_fits_up, forth_fits_up}
+use Rattle.step_edits.proofs.ForestChanges.DownChange.{prunes_whole}
+use Rattle.step_edits.proofs.ForestChanges.Twice.{forest_of}
+use Rattle.step_edits.specs.EditSteps.declared.step.Step.{Step}
+use Rattle.step_edits.specs.EditSteps.Step.{changes_of, nodes_in}
 use Rattle.edit_model.specs.declared.settings.EditFault.{EditFault}
 use Rattle.edit_model.specs.declared.settings.EditFault.TheVariants.{Full, Memory}
 use Rattle.edit_model.specs.State.{State}

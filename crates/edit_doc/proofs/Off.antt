@@ -2,21 +2,21 @@
 use Rattle.std.proofs.Common.{◌≡◌, ℕ, zero, suc, ◌+◌, ◌<◌, Bool, true, false, true≢false, cond, eqb, List, [], ◌∷◌, refl, sym, ap, subst, ◌∙◌, inl, inr, arith}
 use Rattle.std.specs.Prelude.{◌==◌}
 use Rattle.std.proofs.lemmas.Bool.Decides.{eqb_tells, nat_tests}
-use Rattle.dom_model.specs.declared.Content.{Content}
-use Rattle.dom_model.specs.Forest.{Forest, tops, times, count_of, tree_of, parent_of, without, IsDistinct}
-use Rattle.dom_model.specs.Forest.Forest.{Nil, Tree}
-use Rattle.dom_model.specs.Pruned.{pruned}
-use Rattle.dom_model.proofs.Pruning.{count_of-pruned, tree_of-pruned}
-use Rattle.dom_model.proofs.Stands.{times-tops}
-use Rattle.dom_model.proofs.Totals.{total-without}
-use Rattle.undo_log.specs.Turning.{back, forth, inverses_back, inverses_forth, FitsBack, FitsForth}
-use Rattle.forest_changes.specs.Change.{Change, IsForest, Fits, applied, inverse}
-use Rattle.forest_changes.specs.Named.{Each, named_in}
-use Rattle.forest_changes.specs.Down.{Prunes, IsLeft, GoBackDown, GoForthDown}
-use Rattle.forest_changes.proofs.ChangeLists.{each_of, back_down, forth_down}
-use Rattle.forest_changes.proofs.DownChange.{prunes_roots, pruned_tree}
-use Rattle.edit_steps.specs.declared.step.Step.{Step}
-use Rattle.edit_steps.specs.Step.{changes_of}
+use Rattle.edit_model.specs.DomModel.declared.Content.{Content}
+use Rattle.edit_model.specs.DomModel.Forest.{Forest, tops, times, count_of, tree_of, parent_of, without, IsDistinct}
+use Rattle.edit_model.specs.DomModel.Forest.Forest.{Nil, Tree}
+use Rattle.edit_model.specs.DomModel.Pruned.{pruned}
+use Rattle.edit_model.proofs.DomModel.Pruning.{count_of-pruned, tree_of-pruned}
+use Rattle.edit_model.proofs.DomModel.Stands.{times-tops}
+use Rattle.edit_model.proofs.DomModel.Totals.{total-without}
+use Rattle.step_edits.specs.UndoLog.Turning.{back, forth, inverses_back, inverses_forth, FitsBack, FitsForth}
+use Rattle.step_edits.specs.ForestChanges.Change.{Change, IsForest, Fits, applied, inverse}
+use Rattle.step_edits.specs.ForestChanges.Named.{Each, named_in}
+use Rattle.step_edits.specs.ForestChanges.Down.{Prunes, IsLeft, GoBackDown, GoForthDown}
+use Rattle.step_edits.proofs.ForestChanges.ChangeLists.{each_of, back_down, forth_down}
+use Rattle.step_edits.proofs.ForestChanges.DownChange.{prunes_roots, pruned_tree}
+use Rattle.step_edits.specs.EditSteps.declared.step.Step.{Step}
+use Rattle.step_edits.specs.EditSteps.Step.{changes_of}
 use Rattle.edit_doc.specs.Sound.{IsOff, EntriesOff}
 use Rattle.edit_doc.proofs.Downs.{each_both, back_forest, back_labels, forth_forest, forth_labels}
 use Rattle.edit_doc.proofs.Found.{root_detached, count_of-join}

@@ -1,8 +1,8 @@
 -- Entries that lead from one document to another.
 use Rattle.std.proofs.Common.{◌≡◌, ℕ, ◌+◌, ◌<◌, ◌≤◌, List, [], ◌∷◌, ◌++◌, refl, sym, ◌∙◌, arith}
-use Rattle.dom_model.specs.declared.Content.{Content}
-use Rattle.dom_model.specs.Forest.{Forest}
-use Rattle.forest_changes.specs.Named.{Each}
+use Rattle.edit_model.specs.DomModel.declared.Content.{Content}
+use Rattle.edit_model.specs.DomModel.Forest.{Forest}
+use Rattle.step_edits.specs.ForestChanges.Named.{Each}
 use Rattle.edit_model.specs.History.{Entry}
 use Rattle.edit_doc.specs.Onward.{RiseFrom, next_past, LeadsOnward, LeadOnward}
 

@@ -3,17 +3,17 @@ use Rattle.std.proofs.Common.{◌≡◌, ℕ, ◌<◌, Bool, true, false, cond, 
 use Rattle.std.specs.Prelude.{nat_lt, nat_le, ◌&&◌, ◌==◌, find, if◌then◌else◌}
 use Rattle.std.specs.Option.{option_map_or}
 use Rattle.std.proofs.lemmas.Bool.Decides.{eqb_tells}
-use Rattle.dom_model.specs.declared.Content.{Content}
-use Rattle.dom_model.specs.Forest.{Forest, join, times, count_of, is_label, tree_of, children_of, preorder_onto, IsDistinct}
-use Rattle.dom_model.specs.Forest.Forest.{Nil, Tree}
-use Rattle.dom_model.specs.Places.{place_in, index_of, first_of_two, first_among}
-use Rattle.dom_model.specs.Revised.{revised}
-use Rattle.dom_model.specs.Pruned.{pruned}
-use Rattle.dom_model.proofs.Links.{times-children_of_le}
-use Rattle.dom_model.proofs.Revising.{parent_of-revised, children_of-revised, total-revised}
-use Rattle.dom_model.proofs.Pruning.{IsDistinct-pruned, children_of-pruned}
-use Rattle.live_range.specs.declared.places.Point.{Point}
-use Rattle.point_order.specs.PointOrder.{is_within, is_before, is_before_apart, is_before_below, child_toward}
+use Rattle.edit_model.specs.DomModel.declared.Content.{Content}
+use Rattle.edit_model.specs.DomModel.Forest.{Forest, join, times, count_of, is_label, tree_of, children_of, preorder_onto, IsDistinct}
+use Rattle.edit_model.specs.DomModel.Forest.Forest.{Nil, Tree}
+use Rattle.edit_model.specs.DomModel.Places.{place_in, index_of, first_of_two, first_among}
+use Rattle.edit_model.specs.DomModel.Revised.{revised}
+use Rattle.edit_model.specs.DomModel.Pruned.{pruned}
+use Rattle.edit_model.proofs.DomModel.Links.{times-children_of_le}
+use Rattle.edit_model.proofs.DomModel.Revising.{parent_of-revised, children_of-revised, total-revised}
+use Rattle.edit_model.proofs.DomModel.Pruning.{IsDistinct-pruned, children_of-pruned}
+use Rattle.edit_model.specs.LiveRange.declared.places.Point.{Point}
+use Rattle.edit_model.specs.PointOrder.PointOrder.{is_within, is_before, is_before_apart, is_before_below, child_toward}
 use Rattle.edit_doc.proofs.SeenLookUps.{index_detached, within_detached, first_of_two-pruned}
 
 -- ---- contents

@@ -3,28 +3,28 @@ use Rattle.std.proofs.Common.{◌≡◌, ℕ, zero, suc, ◌+◌, ◌<◌, ◌�
 use Rattle.std.specs.Prelude.{◌||◌, slice_get}
 use Rattle.std.specs.Option.{option_and_then}
 use Rattle.std.proofs.lemmas.Bool.Decides.{nat_tests}
-use Rattle.dom_model.specs.declared.Content.{Content}
-use Rattle.dom_model.specs.Forest.{Forest, Seen, tops, times, count_of, parent_of, IsDistinct}
-use Rattle.dom_model.specs.Forest.Forest.{Nil, Tree}
-use Rattle.dom_model.specs.Pruned.{pruned}
-use Rattle.dom_model.specs.ArenaState.{ArenaState as Arena}
-use Rattle.dom_model.proofs.Pruning.{count_of-pruned}
-use Rattle.dom_model.proofs.Stands.{true_or_false, seek_absent, times-tops}
-use Rattle.undo_log.specs.Log.{Log, is_resumed, committed}
-use Rattle.forest_changes.specs.Change.{IsForest}
-use Rattle.forest_changes.specs.Named.{Each, named_in}
-use Rattle.forest_changes.specs.Down.{Prunes, IsLeft, GoBackDown}
-use Rattle.forest_changes.proofs.ChangeLists.{each_of, back_down}
-use Rattle.forest_changes.proofs.DownChange.{prunes_roots}
-use Rattle.forest_changes.proofs.Twice.{forest_of}
-use Rattle.edit_steps.specs.declared.step.Step.{Step}
-use Rattle.edit_steps.specs.Step.{changes_of}
+use Rattle.edit_model.specs.DomModel.declared.Content.{Content}
+use Rattle.edit_model.specs.DomModel.Forest.{Forest, Seen, tops, times, count_of, parent_of, IsDistinct}
+use Rattle.edit_model.specs.DomModel.Forest.Forest.{Nil, Tree}
+use Rattle.edit_model.specs.DomModel.Pruned.{pruned}
+use Rattle.edit_model.specs.DomModel.ArenaState.{ArenaState as Arena}
+use Rattle.edit_model.proofs.DomModel.Pruning.{count_of-pruned}
+use Rattle.edit_model.proofs.DomModel.Stands.{true_or_false, seek_absent, times-tops}
+use Rattle.step_edits.specs.UndoLog.Log.{Log, is_resumed, committed}
+use Rattle.step_edits.specs.ForestChanges.Change.{IsForest}
+use Rattle.step_edits.specs.ForestChanges.Named.{Each, named_in}
+use Rattle.step_edits.specs.ForestChanges.Down.{Prunes, IsLeft, GoBackDown}
+use Rattle.step_edits.proofs.ForestChanges.ChangeLists.{each_of, back_down}
+use Rattle.step_edits.proofs.ForestChanges.DownChange.{prunes_roots}
+use Rattle.step_edits.proofs.ForestChanges.Twice.{forest_of}
+use Rattle.step_edits.specs.EditSteps.declared.step.Step.{Step}
+use Rattle.step_edits.specs.EditSteps.Step.{changes_of}
 use Rattle.edit_model.specs.Gives.{labels_of}
 use Rattle.edit_doc.specs.declared.Doc.TheInside.{Inside}
 use Rattle.edit_doc.specs.declared.command.EntrySnapshot.{EntrySnapshot}
 use Rattle.edit_doc.specs.declared.command.EntrySpan.{EntrySpan}
 use Rattle.edit_doc.specs.declared.command.Command.{Command}
-use Rattle.node_arena.specs.declared.NodeRef.{NodeRef}
+use Rattle.edit_model.specs.NodeArena.declared.NodeRef.{NodeRef}
 use Rattle.edit_doc.specs.Fields.{EntersIn, made_span}
 use Rattle.edit_doc.specs.GivingUp.{GivesUp, loose_roots, has_detached}
 use Rattle.edit_doc.specs.History.{forest_before, is_hidden}

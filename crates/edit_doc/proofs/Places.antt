@@ -2,17 +2,17 @@
 use Rattle.std.proofs.Common.{◌≡◌, ◌≢◌, ◌⊎◌, ℕ, ◌<◌, cond, eqb, List, [], ◌∷◌, length, Option, Some, None, unwrap_or, refl, sym, ap, subst, ◌∙◌, inl, inr, arith}
 use Rattle.std.specs.Option.{option_and_then}
 use Rattle.std.proofs.lemmas.Bool.Decides.{eqb_tells}
-use Rattle.dom_model.specs.declared.Content.{Content}
-use Rattle.dom_model.specs.Contents.{with_chars, with_attributes}
-use Rattle.dom_model.specs.Forest.{Forest, Seen, seek, tops, times, count_of, IsDistinct, parent_of, unlink, link}
-use Rattle.dom_model.specs.ArenaState.{CanLink}
-use Rattle.dom_model.proofs.Links.{seen as seen_at, parent_of-link, parent_of-unlink, eqb_refl_true}
-use Rattle.dom_model.proofs.Revising.{parent_of-revised}
-use Rattle.dom_model.proofs.Stands.{times-tops, parent_stands}
-use Rattle.dom_model.proofs.Totals.{total-unlink}
-use Rattle.forest_changes.specs.Change.{Change, Remove, Insert, Move, SetText, Splice, SetAttributes, IsForest, Fits, applied, spliced_at}
-use Rattle.forest_changes.specs.Named.{named, Each}
-use Rattle.forest_changes.proofs.Twice.{given_parent, IsForest-unlink, IsForest-applied, count_of-applied}
+use Rattle.edit_model.specs.DomModel.declared.Content.{Content}
+use Rattle.edit_model.specs.DomModel.Contents.{with_chars, with_attributes}
+use Rattle.edit_model.specs.DomModel.Forest.{Forest, Seen, seek, tops, times, count_of, IsDistinct, parent_of, unlink, link}
+use Rattle.edit_model.specs.DomModel.ArenaState.{CanLink}
+use Rattle.edit_model.proofs.DomModel.Links.{seen as seen_at, parent_of-link, parent_of-unlink, eqb_refl_true}
+use Rattle.edit_model.proofs.DomModel.Revising.{parent_of-revised}
+use Rattle.edit_model.proofs.DomModel.Stands.{times-tops, parent_stands}
+use Rattle.edit_model.proofs.DomModel.Totals.{total-unlink}
+use Rattle.step_edits.specs.ForestChanges.Change.{Change, Remove, Insert, Move, SetText, Splice, SetAttributes, IsForest, Fits, applied, spliced_at}
+use Rattle.step_edits.specs.ForestChanges.Named.{named, Each}
+use Rattle.step_edits.proofs.ForestChanges.Twice.{given_parent, IsForest-unlink, IsForest-applied, count_of-applied}
 use Rattle.edit_doc.proofs.HiddenTrees.{top_loose}
 
 -- the node that a change is about

@@ -2,23 +2,23 @@
 use Rattle.std.proofs.Common.{◌≡◌, ◌⊎◌, ℕ, ◌+◌, ◌<◌, Bool, true, false, true≢false, Option, Some, refl, sym, ap, subst, ◌∙◌, inl, inr, arith, eqb, nat_lt}
 use Rattle.std.specs.Prelude.{◌&&◌, not, nat_le, IsTrue, ◌↔◌}
 use Rattle.std.proofs.lemmas.Bool.Decides.{nat_tests}
-use Rattle.dom_model.specs.declared.Content.{Content}
-use Rattle.dom_model.specs.Contents.{length_of}
-use Rattle.dom_model.specs.Forest.{Forest, is_label, count_of, parent_of, IsWithin}
-use Rattle.dom_model.specs.ArenaState.{ArenaState as Arena}
-use Rattle.dom_model.proofs.Stands.{true_or_false}
-use Rattle.live_range.specs.declared.places.Point.{Point}
-use Rattle.node_arena.specs.declared.NodeRef.{NodeRef}
-use Rattle.node_arena.specs.declared.Kind.{Kind}
-use Rattle.node_arena.specs.declared.Kind.TheVariants as kind
-use Rattle.node_arena.specs.Kinds.{is_parent_kind}
-use Rattle.point_order.specs.PointOrder.{is_within, is_in_document, is_placed}
+use Rattle.edit_model.specs.DomModel.declared.Content.{Content}
+use Rattle.edit_model.specs.DomModel.Contents.{length_of}
+use Rattle.edit_model.specs.DomModel.Forest.{Forest, is_label, count_of, parent_of, IsWithin}
+use Rattle.edit_model.specs.DomModel.ArenaState.{ArenaState as Arena}
+use Rattle.edit_model.proofs.DomModel.Stands.{true_or_false}
+use Rattle.edit_model.specs.LiveRange.declared.places.Point.{Point}
+use Rattle.edit_model.specs.NodeArena.declared.NodeRef.{NodeRef}
+use Rattle.edit_model.specs.NodeArena.declared.Kind.{Kind}
+use Rattle.edit_model.specs.NodeArena.declared.Kind.TheVariants as kind
+use Rattle.edit_model.specs.NodeArena.Kinds.{is_parent_kind}
+use Rattle.edit_model.specs.PointOrder.PointOrder.{is_within, is_in_document, is_placed}
 use Rattle.edit_model.specs.Confined.{is_place, is_own, is_open, may_grow, may_select, may_send}
 use Rattle.edit_model.specs.Gives.{label_of}
 use Rattle.edit_doc.specs.Whole.{Whole}
 use Rattle.edit_doc.specs.Shows.{Shows}
 use Rattle.edit_doc.specs.Held.{Holds}
-use Rattle.node_arena.specs.Held.{Holds as HoldsNode}
+use Rattle.edit_model.specs.NodeArena.Held.{Holds as HoldsNode}
 use Rattle.edit_doc.proofs.Asking.{second_false}
 use Rattle.edit_doc.proofs.Found.{tree_of-fewer}
 use Rattle.edit_doc.proofs.HiddenTrees.{lt_true, document-pruned, inside_detached, length_of-pruned}

@@ -2,15 +2,15 @@
 use Rattle.std.proofs.Common.{◌≡◌, ℕ, Bool, true, false, if◌then◌else◌, List, length, Option, None, refl, sym, ap, subst, ◌∙◌}
 use Rattle.std.specs.Prelude.{map}
 use Rattle.std.specs.Option.{option_map}
-use Rattle.dom_model.specs.declared.Content.{Content}
-use Rattle.dom_model.specs.Forest.{Forest}
-use Rattle.dom_model.specs.ArenaState.{IsValid as IsArena}
-use Rattle.live_range.specs.declared.places.Pair.{Pair}
-use Rattle.live_range.specs.LivePoints.{LivePoints, mapped, at_pair}
-use Rattle.live_range.specs.PointsEdit.{PointsEdit, adjusted_pair}
-use Rattle.live_range.specs.ActiveRange.{range_changed}
-use Rattle.undo_log.specs.Log.Open.{Closed}
-use Rattle.point_order.specs.PointOrder.{is_before}
+use Rattle.edit_model.specs.DomModel.declared.Content.{Content}
+use Rattle.edit_model.specs.DomModel.Forest.{Forest}
+use Rattle.edit_model.specs.DomModel.ArenaState.{IsValid as IsArena}
+use Rattle.edit_model.specs.LiveRange.declared.places.Pair.{Pair}
+use Rattle.edit_model.specs.LiveRange.LivePoints.{LivePoints, mapped, at_pair}
+use Rattle.edit_model.specs.LiveRange.PointsEdit.{PointsEdit, adjusted_pair}
+use Rattle.edit_model.specs.LiveRange.ActiveRange.{range_changed}
+use Rattle.step_edits.specs.UndoLog.Log.Open.{Closed}
+use Rattle.edit_model.specs.PointOrder.PointOrder.{is_before}
 use Rattle.edit_model.specs.declared.settings.Setting.{Setting}
 use Rattle.edit_model.specs.Edit.{changed, overrides_after}
 use Rattle.edit_model.specs.Valid.{IsPlaced}

@@ -1,14 +1,14 @@
 -- How deep the document is at most after a tree is linked, moved or made loose.
 use Rattle.std.proofs.Common.{◌≡◌, ℕ, ◌+◌, ◌<◌, ◌≤◌, ◌^◌, max, min, Bool, true, false, Option, Some, ap, ◌∙◌, inl, inr, arith}
-use Rattle.dom_model.specs.declared.Content.{Content}
-use Rattle.dom_model.specs.Document.{node_count, page_depth}
-use Rattle.dom_model.specs.Forest.{Forest, total, count_of, depth_of, tree_of, parent_of, link, unlink, CanPut}
-use Rattle.dom_model.specs.Forest.Forest.{Nil, Tree}
-use Rattle.dom_model.specs.Places.{levels, kids_in}
-use Rattle.dom_model.specs.Revised.{revised}
-use Rattle.dom_model.proofs.Heights.{levels_low, page_depth-link, page_depth-move, page_depth-revised, page_depth-unlink, page_depth-within}
-use Rattle.dom_model.proofs.Stands.{true_or_false}
-use Rattle.point_order.specs.PointOrder.{is_in_document}
+use Rattle.edit_model.specs.DomModel.declared.Content.{Content}
+use Rattle.edit_model.specs.DomModel.Document.{node_count, page_depth}
+use Rattle.edit_model.specs.DomModel.Forest.{Forest, total, count_of, depth_of, tree_of, parent_of, link, unlink, CanPut}
+use Rattle.edit_model.specs.DomModel.Forest.Forest.{Nil, Tree}
+use Rattle.edit_model.specs.DomModel.Places.{levels, kids_in}
+use Rattle.edit_model.specs.DomModel.Revised.{revised}
+use Rattle.edit_model.proofs.DomModel.Heights.{levels_low, page_depth-link, page_depth-move, page_depth-revised, page_depth-unlink, page_depth-within}
+use Rattle.edit_model.proofs.DomModel.Stands.{true_or_false}
+use Rattle.edit_model.specs.PointOrder.PointOrder.{is_in_document}
 use Rattle.edit_model.specs.Valid.{IsForest}
 use Rattle.edit_model.proofs.Documents.{document_shape, document-link}
 use Rattle.edit_model.proofs.Forests.{forest-unlink}

@@ -1,16 +1,16 @@
 -- What is read of the document as a whole, and of its points, is read of the arena.
 use Rattle.std.proofs.Common.{◌≡◌, ◌<◌, true, sym, ap, ◌∙◌, arith}
-use Rattle.dom_model.specs.declared.Content.{Content}
-use Rattle.dom_model.specs.Document.{page_depth}
-use Rattle.dom_model.specs.Forest.{Forest, count_of, tree_of}
-use Rattle.dom_model.specs.Places.{levels, kids_in}
-use Rattle.dom_model.specs.ArenaState.{ArenaState as Arena}
-use Rattle.live_range.specs.declared.places.Point.{Point}
-use Rattle.point_order.specs.PointOrder.{is_before, is_placed}
+use Rattle.edit_model.specs.DomModel.declared.Content.{Content}
+use Rattle.edit_model.specs.DomModel.Document.{page_depth}
+use Rattle.edit_model.specs.DomModel.Forest.{Forest, count_of, tree_of}
+use Rattle.edit_model.specs.DomModel.Places.{levels, kids_in}
+use Rattle.edit_model.specs.DomModel.ArenaState.{ArenaState as Arena}
+use Rattle.edit_model.specs.LiveRange.declared.places.Point.{Point}
+use Rattle.edit_model.specs.PointOrder.PointOrder.{is_before, is_placed}
 use Rattle.edit_parts.proofs.Ranges.{placed_here}
 use Rattle.edit_doc.specs.Whole.{Whole}
 use Rattle.edit_doc.specs.Shows.{Shows}
-use Rattle.dom_model.proofs.Pruning.{count_of-pruned}
+use Rattle.edit_model.proofs.DomModel.Pruning.{count_of-pruned}
 use Rattle.edit_doc.proofs.HiddenTrees.{document-pruned}
 use Rattle.edit_doc.proofs.Ordered.{before-detached}
 use Rattle.edit_doc.proofs.Rests.{arena_forest}

@@ -2,16 +2,16 @@
 use Rattle.std.proofs.Common.{◌≡◌, ℕ, ◌<◌, ◌≤◌, false, List, [], ◌∷◌, length, take, Option, None, refl, sym, ap, subst, ◌∙◌, arith}
 use Rattle.std.specs.Prelude.{IsTrue, ◌==◌, ◌||◌, nat_le}
 use Rattle.std.proofs.lemmas.Bool.Decides.{nat_tests}
-use Rattle.dom_model.specs.declared.Content.{Content}
-use Rattle.dom_model.specs.Forest.{Forest}
-use Rattle.live_range.specs.LivePoints.{LivePoints}
-use Rattle.live_range.specs.Names.{shown}
-use Rattle.undo_log.specs.Turning.{inverses_back}
-use Rattle.undo_log.specs.Log.{Log, Open, noted, is_open, is_resumed, committed_with}
-use Rattle.undo_log.specs.Log.Open.{Closed, Begun, Resumed}
-use Rattle.forest_changes.specs.Change.{applied, inverse}
-use Rattle.edit_steps.specs.declared.step.Step.{Step}
-use Rattle.edit_steps.specs.Step.{changes_of}
+use Rattle.edit_model.specs.DomModel.declared.Content.{Content}
+use Rattle.edit_model.specs.DomModel.Forest.{Forest}
+use Rattle.edit_model.specs.LiveRange.LivePoints.{LivePoints}
+use Rattle.edit_model.specs.LiveRange.Names.{shown}
+use Rattle.step_edits.specs.UndoLog.Turning.{inverses_back}
+use Rattle.step_edits.specs.UndoLog.Log.{Log, Open, noted, is_open, is_resumed, committed_with}
+use Rattle.step_edits.specs.UndoLog.Log.Open.{Closed, Begun, Resumed}
+use Rattle.step_edits.specs.ForestChanges.Change.{applied, inverse}
+use Rattle.step_edits.specs.EditSteps.declared.step.Step.{Step}
+use Rattle.step_edits.specs.EditSteps.Step.{changes_of}
 use Rattle.edit_model.specs.State.{State}
 use Rattle.edit_model.specs.Valid.{IsForest}
 use Rattle.edit_model.specs.History.{document_of, rested, recorded, with_entry, view_of, entry_of, used}
@@ -22,7 +22,7 @@ use Rattle.edit_doc.specs.declared.command.EntrySpan.{EntrySpan}
 use Rattle.edit_doc.specs.declared.command.Command.{Command}
 use Rattle.edit_doc.specs.Fields.{IsEnded, EntersIn, Enters, made_span}
 use Rattle.edit_doc.specs.GivingUp.{loose_roots}
-use Rattle.node_arena.specs.declared.NodeRef.{NodeRef}
+use Rattle.edit_model.specs.NodeArena.declared.NodeRef.{NodeRef}
 use Rattle.edit_doc.specs.Whole.{Whole, history_committed, committed_history}
 use Rattle.edit_doc.specs.History.{edits_before, roots_from, state_of, begun_state, began_with, history_of, undo_entries, view_at}
 use Rattle.edit_doc.specs.Sound.{IsSnapshot, UndoSound, RedoSound, next_first}

@@ -1,24 +1,24 @@
 -- An edit that removes a tree, which becomes loose.
-use Rattle.live_range.specs.PointsEdit.{has_label}
+use Rattle.edit_model.specs.LiveRange.PointsEdit.{has_label}
 use Rattle.std.proofs.Common.{◌≡◌, ℕ, zero, suc, ◌+◌, ◌<◌, ◌≤◌, true, false, List, [], ◌∷◌, ◌++◌, length, Option, Some, None, refl, sym, ap, subst, ◌∙◌, arith, inl, inr}
 use Rattle.std.specs.Prelude.{IsSome, unwrap_or}
-use Rattle.dom_model.specs.declared.Content.{Content}
-use Rattle.dom_model.specs.Document.{node_count, char_count, page_depth}
-use Rattle.dom_model.specs.Forest.{Forest, preorder, tree_of, parent_of, next_of, unlink}
-use Rattle.dom_model.specs.Places.{index_of}
-use Rattle.dom_model.specs.Pruned.{pruned}
-use Rattle.dom_model.specs.ArenaState.{ArenaState as Arena, IsValid as IsArena, IsSlotted}
-use Rattle.dom_model.proofs.Pruning.{count_of-pruned, parent_of-pruned, tree_of-pruned}
-use Rattle.node_arena.specs.declared.NodeRef.{NodeRef}
-use Rattle.live_range.specs.PointsEdit as range
-use Rattle.live_range.specs.LivePoints.{LivePoints, mapped}
-use Rattle.forest_changes.specs.Change.{applied, inverse}
-use Rattle.dom_model.specs.Change as change
-use Rattle.forest_changes.specs.Named.{Each, named, listed}
-use Rattle.forest_changes.specs.Down.{IsLeft}
-use Rattle.forest_changes.proofs.Twice.{forest_of}
-use Rattle.edit_steps.specs.declared.step.Step.TheVariants as step
-use Rattle.edit_steps.specs.Step.{StepFits, change_of, step_applied, step_inverse}
+use Rattle.edit_model.specs.DomModel.declared.Content.{Content}
+use Rattle.edit_model.specs.DomModel.Document.{node_count, char_count, page_depth}
+use Rattle.edit_model.specs.DomModel.Forest.{Forest, preorder, tree_of, parent_of, next_of, unlink}
+use Rattle.edit_model.specs.DomModel.Places.{index_of}
+use Rattle.edit_model.specs.DomModel.Pruned.{pruned}
+use Rattle.edit_model.specs.DomModel.ArenaState.{ArenaState as Arena, IsValid as IsArena, IsSlotted}
+use Rattle.edit_model.proofs.DomModel.Pruning.{count_of-pruned, parent_of-pruned, tree_of-pruned}
+use Rattle.edit_model.specs.NodeArena.declared.NodeRef.{NodeRef}
+use Rattle.edit_model.specs.LiveRange.PointsEdit as range
+use Rattle.edit_model.specs.LiveRange.LivePoints.{LivePoints, mapped}
+use Rattle.step_edits.specs.ForestChanges.Change.{applied, inverse}
+use Rattle.edit_model.specs.DomModel.Change as change
+use Rattle.step_edits.specs.ForestChanges.Named.{Each, named, listed}
+use Rattle.step_edits.specs.ForestChanges.Down.{IsLeft}
+use Rattle.step_edits.proofs.ForestChanges.Twice.{forest_of}
+use Rattle.step_edits.specs.EditSteps.declared.step.Step.TheVariants as step
+use Rattle.step_edits.specs.EditSteps.Step.{StepFits, change_of, step_applied, step_inverse}
 use Rattle.edit_model.specs.declared.settings.Setting.{Setting}
 use Rattle.edit_model.specs.Edit.{Remove, is_made_edit, change_of as edit_change, trees_after, points_after}
 use Rattle.edit_model.specs.Confined.{may_leave, may_remove}

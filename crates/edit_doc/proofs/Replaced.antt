@@ -3,26 +3,26 @@ use Rattle.std.proofs.Common.{◌≡◌, ℕ, ◌+◌, ◌-◌, ◌<◌, ◌≤�
 use Rattle.std.specs.Prelude.{◌&&◌}
 use Rattle.std.specs.Option.{option_and_then}
 use Rattle.std.proofs.lemmas.List.{append-nil, drop-drop, length-take, take-append-drop}
-use Rattle.dom_model.specs.declared.Content.{Content}
-use Rattle.dom_model.specs.declared.Content.TheVariants.{Words}
-use Rattle.dom_model.specs.Contents.{chars_in, chars_of, with_chars}
-use Rattle.dom_model.specs.Document.{node_count, char_count, page_depth}
-use Rattle.dom_model.specs.Forest.{Forest, total, content_of, tree_of}
-use Rattle.dom_model.specs.Revised.{revised}
-use Rattle.dom_model.specs.Pruned.{pruned}
-use Rattle.dom_model.specs.ArenaState.{ArenaState as Arena, IsValid as IsArena, IsSlotted}
-use Rattle.dom_model.proofs.Revising.{total-revised}
-use Rattle.dom_model.proofs.Pruning.{IsDistinct-pruned}
-use Rattle.node_arena.specs.declared.NodeRef.{NodeRef}
-use Rattle.live_range.specs.PointsEdit as range
-use Rattle.live_range.specs.LivePoints.{LivePoints, Fits, mapped}
-use Rattle.forest_changes.specs.Change.{Splice, HasPart, applied, inverse, spliced_at}
-use Rattle.forest_changes.specs.Named.{Each, named}
-use Rattle.forest_changes.specs.Down.{IsLeft}
-use Rattle.forest_changes.proofs.Twice.{forest_of}
-use Rattle.forest_changes.proofs.PrunedChanges.{content_of-pruned}
-use Rattle.edit_steps.specs.declared.step.Step.{Step}
-use Rattle.edit_steps.specs.Step.{StepFits, change_of, step_applied, step_inverse}
+use Rattle.edit_model.specs.DomModel.declared.Content.{Content}
+use Rattle.edit_model.specs.DomModel.declared.Content.TheVariants.{Words}
+use Rattle.edit_model.specs.DomModel.Contents.{chars_in, chars_of, with_chars}
+use Rattle.edit_model.specs.DomModel.Document.{node_count, char_count, page_depth}
+use Rattle.edit_model.specs.DomModel.Forest.{Forest, total, content_of, tree_of}
+use Rattle.edit_model.specs.DomModel.Revised.{revised}
+use Rattle.edit_model.specs.DomModel.Pruned.{pruned}
+use Rattle.edit_model.specs.DomModel.ArenaState.{ArenaState as Arena, IsValid as IsArena, IsSlotted}
+use Rattle.edit_model.proofs.DomModel.Revising.{total-revised}
+use Rattle.edit_model.proofs.DomModel.Pruning.{IsDistinct-pruned}
+use Rattle.edit_model.specs.NodeArena.declared.NodeRef.{NodeRef}
+use Rattle.edit_model.specs.LiveRange.PointsEdit as range
+use Rattle.edit_model.specs.LiveRange.LivePoints.{LivePoints, Fits, mapped}
+use Rattle.step_edits.specs.ForestChanges.Change.{Splice, HasPart, applied, inverse, spliced_at}
+use Rattle.step_edits.specs.ForestChanges.Named.{Each, named}
+use Rattle.step_edits.specs.ForestChanges.Down.{IsLeft}
+use Rattle.step_edits.proofs.ForestChanges.Twice.{forest_of}
+use Rattle.step_edits.proofs.ForestChanges.PrunedChanges.{content_of-pruned}
+use Rattle.step_edits.specs.EditSteps.declared.step.Step.{Step}
+use Rattle.step_edits.specs.EditSteps.Step.{StepFits, change_of, step_applied, step_inverse}
 use Rattle.edit_model.specs.declared.settings.Setting.{Setting}
 use Rattle.edit_model.specs.State.{State}
 use Rattle.edit_model.specs.Edit.{Replace, is_made_edit, change_of as edit_change, trees_after, points_after, with_replaced}

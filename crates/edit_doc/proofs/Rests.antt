@@ -1,15 +1,15 @@
 -- A document outside commands.
 use Rattle.std.proofs.Common.{◌≡◌, ◌<◌, false, [], length, Option, Some, None, IfSome, refl, sym, ap, subst, ◌∙◌, arith}
-use Rattle.dom_model.specs.declared.Content.{Content}
-use Rattle.dom_model.specs.Forest.{Forest, tops, times, count_of}
-use Rattle.dom_model.specs.Pruned.{pruned}
-use Rattle.dom_model.specs.ArenaState.{ArenaState as Arena, IsValid as IsArena}
-use Rattle.undo_log.specs.Log.{Log, noted, is_resumed}
-use Rattle.undo_log.specs.Log.Open.{Closed}
-use Rattle.undo_log.proofs.Turns.{back-nil}
-use Rattle.forest_changes.specs.Change.{applied}
-use Rattle.forest_changes.proofs.Twice.{forest_of}
-use Rattle.edit_steps.specs.declared.step.Step.{Step}
+use Rattle.edit_model.specs.DomModel.declared.Content.{Content}
+use Rattle.edit_model.specs.DomModel.Forest.{Forest, tops, times, count_of}
+use Rattle.edit_model.specs.DomModel.Pruned.{pruned}
+use Rattle.edit_model.specs.DomModel.ArenaState.{ArenaState as Arena, IsValid as IsArena}
+use Rattle.step_edits.specs.UndoLog.Log.{Log, noted, is_resumed}
+use Rattle.step_edits.specs.UndoLog.Log.Open.{Closed}
+use Rattle.step_edits.proofs.UndoLog.Turns.{back-nil}
+use Rattle.step_edits.specs.ForestChanges.Change.{applied}
+use Rattle.step_edits.proofs.ForestChanges.Twice.{forest_of}
+use Rattle.step_edits.specs.EditSteps.declared.step.Step.{Step}
 use Rattle.edit_model.specs.Gives.{label_of}
 use Rattle.edit_model.specs.Valid.{IsValid, IsForest, IsPlaced}
 use Rattle.edit_model.specs.State.{State}
@@ -18,7 +18,7 @@ use Rattle.edit_model.proofs.Resting.{forest-document, leaves-document}
 use Rattle.edit_model.proofs.Points.{points_left}
 use Rattle.edit_doc.specs.declared.command.Command.{Command}
 use Rattle.edit_doc.specs.History.{edits_before, roots_from, begun_forest, forest_before, is_hidden, seen_trees, state_of, begun_state, began_with, history_of, whole_of}
-use Rattle.node_arena.specs.declared.NodeRef.{NodeRef}
+use Rattle.edit_model.specs.NodeArena.declared.NodeRef.{NodeRef}
 use Rattle.edit_doc.specs.Sound.{RefIn, IsIdle, OpenSound, UndoSound, RedoSound, AreNeeded, next_first, IsSoundDoc}
 use Rattle.edit_doc.specs.Trail.{Trail}
 use Rattle.edit_doc.specs.Live.{Live}

@@ -1,31 +1,31 @@
 -- A command is taken back.
 use Rattle.std.proofs.Common.{◌≡◌, ℕ, ◌<◌, ◌≤◌, Bool, true, false, List, [], ◌∷◌, length, take, Option, Some, None, refl, sym, ap, subst, ◌∙◌, inl, inr, arith}
 use Rattle.std.specs.Prelude.{IsTrue, nat_le}
-use Rattle.dom_model.specs.declared.Content.{Content}
-use Rattle.dom_model.specs.Forest.{Forest, tops, times, count_of, tree_of, parent_of, first_of, IsDistinct}
-use Rattle.dom_model.specs.Pruned.{pruned, IsWhole}
-use Rattle.dom_model.specs.ArenaState.{ArenaState as Arena, IsValid as IsArena, IsSlotted}
-use Rattle.dom_model.proofs.Pruning.{count_of-pruned, whole_stays}
-use Rattle.dom_model.proofs.Stands.{true_or_false}
-use Rattle.dom_model.proofs.Links.{parent_count}
-use Rattle.dom_model.proofs.Drop.{leaf_out}
-use Rattle.dom_model.proofs.Within.{within_self, within_child}
-use Rattle.node_arena.specs.declared.NodeRef.{NodeRef}
-use Rattle.node_arena.specs.Held.{DropsMade}
-use Rattle.live_range.specs.LivePoints.{LivePoints}
-use Rattle.live_range.specs.Names.{shown}
-use Rattle.undo_log.specs.Turning.{back, inverses_back, FitsBack}
-use Rattle.undo_log.specs.Log.{Log, Open, noted, is_open, is_resumed, abandoned}
-use Rattle.undo_log.specs.Log.Open.{Closed, Begun, Resumed}
-use Rattle.undo_log.specs.States.{start, start_with}
-use Rattle.forest_changes.specs.Change.{Change, IsForest, applied, inverse}
-use Rattle.forest_changes.specs.Named.{Each, named_in}
-use Rattle.forest_changes.specs.Down.{Prunes, IsLeft}
-use Rattle.forest_changes.proofs.DownChange.{prunes_whole}
-use Rattle.forest_changes.proofs.Twice.{forest_of}
-use Rattle.edit_steps.specs.declared.step.Step.{Step}
-use Rattle.edit_steps.specs.Step.{changes_of, step_applied, StepFits}
-use Rattle.edit_steps.proofs.StepLists.{go_back, back_fits}
+use Rattle.edit_model.specs.DomModel.declared.Content.{Content}
+use Rattle.edit_model.specs.DomModel.Forest.{Forest, tops, times, count_of, tree_of, parent_of, first_of, IsDistinct}
+use Rattle.edit_model.specs.DomModel.Pruned.{pruned, IsWhole}
+use Rattle.edit_model.specs.DomModel.ArenaState.{ArenaState as Arena, IsValid as IsArena, IsSlotted}
+use Rattle.edit_model.proofs.DomModel.Pruning.{count_of-pruned, whole_stays}
+use Rattle.edit_model.proofs.DomModel.Stands.{true_or_false}
+use Rattle.edit_model.proofs.DomModel.Links.{parent_count}
+use Rattle.edit_model.proofs.DomModel.Drop.{leaf_out}
+use Rattle.edit_model.proofs.DomModel.Within.{within_self, within_child}
+use Rattle.edit_model.specs.NodeArena.declared.NodeRef.{NodeRef}
+use Rattle.edit_model.specs.NodeArena.Held.{DropsMade}
+use Rattle.edit_model.specs.LiveRange.LivePoints.{LivePoints}
+use Rattle.edit_model.specs.LiveRange.Names.{shown}
+use Rattle.step_edits.specs.UndoLog.Turning.{back, inverses_back, FitsBack}
+use Rattle.step_edits.specs.UndoLog.Log.{Log, Open, noted, is_open, is_resumed, abandoned}
+use Rattle.step_edits.specs.UndoLog.Log.Open.{Closed, Begun, Resumed}
+use Rattle.step_edits.specs.UndoLog.States.{start, start_with}
+use Rattle.step_edits.specs.ForestChanges.Change.{Change, IsForest, applied, inverse}
+use Rattle.step_edits.specs.ForestChanges.Named.{Each, named_in}
+use Rattle.step_edits.specs.ForestChanges.Down.{Prunes, IsLeft}
+use Rattle.step_edits.proofs.ForestChanges.DownChange.{prunes_whole}
+use Rattle.step_edits.proofs.ForestChanges.Twice.{forest_of}
+use Rattle.step_edits.specs.EditSteps.declared.step.Step.{Step}
+use Rattle.step_edits.specs.EditSteps.Step.{changes_of, step_applied, StepFits}
+use Rattle.step_edits.proofs.EditSteps.StepLists.{go_back, back_fits}
 use Rattle.edit_model.specs.declared.settings.Setting.{Setting}
 use Rattle.edit_model.specs.declared.settings.Flags.{Flags}
 use Rattle.edit_model.specs.State.{State}

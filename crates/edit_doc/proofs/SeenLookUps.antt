@@ -3,17 +3,17 @@ use Rattle.std.proofs.Common.{◌≡◌, ℕ, zero, suc, ◌+◌, ◌<◌, ◌�
 use Rattle.std.specs.Prelude.{◌&&◌}
 use Rattle.std.specs.Option.{option_map, option_map_or, option_and_then}
 use Rattle.std.proofs.lemmas.Bool.Decides.{eqb_tells, nat_tests}
-use Rattle.dom_model.specs.declared.Content.{Content}
-use Rattle.dom_model.specs.Contents.{is_element, length_in, length_of}
-use Rattle.dom_model.specs.Editing.{offered, host_from, is_editable}
-use Rattle.dom_model.specs.Forest.{Forest, Seen, either, is_label, count_of, parent_of, first_of, last_of, prev_of, next_of, first_in, last_in, before_in, after_in, children_of, content_of, preorder, IsDistinct}
-use Rattle.dom_model.specs.Forest.Forest.{Nil, Tree}
-use Rattle.dom_model.specs.Places.{place_in, first_among, index_of, first_of_two}
-use Rattle.dom_model.specs.Pruned.{pruned}
-use Rattle.dom_model.proofs.Links.{parent_count}
-use Rattle.dom_model.proofs.Pruning.{count_of-pruned, IsDistinct-pruned, tree_of-pruned, seek-pruned, parent_of-pruned, children_of-pruned}
-use Rattle.dom_model.proofs.Stands.{true_or_false}
-use Rattle.point_order.specs.PointOrder.{is_within}
+use Rattle.edit_model.specs.DomModel.declared.Content.{Content}
+use Rattle.edit_model.specs.DomModel.Contents.{is_element, length_in, length_of}
+use Rattle.edit_model.specs.DomModel.Editing.{offered, host_from, is_editable}
+use Rattle.edit_model.specs.DomModel.Forest.{Forest, Seen, either, is_label, count_of, parent_of, first_of, last_of, prev_of, next_of, first_in, last_in, before_in, after_in, children_of, content_of, preorder, IsDistinct}
+use Rattle.edit_model.specs.DomModel.Forest.Forest.{Nil, Tree}
+use Rattle.edit_model.specs.DomModel.Places.{place_in, first_among, index_of, first_of_two}
+use Rattle.edit_model.specs.DomModel.Pruned.{pruned}
+use Rattle.edit_model.proofs.DomModel.Links.{parent_count}
+use Rattle.edit_model.proofs.DomModel.Pruning.{count_of-pruned, IsDistinct-pruned, tree_of-pruned, seek-pruned, parent_of-pruned, children_of-pruned}
+use Rattle.edit_model.proofs.DomModel.Stands.{true_or_false}
+use Rattle.edit_model.specs.PointOrder.PointOrder.{is_within}
 
 -- ---- hosts
 

@@ -2,19 +2,19 @@
 use Rattle.std.proofs.Common.{◌≡◌, ℕ, ◌<◌, Bool, false, Option, Some, None, IfSome, refl, sym, ap, subst, ◌∙◌}
 use Rattle.std.specs.Prelude.{slice_index_or}
 use Rattle.std.specs.Option.{option_map, option_map_or, option_and_then}
-use Rattle.dom_model.specs.declared.Content.{Content}
-use Rattle.dom_model.specs.Contents.{is_element, has_chars, may_have_children, name_in, attributes_in, chars_in, is_element_at, is_parent_at, has_chars_at, name_of, attributes_of, chars_of, length_of}
-use Rattle.dom_model.specs.Forest.{Forest, count_of, tree_of, parent_of, first_of, last_of, prev_of, next_of, content_of, IsDistinct}
-use Rattle.dom_model.specs.Editing.{is_editable}
-use Rattle.dom_model.specs.Places.{index_of}
-use Rattle.dom_model.specs.Pruned.{pruned}
-use Rattle.dom_model.specs.ArenaState.{ArenaState as Arena, IsValid as IsArena}
-use Rattle.dom_model.proofs.Links.{parent_here, first_here, last_here, prev_here, next_here}
-use Rattle.dom_model.proofs.Pruning.{IsDistinct-pruned, parent_of-pruned, tree_of-pruned}
-use Rattle.point_order.specs.PointOrder.{is_within}
-use Rattle.node_arena.specs.declared.NodeRef.{NodeRef}
-use Rattle.node_arena.specs.Held.{Holds as HoldsNode, NamesHeld}
-use Rattle.node_arena.specs.Kinds.{kind_in, kind_of}
+use Rattle.edit_model.specs.DomModel.declared.Content.{Content}
+use Rattle.edit_model.specs.DomModel.Contents.{is_element, has_chars, may_have_children, name_in, attributes_in, chars_in, is_element_at, is_parent_at, has_chars_at, name_of, attributes_of, chars_of, length_of}
+use Rattle.edit_model.specs.DomModel.Forest.{Forest, count_of, tree_of, parent_of, first_of, last_of, prev_of, next_of, content_of, IsDistinct}
+use Rattle.edit_model.specs.DomModel.Editing.{is_editable}
+use Rattle.edit_model.specs.DomModel.Places.{index_of}
+use Rattle.edit_model.specs.DomModel.Pruned.{pruned}
+use Rattle.edit_model.specs.DomModel.ArenaState.{ArenaState as Arena, IsValid as IsArena}
+use Rattle.edit_model.proofs.DomModel.Links.{parent_here, first_here, last_here, prev_here, next_here}
+use Rattle.edit_model.proofs.DomModel.Pruning.{IsDistinct-pruned, parent_of-pruned, tree_of-pruned}
+use Rattle.edit_model.specs.PointOrder.PointOrder.{is_within}
+use Rattle.edit_model.specs.NodeArena.declared.NodeRef.{NodeRef}
+use Rattle.edit_model.specs.NodeArena.Held.{Holds as HoldsNode, NamesHeld}
+use Rattle.edit_model.specs.NodeArena.Kinds.{kind_in, kind_of}
 use Rattle.edit_doc.specs.declared.Doc.TheInside.{Inside}
 use Rattle.edit_doc.specs.Whole.{Whole}
 use Rattle.edit_doc.specs.Held.{Holds, Finds}

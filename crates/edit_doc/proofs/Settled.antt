@@ -1,15 +1,15 @@
 -- Whether the active range changes is told alike by the arena's forest and by what is seen of it.
 use Rattle.std.proofs.Common.{◌≡◌, ℕ, ◌<◌, Bool, true, cond, eqb, Option, Some, None, refl, sym, ap, ◌∙◌, arith}
 use Rattle.std.specs.Prelude.{IfSome, if◌then◌else◌}
-use Rattle.dom_model.specs.declared.Content.{Content}
-use Rattle.dom_model.specs.Forest.{Forest, count_of, IsDistinct}
-use Rattle.dom_model.specs.Pruned.{pruned}
-use Rattle.dom_model.proofs.Totals.{total-without}
-use Rattle.live_range.specs.declared.places.Point.{Point}
-use Rattle.live_range.specs.declared.places.Pair.{Pair}
-use Rattle.live_range.specs.LivePoints.{LivePoints}
-use Rattle.live_range.specs.ActiveRange.{range_changed}
-use Rattle.point_order.specs.PointOrder.{is_before, is_placed}
+use Rattle.edit_model.specs.DomModel.declared.Content.{Content}
+use Rattle.edit_model.specs.DomModel.Forest.{Forest, count_of, IsDistinct}
+use Rattle.edit_model.specs.DomModel.Pruned.{pruned}
+use Rattle.edit_model.proofs.DomModel.Totals.{total-without}
+use Rattle.edit_model.specs.LiveRange.declared.places.Point.{Point}
+use Rattle.edit_model.specs.LiveRange.declared.places.Pair.{Pair}
+use Rattle.edit_model.specs.LiveRange.LivePoints.{LivePoints}
+use Rattle.edit_model.specs.LiveRange.ActiveRange.{range_changed}
+use Rattle.edit_model.specs.PointOrder.PointOrder.{is_before, is_placed}
 use Rattle.edit_model.specs.State.{State}
 use Rattle.edit_model.specs.Edit.{overrides_after}
 use Rattle.edit_model.specs.Valid.{IsPlaced, IsPlacedPair}

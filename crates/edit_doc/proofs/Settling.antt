@@ -1,16 +1,16 @@
 -- Where the points stand after an edit that is made, and what settling the overrides writes.
 use Rattle.std.proofs.Common.{◌≡◌, true, List, Option, refl, sym, ap, subst, ◌∙◌, arith}
-use Rattle.dom_model.specs.declared.Content.{Content}
-use Rattle.dom_model.specs.Forest.{Forest}
-use Rattle.dom_model.specs.Pruned.{pruned}
-use Rattle.dom_model.specs.ArenaState.{ArenaState as Arena, IsValid as IsArena}
-use Rattle.live_range.specs.LivePoints.{LivePoints}
-use Rattle.forest_changes.specs.Change.{applied}
-use Rattle.forest_changes.specs.Named.{Each, named}
-use Rattle.forest_changes.specs.Down.{IsLeft, GoesDown}
-use Rattle.forest_changes.proofs.Twice.{IsForest-applied, count_of-applied}
-use Rattle.edit_steps.specs.declared.step.Step.{Step}
-use Rattle.edit_steps.specs.Step.{change_of, step_applied, StepFits}
+use Rattle.edit_model.specs.DomModel.declared.Content.{Content}
+use Rattle.edit_model.specs.DomModel.Forest.{Forest}
+use Rattle.edit_model.specs.DomModel.Pruned.{pruned}
+use Rattle.edit_model.specs.DomModel.ArenaState.{ArenaState as Arena, IsValid as IsArena}
+use Rattle.edit_model.specs.LiveRange.LivePoints.{LivePoints}
+use Rattle.step_edits.specs.ForestChanges.Change.{applied}
+use Rattle.step_edits.specs.ForestChanges.Named.{Each, named}
+use Rattle.step_edits.specs.ForestChanges.Down.{IsLeft, GoesDown}
+use Rattle.step_edits.proofs.ForestChanges.Twice.{IsForest-applied, count_of-applied}
+use Rattle.step_edits.specs.EditSteps.declared.step.Step.{Step}
+use Rattle.step_edits.specs.EditSteps.Step.{change_of, step_applied, StepFits}
 use Rattle.edit_model.specs.declared.settings.Setting.{Setting}
 use Rattle.edit_model.specs.Edit.{Edit, is_made_edit, trees_after, points_after, overrides_after}
 use Rattle.edit_model.specs.Valid.{IsForest, IsPlaced}

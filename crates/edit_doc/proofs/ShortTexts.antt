@@ -1,11 +1,11 @@
 -- The characters of a node of an arena can be counted in 32 bits.
 use Rattle.std.proofs.Common.{◌≡◌, ℕ, ◌<◌, ◌^◌, length, Option, Some, None, refl, sym, ap, subst, ◌∙◌}
 use Rattle.std.specs.Option.{option_map}
-use Rattle.dom_model.specs.declared.Content.{Content}
-use Rattle.dom_model.specs.declared.Content.TheVariants.{Document, Element, Words, Remark}
-use Rattle.dom_model.specs.Contents.{char_length}
-use Rattle.dom_model.specs.Forest.{Seen, seek, content_of}
-use Rattle.dom_model.specs.ArenaState.{ArenaState as Arena, IsValid as IsArena}
+use Rattle.edit_model.specs.DomModel.declared.Content.{Content}
+use Rattle.edit_model.specs.DomModel.declared.Content.TheVariants.{Document, Element, Words, Remark}
+use Rattle.edit_model.specs.DomModel.Contents.{char_length}
+use Rattle.edit_model.specs.DomModel.Forest.{Seen, seek, content_of}
+use Rattle.edit_model.specs.DomModel.ArenaState.{ArenaState as Arena, IsValid as IsArena}
 use Rattle.edit_doc.specs.Splicing.{own_chars}
 
 chars_length : (c : Content) → char_length c < 2 ^ 32 → length (own_chars c) < 2 ^ 32

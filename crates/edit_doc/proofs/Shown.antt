@@ -3,17 +3,17 @@ use Rattle.std.proofs.Common.{◌≡◌, ℕ, ◌^◌, ◌<◌, ◌≤◌, ◌�
 use Rattle.std.specs.Prelude.{◌&&◌, IsTrue}
 use Rattle.std.specs.Option.{option_map_or}
 use Rattle.std.proofs.lemmas.Bool.Decides.{eqb_tells}
-use Rattle.dom_model.specs.declared.Content.{Content}
-use Rattle.dom_model.specs.Editing.{is_host, is_true_state}
-use Rattle.dom_model.specs.Forest.{Forest, IsWithin, total, count_of, preorder}
-use Rattle.dom_model.specs.Forest.Forest.{Nil, Tree}
-use Rattle.dom_model.specs.Places.{first_among, first_of_two}
-use Rattle.dom_model.specs.Pruned.{pruned}
-use Rattle.dom_model.specs.ArenaState.{ArenaState as Arena}
-use Rattle.dom_model.proofs.Stands.{true_or_false}
-use Rattle.node_arena.specs.declared.NodeRef.{NodeRef}
-use Rattle.node_arena.specs.Held.{Holds as HoldsNode, NamesHeld as NamesNode, label}
-use Rattle.node_arena.specs.Reads.{IsValid, Names}
+use Rattle.edit_model.specs.DomModel.declared.Content.{Content}
+use Rattle.edit_model.specs.DomModel.Editing.{is_host, is_true_state}
+use Rattle.edit_model.specs.DomModel.Forest.{Forest, IsWithin, total, count_of, preorder}
+use Rattle.edit_model.specs.DomModel.Forest.Forest.{Nil, Tree}
+use Rattle.edit_model.specs.DomModel.Places.{first_among, first_of_two}
+use Rattle.edit_model.specs.DomModel.Pruned.{pruned}
+use Rattle.edit_model.specs.DomModel.ArenaState.{ArenaState as Arena}
+use Rattle.edit_model.proofs.DomModel.Stands.{true_or_false}
+use Rattle.edit_model.specs.NodeArena.declared.NodeRef.{NodeRef}
+use Rattle.edit_model.specs.NodeArena.Held.{Holds as HoldsNode, NamesHeld as NamesNode, label}
+use Rattle.edit_model.specs.NodeArena.Reads.{IsValid, Names}
 use Rattle.edit_doc.specs.Whole.{Whole, IsDoc}
 use Rattle.edit_doc.specs.Held.{Holds, Finds}
 use Rattle.edit_doc.specs.Shows.{Shows}

@@ -1,13 +1,13 @@
 -- A commit with an edit gives up what no kept entry names.
 use Rattle.std.proofs.Common.{◌≡◌, ℕ, ◌<◌, Bool, [], sym, ap, subst, ◌∙◌, arith}
-use Rattle.dom_model.specs.Forest.{count_of}
-use Rattle.dom_model.specs.ArenaState.{ArenaState as Arena, IsValid as IsArena}
-use Rattle.dom_model.proofs.Pruning.{count_of-pruned}
-use Rattle.live_range.specs.LivePoints.{LivePoints}
-use Rattle.live_range.specs.Names.{shown}
-use Rattle.undo_log.specs.Log.{Log, IsLog, noted, committed}
-use Rattle.forest_changes.specs.Down.{Prunes}
-use Rattle.edit_steps.specs.declared.step.Step.{Step}
+use Rattle.edit_model.specs.DomModel.Forest.{count_of}
+use Rattle.edit_model.specs.DomModel.ArenaState.{ArenaState as Arena, IsValid as IsArena}
+use Rattle.edit_model.proofs.DomModel.Pruning.{count_of-pruned}
+use Rattle.edit_model.specs.LiveRange.LivePoints.{LivePoints}
+use Rattle.edit_model.specs.LiveRange.Names.{shown}
+use Rattle.step_edits.specs.UndoLog.Log.{Log, IsLog, noted, committed}
+use Rattle.step_edits.specs.ForestChanges.Down.{Prunes}
+use Rattle.step_edits.specs.EditSteps.declared.step.Step.{Step}
 use Rattle.edit_model.specs.History.{rested}
 use Rattle.edit_doc.specs.declared.Doc.TheInside.{Inside}
 use Rattle.edit_doc.specs.declared.command.Command.{Command}

@@ -1,11 +1,11 @@
 -- The nodes that the steps of a list name, one step after another.
 use Rattle.std.proofs.Common.{◌≡◌, ℕ, zero, suc, ◌+◌, ◌<◌, List, [], ◌∷◌, ◌++◌, length, get_or, take, Some, None, refl, sym, ap, subst, ◌∙◌, arith, append-nil, append_assoc, add-one}
 use Rattle.std.specs.Prelude.{slice_get}
-use Rattle.node_arena.specs.declared.NodeRef.{NodeRef}
-use Rattle.forest_changes.specs.Named.{Each, named, named_in}
-use Rattle.forest_changes.proofs.ChangeLists.{each_first, each_rest}
-use Rattle.edit_steps.specs.declared.step.Step.{Step}
-use Rattle.edit_steps.specs.Step.{change_of, changes_of, nodes_of, nodes_in}
+use Rattle.edit_model.specs.NodeArena.declared.NodeRef.{NodeRef}
+use Rattle.step_edits.specs.ForestChanges.Named.{Each, named, named_in}
+use Rattle.step_edits.proofs.ForestChanges.ChangeLists.{each_first, each_rest}
+use Rattle.step_edits.specs.EditSteps.declared.step.Step.{Step}
+use Rattle.step_edits.specs.EditSteps.Step.{change_of, changes_of, nodes_of, nodes_in}
 
 no_item : {A B : Type 0} (x : A) → None ≡ Some x → B
 no_item x e = absurd (cc)

@@ -1,13 +1,13 @@
 -- What the fields of a document tell of it as a whole.
 use Rattle.std.proofs.Common.{◌≡◌, ◌<◌, ◌≤◌, ℕ, Option, Some, None, IfSome, refl, sym, ap, subst, ◌∙◌, arith}
-use Rattle.dom_model.specs.declared.Content.{Content}
-use Rattle.dom_model.specs.Document.{node_count, char_count, page_depth}
-use Rattle.dom_model.specs.Forest.{Forest, count_of, tree_of}
-use Rattle.dom_model.specs.ArenaState.{ArenaState as Arena, IsValid as IsArena}
-use Rattle.live_range.specs.LivePoints.{LivePoints}
-use Rattle.undo_log.specs.Log.{IsLog}
-use Rattle.node_arena.specs.declared.NodeRef.{NodeRef}
-use Rattle.node_arena.specs.Held.{Holds as HoldsNode}
+use Rattle.edit_model.specs.DomModel.declared.Content.{Content}
+use Rattle.edit_model.specs.DomModel.Document.{node_count, char_count, page_depth}
+use Rattle.edit_model.specs.DomModel.Forest.{Forest, count_of, tree_of}
+use Rattle.edit_model.specs.DomModel.ArenaState.{ArenaState as Arena, IsValid as IsArena}
+use Rattle.edit_model.specs.LiveRange.LivePoints.{LivePoints}
+use Rattle.step_edits.specs.UndoLog.Log.{IsLog}
+use Rattle.edit_model.specs.NodeArena.declared.NodeRef.{NodeRef}
+use Rattle.edit_model.specs.NodeArena.Held.{Holds as HoldsNode}
 use Rattle.edit_model.specs.Valid.{IsForest}
 use Rattle.edit_model.specs.History.{document_of, rested}
 use Rattle.edit_model.proofs.Documents.{document_shape}

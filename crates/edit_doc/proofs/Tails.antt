@@ -6,21 +6,21 @@ use Rattle.std.specs.Option.{option_map, option_map_or, option_and_then}
 use Rattle.std.specs.Result.{IsErrAnd}
 use Rattle.std.proofs.lemmas.Bool.{cases_Bool, and_parts, eq-eqb, ne_eqb, ltb-true}
 use Rattle.std.proofs.lemmas.Bool.Decides.{eqb_tells}
-use Rattle.dom_model.specs.declared.Content.{Content}
-use Rattle.dom_model.specs.declared.Content.TheVariants.{Document, Element, Words, Remark}
-use Rattle.dom_model.specs.declared.attributes.Attribute.{Attribute}
-use Rattle.dom_model.specs.AttributeList.{unset_in, IsDistinctNames}
-use Rattle.dom_model.specs.Contents.{may_have_children, is_element, is_element_at, is_parent_at, name_of, attributes_of, name_in, attributes_in}
-use Rattle.dom_model.specs.Forest.{Forest, Seen, tops, times, total, count_of, tree_of, parent_of, children_of, content_of, with_leaf, IsDistinct}
-use Rattle.dom_model.specs.Forest.Forest.{Nil, Tree}
-use Rattle.dom_model.specs.Places.{index_of, place_in}
-use Rattle.dom_model.proofs.Stands.{Stands, Stands-tree_of, seek_Stands}
-use Rattle.dom_model.proofs.Kept.{content_of-with_leaf_other}
-use Rattle.dom_model.proofs.Links.{tree_is, parent_count, seen, children_of-with_leaf}
-use Rattle.dom_model.proofs.Totals.{total-without}
-use Rattle.live_range.specs.declared.places.Point.{Point}
-use Rattle.point_order.specs.PointOrder.{is_within, is_in_document, child_toward}
-use Rattle.node_arena.specs.declared.NodeRef.{NodeRef}
+use Rattle.edit_model.specs.DomModel.declared.Content.{Content}
+use Rattle.edit_model.specs.DomModel.declared.Content.TheVariants.{Document, Element, Words, Remark}
+use Rattle.edit_model.specs.DomModel.declared.attributes.Attribute.{Attribute}
+use Rattle.edit_model.specs.DomModel.AttributeList.{unset_in, IsDistinctNames}
+use Rattle.edit_model.specs.DomModel.Contents.{may_have_children, is_element, is_element_at, is_parent_at, name_of, attributes_of, name_in, attributes_in}
+use Rattle.edit_model.specs.DomModel.Forest.{Forest, Seen, tops, times, total, count_of, tree_of, parent_of, children_of, content_of, with_leaf, IsDistinct}
+use Rattle.edit_model.specs.DomModel.Forest.Forest.{Nil, Tree}
+use Rattle.edit_model.specs.DomModel.Places.{index_of, place_in}
+use Rattle.edit_model.proofs.DomModel.Stands.{Stands, Stands-tree_of, seek_Stands}
+use Rattle.edit_model.proofs.DomModel.Kept.{content_of-with_leaf_other}
+use Rattle.edit_model.proofs.DomModel.Links.{tree_is, parent_count, seen, children_of-with_leaf}
+use Rattle.edit_model.proofs.DomModel.Totals.{total-without}
+use Rattle.edit_model.specs.LiveRange.declared.places.Point.{Point}
+use Rattle.edit_model.specs.PointOrder.PointOrder.{is_within, is_in_document, child_toward}
+use Rattle.edit_model.specs.NodeArena.declared.NodeRef.{NodeRef}
 use Rattle.edit_model.specs.declared.settings.EditFault.{EditFault}
 use Rattle.edit_model.specs.declared.settings.EditFault.TheVariants.{Full, Memory}
 use Rattle.edit_model.specs.State.{State, IsPastCap}

@@ -1,34 +1,34 @@
 -- What the steps of an entry tell is what the entry tells from the document before it on.
 use Rattle.std.proofs.Common.{◌≡◌, ℕ, zero, suc, ◌<◌, Bool, true, List, [], ◌∷◌, ◌++◌, take, drop, map, reverse, Option, refl, sym, ap, subst, ◌∙◌, arith}
 use Rattle.std.proofs.lemmas.List.{map-append, reverse-append}
-use Rattle.dom_model.specs.declared.Content.{Content}
-use Rattle.dom_model.specs.Forest.{Forest, count_of}
-use Rattle.dom_model.specs.Pruned.{pruned}
-use Rattle.dom_model.specs.ArenaState.{ArenaState as Arena, IsValid as IsArena}
-use Rattle.undo_log.specs.Log.{noted, first_entry, FitsUndo, FitsRedo}
-use Rattle.undo_log.specs.Log.Open.{Closed}
-use Rattle.undo_log.specs.Turning.{back, forth, inverses_back, inverses_forth, FitsBack, FitsForth}
-use Rattle.undo_log.specs.Watching.{SeenMade, SeenUndone}
-use Rattle.undo_log.proofs.Turns.{FitsBack-past}
-use Rattle.forest_changes.specs.Change.{Change, IsForest, Fits, applied, inverse}
-use Rattle.forest_changes.specs.Down.{Prunes, IsLeft, GoForthDown}
-use Rattle.forest_changes.specs.Named.{Each, named, named_in}
-use Rattle.forest_changes.proofs.ChangeLists.{each_of, each_first, each_rest, back_down, forth_down}
-use Rattle.forest_changes.proofs.DownChange.{down}
-use Rattle.forest_changes.proofs.Twice.{turns, back_turns, forest_of}
-use Rattle.edit_steps.specs.declared.step.Step.{Step}
-use Rattle.edit_steps.specs.Step.{change_of, changes_of, step_applied, step_inverse, StepFits}
-use Rattle.edit_steps.proofs.StepLists.{go_back, go_forth}
+use Rattle.edit_model.specs.DomModel.declared.Content.{Content}
+use Rattle.edit_model.specs.DomModel.Forest.{Forest, count_of}
+use Rattle.edit_model.specs.DomModel.Pruned.{pruned}
+use Rattle.edit_model.specs.DomModel.ArenaState.{ArenaState as Arena, IsValid as IsArena}
+use Rattle.step_edits.specs.UndoLog.Log.{noted, first_entry, FitsUndo, FitsRedo}
+use Rattle.step_edits.specs.UndoLog.Log.Open.{Closed}
+use Rattle.step_edits.specs.UndoLog.Turning.{back, forth, inverses_back, inverses_forth, FitsBack, FitsForth}
+use Rattle.step_edits.specs.UndoLog.Watching.{SeenMade, SeenUndone}
+use Rattle.step_edits.proofs.UndoLog.Turns.{FitsBack-past}
+use Rattle.step_edits.specs.ForestChanges.Change.{Change, IsForest, Fits, applied, inverse}
+use Rattle.step_edits.specs.ForestChanges.Down.{Prunes, IsLeft, GoForthDown}
+use Rattle.step_edits.specs.ForestChanges.Named.{Each, named, named_in}
+use Rattle.step_edits.proofs.ForestChanges.ChangeLists.{each_of, each_first, each_rest, back_down, forth_down}
+use Rattle.step_edits.proofs.ForestChanges.DownChange.{down}
+use Rattle.step_edits.proofs.ForestChanges.Twice.{turns, back_turns, forest_of}
+use Rattle.step_edits.specs.EditSteps.declared.step.Step.{Step}
+use Rattle.step_edits.specs.EditSteps.Step.{change_of, changes_of, step_applied, step_inverse, StepFits}
+use Rattle.step_edits.proofs.EditSteps.StepLists.{go_back, go_forth}
 use Rattle.step_edits.specs.Recorded.{Recorded, Records}
 use Rattle.step_edits.proofs.Recording.{recorded}
-use Rattle.document_edits.specs.declared.edit.DocumentEdit.{DocumentEdit}
-use Rattle.document_edits.specs.Told.{told_all, told_back}
-use Rattle.document_edits.specs.Followed.{followed}
-use Rattle.document_edits.proofs.Following.{told_all_follows}
-use Rattle.document_edits.proofs.Pruned.{told_all-pruned}
-use Rattle.document_edits.proofs.Undoing.{told_back_follows, told_back-pruned}
+use Rattle.step_edits.specs.DocumentEdits.declared.edit.DocumentEdit.{DocumentEdit}
+use Rattle.step_edits.specs.DocumentEdits.Told.{told_all, told_back}
+use Rattle.step_edits.specs.DocumentEdits.Followed.{followed}
+use Rattle.step_edits.proofs.DocumentEdits.Following.{told_all_follows}
+use Rattle.step_edits.proofs.DocumentEdits.Pruned.{told_all-pruned}
+use Rattle.step_edits.proofs.DocumentEdits.Undoing.{told_back_follows, told_back-pruned}
 use Rattle.edit_model.specs.History.{Entry, used, document_of}
-use Rattle.node_arena.specs.declared.NodeRef.{NodeRef}
+use Rattle.edit_model.specs.NodeArena.declared.NodeRef.{NodeRef}
 use Rattle.edit_doc.specs.declared.Doc.TheInside.{Inside}
 use Rattle.edit_doc.specs.declared.command.Command.{Command}
 use Rattle.edit_doc.specs.declared.command.EntrySnapshot.{EntrySnapshot}

@@ -1,22 +1,22 @@
 -- What the running command changed so far, and the entry that a commit leaves of it.
 use Rattle.std.proofs.Common.{◌≡◌, ℕ, zero, suc, ◌<◌, ◌≤◌, Bool, true, false, List, [], ◌∷◌, ◌++◌, length, take, drop, refl, sym, ap, subst, ◌∙◌, arith}
 use Rattle.std.specs.Prelude.{IsTrue}
-use Rattle.dom_model.specs.declared.Content.{Content}
-use Rattle.dom_model.specs.Forest.{Forest}
-use Rattle.undo_log.specs.Log.{Open, Log, IsLog, is_open, is_resumed, noted, first_entry, first_length, committed, committed_with}
-use Rattle.undo_log.specs.Log.Open.{Closed, Begun, Resumed}
-use Rattle.undo_log.specs.Turning.{forth}
-use Rattle.undo_log.proofs.Lists.{drop-first}
-use Rattle.forest_changes.specs.Change.{Change, applied}
-use Rattle.forest_changes.specs.Down.{IsLeft, GoBackDown}
-use Rattle.forest_changes.specs.Named.{named_in}
-use Rattle.forest_changes.proofs.ChangeLists.{each_of, back_down}
-use Rattle.forest_changes.proofs.Twice.{back_turns, forest_of}
-use Rattle.edit_steps.specs.declared.step.Step.{Step}
-use Rattle.edit_steps.specs.Step.{changes_of}
-use Rattle.document_edits.specs.Followed.{followed}
-use Rattle.document_edits.specs.Told.{told_all}
-use Rattle.document_edits.proofs.Following.{told_all_follows}
+use Rattle.edit_model.specs.DomModel.declared.Content.{Content}
+use Rattle.edit_model.specs.DomModel.Forest.{Forest}
+use Rattle.step_edits.specs.UndoLog.Log.{Open, Log, IsLog, is_open, is_resumed, noted, first_entry, first_length, committed, committed_with}
+use Rattle.step_edits.specs.UndoLog.Log.Open.{Closed, Begun, Resumed}
+use Rattle.step_edits.specs.UndoLog.Turning.{forth}
+use Rattle.step_edits.proofs.UndoLog.Lists.{drop-first}
+use Rattle.step_edits.specs.ForestChanges.Change.{Change, applied}
+use Rattle.step_edits.specs.ForestChanges.Down.{IsLeft, GoBackDown}
+use Rattle.step_edits.specs.ForestChanges.Named.{named_in}
+use Rattle.step_edits.proofs.ForestChanges.ChangeLists.{each_of, back_down}
+use Rattle.step_edits.proofs.ForestChanges.Twice.{back_turns, forest_of}
+use Rattle.step_edits.specs.EditSteps.declared.step.Step.{Step}
+use Rattle.step_edits.specs.EditSteps.Step.{changes_of}
+use Rattle.step_edits.specs.DocumentEdits.Followed.{followed}
+use Rattle.step_edits.specs.DocumentEdits.Told.{told_all}
+use Rattle.step_edits.proofs.DocumentEdits.Following.{told_all_follows}
 use Rattle.edit_model.specs.History.{Entry, History, document_of, used}
 use Rattle.edit_model.specs.State.{State}
 use Rattle.edit_doc.specs.declared.Doc.TheInside.{Inside}

@@ -2,27 +2,27 @@
 use Rattle.std.proofs.Common.{◌≡◌, ℕ, ◌<◌, true, false, List, [], ◌∷◌, ◌++◌, length, take, drop, Option, Some, None, refl, sym, ap, subst, ◌∙◌, arith}
 use Rattle.std.specs.Prelude.{slice_get}
 use Rattle.std.specs.Option.{option_map}
-use Rattle.dom_model.specs.declared.Content.{Content}
-use Rattle.dom_model.specs.Forest.{Forest, tops, times, count_of, tree_of}
-use Rattle.dom_model.specs.ArenaState.{ArenaState as Arena, IsValid as IsArena, IsSlotted}
-use Rattle.live_range.specs.declared.places.Places.{Places}
-use Rattle.live_range.specs.LivePoints.{LivePoints}
-use Rattle.live_range.specs.Names.{shown}
-use Rattle.undo_log.specs.Turning.{back, forth, inverses_back, inverses_forth, FitsBack, FitsForth, TurnsBack, TurnsForth}
-use Rattle.undo_log.specs.Log.{noted, first_length, FitsUndo, FitsRedo, undone_state, redone_state, undone_with, redone_with}
-use Rattle.undo_log.specs.Log.Open.{Closed}
-use Rattle.forest_changes.specs.Change.{Change, IsForest, Fits, applied, inverse}
-use Rattle.forest_changes.specs.Named.{Each, named_in}
-use Rattle.forest_changes.specs.Down.{Prunes, IsLeft}
-use Rattle.forest_changes.proofs.ChangeLists.{each_of}
-use Rattle.forest_changes.proofs.DownChange.{prunes_roots}
-use Rattle.forest_changes.proofs.Twice.{forest_of, back_turns, forth_turns}
-use Rattle.edit_steps.specs.declared.step.Step.{Step}
-use Rattle.edit_steps.specs.Step.{changes_of, step_applied, step_inverse, StepFits, GoBack, GoForth}
-use Rattle.edit_steps.proofs.StepLists.{go_back, go_forth, back_fits, forth_fits}
+use Rattle.edit_model.specs.DomModel.declared.Content.{Content}
+use Rattle.edit_model.specs.DomModel.Forest.{Forest, tops, times, count_of, tree_of}
+use Rattle.edit_model.specs.DomModel.ArenaState.{ArenaState as Arena, IsValid as IsArena, IsSlotted}
+use Rattle.edit_model.specs.LiveRange.declared.places.Places.{Places}
+use Rattle.edit_model.specs.LiveRange.LivePoints.{LivePoints}
+use Rattle.edit_model.specs.LiveRange.Names.{shown}
+use Rattle.step_edits.specs.UndoLog.Turning.{back, forth, inverses_back, inverses_forth, FitsBack, FitsForth, TurnsBack, TurnsForth}
+use Rattle.step_edits.specs.UndoLog.Log.{noted, first_length, FitsUndo, FitsRedo, undone_state, redone_state, undone_with, redone_with}
+use Rattle.step_edits.specs.UndoLog.Log.Open.{Closed}
+use Rattle.step_edits.specs.ForestChanges.Change.{Change, IsForest, Fits, applied, inverse}
+use Rattle.step_edits.specs.ForestChanges.Named.{Each, named_in}
+use Rattle.step_edits.specs.ForestChanges.Down.{Prunes, IsLeft}
+use Rattle.step_edits.proofs.ForestChanges.ChangeLists.{each_of}
+use Rattle.step_edits.proofs.ForestChanges.DownChange.{prunes_roots}
+use Rattle.step_edits.proofs.ForestChanges.Twice.{forest_of, back_turns, forth_turns}
+use Rattle.step_edits.specs.EditSteps.declared.step.Step.{Step}
+use Rattle.step_edits.specs.EditSteps.Step.{changes_of, step_applied, step_inverse, StepFits, GoBack, GoForth}
+use Rattle.step_edits.proofs.EditSteps.StepLists.{go_back, go_forth, back_fits, forth_fits}
 use Rattle.edit_model.specs.Overrides.{no_overrides}
 use Rattle.edit_model.specs.History.{History, used, at_view, undone_state as undone_doc, undone_history, redone_state as redone_doc, redone_history, undone_state_by, undone_history_by, redone_state_by, redone_history_by}
-use Rattle.node_arena.specs.declared.NodeRef.{NodeRef}
+use Rattle.edit_model.specs.NodeArena.declared.NodeRef.{NodeRef}
 use Rattle.edit_doc.specs.declared.Doc.TheInside.{Inside}
 use Rattle.edit_doc.specs.declared.command.EntrySnapshot.{EntrySnapshot}
 use Rattle.edit_doc.specs.declared.command.EntrySpan.{EntrySpan}

@@ -3,21 +3,21 @@ use Rattle.std.proofs.Common.{◌≡◌, ℕ, zero, suc, ◌<◌, ◌≤◌, Boo
 use Rattle.std.specs.Prelude.{◌==◌, not, nat_le}
 use Rattle.std.specs.Option.{option_and_then}
 use Rattle.std.proofs.lemmas.Bool.Decides.{eqb_tells, nat_tests}
-use Rattle.dom_model.specs.declared.Content.{Content}
-use Rattle.dom_model.specs.Forest.{Forest, Seen, count_of, parent_of}
-use Rattle.dom_model.specs.Pruned.{pruned, IsWhole}
-use Rattle.dom_model.proofs.Pruning.{count_of-pruned, whole_stays}
-use Rattle.dom_model.proofs.Stands.{true_or_false, seek_absent}
-use Rattle.undo_log.specs.Turning.{inverses_back, TurnsBack}
-use Rattle.undo_log.specs.Log.{Log, noted, is_resumed, joined, committed}
-use Rattle.forest_changes.specs.Change.{Change, Fits, applied, inverse}
-use Rattle.forest_changes.specs.Named.{Each, named_in}
-use Rattle.forest_changes.specs.Down.{Prunes, IsLeft, GoBackDown, GoForthDown}
-use Rattle.forest_changes.proofs.ChangeLists.{each_of, back_down, forth_down}
-use Rattle.forest_changes.proofs.DownChange.{prunes_whole}
-use Rattle.forest_changes.proofs.Twice.{forest_of, back_turns}
-use Rattle.edit_steps.specs.declared.step.Step.{Step}
-use Rattle.edit_steps.specs.Step.{changes_of}
+use Rattle.edit_model.specs.DomModel.declared.Content.{Content}
+use Rattle.edit_model.specs.DomModel.Forest.{Forest, Seen, count_of, parent_of}
+use Rattle.edit_model.specs.DomModel.Pruned.{pruned, IsWhole}
+use Rattle.edit_model.proofs.DomModel.Pruning.{count_of-pruned, whole_stays}
+use Rattle.edit_model.proofs.DomModel.Stands.{true_or_false, seek_absent}
+use Rattle.step_edits.specs.UndoLog.Turning.{inverses_back, TurnsBack}
+use Rattle.step_edits.specs.UndoLog.Log.{Log, noted, is_resumed, joined, committed}
+use Rattle.step_edits.specs.ForestChanges.Change.{Change, Fits, applied, inverse}
+use Rattle.step_edits.specs.ForestChanges.Named.{Each, named_in}
+use Rattle.step_edits.specs.ForestChanges.Down.{Prunes, IsLeft, GoBackDown, GoForthDown}
+use Rattle.step_edits.proofs.ForestChanges.ChangeLists.{each_of, back_down, forth_down}
+use Rattle.step_edits.proofs.ForestChanges.DownChange.{prunes_whole}
+use Rattle.step_edits.proofs.ForestChanges.Twice.{forest_of, back_turns}
+use Rattle.step_edits.specs.EditSteps.declared.step.Step.{Step}
+use Rattle.step_edits.specs.EditSteps.Step.{changes_of}
 use Rattle.edit_doc.specs.declared.Doc.TheInside.{Inside}
 use Rattle.edit_doc.specs.declared.command.EntrySnapshot.{EntrySnapshot}
 use Rattle.edit_doc.specs.declared.command.Command.{Command}

@@ -1,15 +1,15 @@
 -- What the entries next to the cursor changed in the document, as edits of the document alone.
 use Rattle.std.specs.Prelude.{◌≡◌, ℕ, Bool, List, [], ◌∷◌, take, drop, Option, Some, None, if◌then◌else◌}
-use Rattle.dom_model.specs.declared.Content.{Content}
-use Rattle.dom_model.specs.Forest.{Forest}
-use Rattle.undo_log.specs.Turning.{back, forth, inverses_back}
-use Rattle.undo_log.specs.Log.{first_entry}
-use Rattle.forest_changes.specs.Change.{Change, applied, inverse}
-use Rattle.edit_steps.specs.declared.step.Step.{Step}
-use Rattle.edit_steps.specs.Step.{changes_of}
-use Rattle.document_edits.specs.declared.edit.DocumentEdit.{DocumentEdit}
-use Rattle.document_edits.specs.Followed.{followed}
-use Rattle.document_edits.specs.Told.{told_all, told_back}
+use Rattle.edit_model.specs.DomModel.declared.Content.{Content}
+use Rattle.edit_model.specs.DomModel.Forest.{Forest}
+use Rattle.step_edits.specs.UndoLog.Turning.{back, forth, inverses_back}
+use Rattle.step_edits.specs.UndoLog.Log.{first_entry}
+use Rattle.step_edits.specs.ForestChanges.Change.{Change, applied, inverse}
+use Rattle.step_edits.specs.EditSteps.declared.step.Step.{Step}
+use Rattle.step_edits.specs.EditSteps.Step.{changes_of}
+use Rattle.step_edits.specs.DocumentEdits.declared.edit.DocumentEdit.{DocumentEdit}
+use Rattle.step_edits.specs.DocumentEdits.Followed.{followed}
+use Rattle.step_edits.specs.DocumentEdits.Told.{told_all, told_back}
 use Rattle.edit_model.specs.History.{Entry, document_of, used}
 use Rattle.edit_model.specs.State.{State}
 use Rattle.edit_doc.specs.Onward.{at_begin, with_made}

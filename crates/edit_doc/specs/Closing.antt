@@ -1,9 +1,9 @@
 -- What closing the open entry of the history makes. No public clause cites this module.
 use Rattle.std.specs.Prelude.{◌≡◌, ◌<◌, [], length, Option}
-use Rattle.dom_model.specs.declared.Content.{Content}
-use Rattle.dom_model.specs.Forest.{Forest}
-use Rattle.live_range.specs.declared.places.Places.{Places}
-use Rattle.undo_log.specs.Log.{noted, committed}
+use Rattle.edit_model.specs.DomModel.declared.Content.{Content}
+use Rattle.edit_model.specs.DomModel.Forest.{Forest}
+use Rattle.edit_model.specs.LiveRange.declared.places.Places.{Places}
+use Rattle.step_edits.specs.UndoLog.Log.{noted, committed}
 use Rattle.edit_parts.specs.declared.Counts.{Counts}
 use Rattle.edit_doc.specs.declared.command.EntrySnapshot.{EntrySnapshot}
 use Rattle.edit_doc.specs.declared.command.Command.{Command}

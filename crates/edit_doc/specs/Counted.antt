@@ -1,8 +1,8 @@
 -- When numbers are those of a document. No public clause cites this module.
 use Rattle.std.specs.Prelude.{◌≡◌, ◌≤◌}
-use Rattle.dom_model.specs.declared.Content.{Content}
-use Rattle.dom_model.specs.Document.{node_count, char_count, page_depth}
-use Rattle.dom_model.specs.Forest.{Forest}
+use Rattle.edit_model.specs.DomModel.declared.Content.{Content}
+use Rattle.edit_model.specs.DomModel.Document.{node_count, char_count, page_depth}
+use Rattle.edit_model.specs.DomModel.Forest.{Forest}
 use Rattle.edit_parts.specs.declared.Counts.{Counts}
 
 -- the document of the forest has as many nodes and characters, and is no deeper

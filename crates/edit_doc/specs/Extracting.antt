@@ -1,9 +1,9 @@
 -- What the calls that extract a tail make. No public clause cites this module.
 use Rattle.std.specs.Prelude.{◌≡◌, ℕ, List, Option, IfSome, Result, Ok, Err}
-use Rattle.dom_model.specs.declared.Content.{Content}
-use Rattle.dom_model.specs.Forest.{Forest, total, tree_of}
-use Rattle.dom_model.specs.Places.{index_of}
-use Rattle.live_range.specs.declared.places.Point.{Point}
+use Rattle.edit_model.specs.DomModel.declared.Content.{Content}
+use Rattle.edit_model.specs.DomModel.Forest.{Forest, total, tree_of}
+use Rattle.edit_model.specs.DomModel.Places.{index_of}
+use Rattle.edit_model.specs.LiveRange.declared.places.Point.{Point}
 use Rattle.edit_model.specs.declared.settings.EditFault.{EditFault}
 use Rattle.edit_model.specs.State.{State}
 use Rattle.edit_model.specs.Tail.{Step, tail_steps}

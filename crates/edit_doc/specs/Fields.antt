@@ -1,15 +1,15 @@
 -- What calls do to the fields of a running command and of what stands beside entries. No public
 -- clause cites this module.
 use Rattle.std.specs.Prelude.{◌≡◌, ℕ, ◌+◌, ◌≤◌, min, if◌then◌else◌, Bool, true, false, ◌||◌, ◌&&◌, not, nat_le, List, [], ◌∷◌, take, drop, slice_get, Option, None}
-use Rattle.dom_model.specs.declared.Content.{Content}
-use Rattle.dom_model.specs.Forest.{Forest, depth_of, tree_of}
-use Rattle.dom_model.specs.Places.{levels}
-use Rattle.live_range.specs.declared.places.Places.{Places}
-use Rattle.live_range.specs.LivePoints.{LivePoints}
-use Rattle.live_range.specs.PointsEdit.{has_label}
-use Rattle.live_range.specs.Names.{shown, IsOver}
-use Rattle.node_arena.specs.declared.NodeRef.{NodeRef}
-use Rattle.point_order.specs.PointOrder.{is_in_document}
+use Rattle.edit_model.specs.DomModel.declared.Content.{Content}
+use Rattle.edit_model.specs.DomModel.Forest.{Forest, depth_of, tree_of}
+use Rattle.edit_model.specs.DomModel.Places.{levels}
+use Rattle.edit_model.specs.LiveRange.declared.places.Places.{Places}
+use Rattle.edit_model.specs.LiveRange.LivePoints.{LivePoints}
+use Rattle.edit_model.specs.LiveRange.PointsEdit.{has_label}
+use Rattle.edit_model.specs.LiveRange.Names.{shown, IsOver}
+use Rattle.edit_model.specs.NodeArena.declared.NodeRef.{NodeRef}
+use Rattle.edit_model.specs.PointOrder.PointOrder.{is_in_document}
 use Rattle.edit_model.specs.declared.settings.Setting.{Setting}
 use Rattle.edit_model.specs.declared.settings.Flags.{Flags}
 use Rattle.edit_model.specs.Gives.{labels_of}

@@ -5,20 +5,20 @@
 -- command began, and from there undoing, or redoing, an entry at a time gives the forest at each
 -- kept place of the history.
 use Rattle.std.specs.Prelude.{ℕ, Bool, false, true, ◌&&◌, nat_lt, nat_le, if◌then◌else◌, List, [], ◌∷◌, map, Option, Some, None}
-use Rattle.dom_model.specs.declared.Content.{Content}
-use Rattle.dom_model.specs.Change.{Change}
-use Rattle.dom_model.specs.Forest.{Forest, tops, times}
-use Rattle.dom_model.specs.Forest.Forest.{Nil, Tree}
-use Rattle.dom_model.specs.Pruned.{pruned}
-use Rattle.dom_model.specs.ArenaState.{ArenaState as Arena}
-use Rattle.live_range.specs.declared.places.Places.{Places}
-use Rattle.live_range.specs.Names.{shown, named, marks_of}
-use Rattle.undo_log.specs.Turning.{back, forth, inverses_back}
-use Rattle.undo_log.specs.Log.{Log, Open, noted}
-use Rattle.undo_log.specs.Log.Open.{Closed, Begun, Resumed}
-use Rattle.forest_changes.specs.Change.{applied, inverse}
-use Rattle.edit_steps.specs.declared.step.Step.{Step}
-use Rattle.edit_steps.specs.Step.{changes_of}
+use Rattle.edit_model.specs.DomModel.declared.Content.{Content}
+use Rattle.edit_model.specs.DomModel.Change.{Change}
+use Rattle.edit_model.specs.DomModel.Forest.{Forest, tops, times}
+use Rattle.edit_model.specs.DomModel.Forest.Forest.{Nil, Tree}
+use Rattle.edit_model.specs.DomModel.Pruned.{pruned}
+use Rattle.edit_model.specs.DomModel.ArenaState.{ArenaState as Arena}
+use Rattle.edit_model.specs.LiveRange.declared.places.Places.{Places}
+use Rattle.edit_model.specs.LiveRange.Names.{shown, named, marks_of}
+use Rattle.step_edits.specs.UndoLog.Turning.{back, forth, inverses_back}
+use Rattle.step_edits.specs.UndoLog.Log.{Log, Open, noted}
+use Rattle.step_edits.specs.UndoLog.Log.Open.{Closed, Begun, Resumed}
+use Rattle.step_edits.specs.ForestChanges.Change.{applied, inverse}
+use Rattle.step_edits.specs.EditSteps.declared.step.Step.{Step}
+use Rattle.step_edits.specs.EditSteps.Step.{changes_of}
 use Rattle.edit_model.specs.State.{State}
 use Rattle.edit_model.specs.Gives.{label_of}
 use Rattle.edit_model.specs.History.{View, Entry, History, document_of, used, undone_state, undone_history, redone_state, redone_history}

@@ -1,13 +1,13 @@
 -- Which nodes a document holds outside commands: those of the document, and the loose trees that
 -- kept entries need.
 use Rattle.std.specs.Prelude.{◌≡◌, ◌⊎◌, ℕ, ◌<◌, true, List, [], ◌∷◌, Some, None, slice_index_or}
-use Rattle.dom_model.specs.declared.Content.{Content}
-use Rattle.dom_model.specs.Forest.{Forest, count_of, parent_of, IsWithin}
-use Rattle.dom_model.specs.ArenaState.{slot_of}
-use Rattle.live_range.specs.PointsEdit.{has_label}
-use Rattle.undo_log.specs.Turning.{back, forth, inverses_back, FitsBack, FitsForth}
-use Rattle.forest_changes.specs.Change.{Change, IsForest, Fits, applied, inverse}
-use Rattle.forest_changes.specs.Named.{named_in}
+use Rattle.edit_model.specs.DomModel.declared.Content.{Content}
+use Rattle.edit_model.specs.DomModel.Forest.{Forest, count_of, parent_of, IsWithin}
+use Rattle.edit_model.specs.DomModel.ArenaState.{slot_of}
+use Rattle.edit_model.specs.LiveRange.PointsEdit.{has_label}
+use Rattle.step_edits.specs.UndoLog.Turning.{back, forth, inverses_back, FitsBack, FitsForth}
+use Rattle.step_edits.specs.ForestChanges.Change.{Change, IsForest, Fits, applied, inverse}
+use Rattle.step_edits.specs.ForestChanges.Named.{named_in}
 use Rattle.edit_model.specs.History.{Entry, document_of}
 use Rattle.edit_doc.specs.Whole.{Whole}
 

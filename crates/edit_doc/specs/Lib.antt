@@ -18,3 +18,6 @@ pub mod Logged
 pub mod Onward
 pub mod Changes
 pub mod Logging
+pub use Rattle.step_edits.specs.DocumentEdits
+pub use Rattle.step_edits.specs.ForestChanges
+pub use Rattle.step_edits.specs.UndoLog

@@ -1,8 +1,8 @@
 -- What is seen of the tree under edits: all but the kept numbers. No public clause cites this
 -- module.
 use Rattle.std.specs.Prelude.{List}
-use Rattle.dom_model.specs.ArenaState.{ArenaState as Arena}
-use Rattle.live_range.specs.LivePoints.{LivePoints}
+use Rattle.edit_model.specs.DomModel.ArenaState.{ArenaState as Arena}
+use Rattle.edit_model.specs.LiveRange.LivePoints.{LivePoints}
 use Rattle.edit_model.specs.declared.settings.Setting.{Setting}
 use Rattle.edit_model.specs.declared.settings.Flags.{Flags}
 use Rattle.edit_doc.specs.declared.tree.LiveTree.{LiveTree}

@@ -1,14 +1,14 @@
 -- The entries of the history as forward edits.
 use Rattle.std.specs.Prelude.{◌≡◌, ℕ, ◌+◌, ◌<◌, Bool, false, List, [], ◌∷◌, length, slice_index_or, map, Option, Some, None, unwrap_or, if◌then◌else◌, ◌==◌}
 use Rattle.std.specs.Option.{option_map_or, option_and_then}
-use Rattle.dom_model.specs.declared.Content.{Content}
-use Rattle.dom_model.specs.Change.{Change}
-use Rattle.dom_model.specs.Change as change
-use Rattle.dom_model.specs.Contents.{name_in, chars_in}
-use Rattle.dom_model.specs.Forest.{Forest, content_of, either}
-use Rattle.dom_model.specs.Room.{spliced}
-use Rattle.live_range.specs.PointsEdit.{has_label}
-use Rattle.forest_changes.specs.Change.{wholes}
+use Rattle.edit_model.specs.DomModel.declared.Content.{Content}
+use Rattle.edit_model.specs.DomModel.Change.{Change}
+use Rattle.edit_model.specs.DomModel.Change as change
+use Rattle.edit_model.specs.DomModel.Contents.{name_in, chars_in}
+use Rattle.edit_model.specs.DomModel.Forest.{Forest, content_of, either}
+use Rattle.edit_model.specs.DomModel.Room.{spliced}
+use Rattle.edit_model.specs.LiveRange.PointsEdit.{has_label}
+use Rattle.step_edits.specs.ForestChanges.Change.{wholes}
 use Rattle.edit_model.specs.History.{Entry}
 use Rattle.edit_doc.specs.Onward.{at_begin}
 use Rattle.edit_doc.specs.Whole.{Whole}

@@ -1,13 +1,13 @@
 -- What is kept for a log of steps that are seen as they are made. No public clause cites this module.
 use Rattle.std.specs.Prelude.{◌≡◌, Bool, true, List, [], ◌∷◌, ◌++◌}
-use Rattle.dom_model.specs.declared.Content.{Content}
-use Rattle.dom_model.specs.Forest.{Forest, content_of}
-use Rattle.dom_model.specs.ArenaState.{ArenaState}
-use Rattle.undo_log.specs.Turning.{back, inverses_back}
-use Rattle.undo_log.specs.Log.{first_entry}
-use Rattle.forest_changes.specs.Change.{Change, whole, applied, inverse}
-use Rattle.edit_steps.specs.declared.step.Step.{Step}
-use Rattle.edit_steps.specs.Step.{change_of, changes_of}
+use Rattle.edit_model.specs.DomModel.declared.Content.{Content}
+use Rattle.edit_model.specs.DomModel.Forest.{Forest, content_of}
+use Rattle.edit_model.specs.DomModel.ArenaState.{ArenaState}
+use Rattle.step_edits.specs.UndoLog.Turning.{back, inverses_back}
+use Rattle.step_edits.specs.UndoLog.Log.{first_entry}
+use Rattle.step_edits.specs.ForestChanges.Change.{Change, whole, applied, inverse}
+use Rattle.step_edits.specs.EditSteps.declared.step.Step.{Step}
+use Rattle.step_edits.specs.EditSteps.Step.{change_of, changes_of}
 use Rattle.edit_doc.specs.declared.logged.LoggedEdit.{LoggedEdit}
 use Rattle.edit_doc.specs.Logged.{logged_edit}
 

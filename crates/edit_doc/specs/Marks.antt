@@ -1,8 +1,8 @@
 -- Which nodes of the running command its edits name. No public clause cites this module.
 use Rattle.std.specs.Prelude.{◌≡◌, ◌⊎◌, ℕ, ◌+◌, ◌-◌, ◌<◌, ◌≤◌, Bool, false, true, ◌&&◌, nat_le, List, [], ◌∷◌, ◌++◌, length, Option, slice_index_or}
-use Rattle.live_range.specs.PointsEdit.{has_label}
-use Rattle.node_arena.specs.declared.NodeRef.{NodeRef}
-use Rattle.forest_changes.specs.Named.{Each, listed}
+use Rattle.edit_model.specs.LiveRange.PointsEdit.{has_label}
+use Rattle.edit_model.specs.NodeArena.declared.NodeRef.{NodeRef}
+use Rattle.step_edits.specs.ForestChanges.Named.{Each, listed}
 use Rattle.edit_model.specs.Gives.{label_of}
 use Rattle.edit_doc.specs.declared.command.Command.{Command}
 

@@ -1,11 +1,11 @@
 -- How the entries of a history lead from one document to another.
 use Rattle.std.specs.Prelude.{◌≡◌, ℕ, ◌+◌, ◌≤◌, List, [], ◌∷◌, reverse}
-use Rattle.dom_model.specs.declared.Content.{Content}
-use Rattle.dom_model.specs.Forest.{Forest, with_leaf}
-use Rattle.undo_log.specs.Turning.{forth, FitsForth}
-use Rattle.forest_changes.specs.Change.{Fits, IsForest, applied}
-use Rattle.forest_changes.specs.Leaves.{IsBelow, IsMade}
-use Rattle.forest_changes.specs.Named.{Each}
+use Rattle.edit_model.specs.DomModel.declared.Content.{Content}
+use Rattle.edit_model.specs.DomModel.Forest.{Forest, with_leaf}
+use Rattle.step_edits.specs.UndoLog.Turning.{forth, FitsForth}
+use Rattle.step_edits.specs.ForestChanges.Change.{Fits, IsForest, applied}
+use Rattle.step_edits.specs.ForestChanges.Leaves.{IsBelow, IsMade}
+use Rattle.step_edits.specs.ForestChanges.Named.{Each}
 use Rattle.edit_model.specs.History.{Entry, document_of}
 use Rattle.edit_doc.specs.Whole.{Whole}
 

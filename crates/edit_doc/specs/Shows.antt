@@ -1,6 +1,6 @@
 -- What a document under edits shows of its arena. No public clause cites this module.
 use Rattle.std.specs.Prelude.{◌≡◌}
-use Rattle.dom_model.specs.ArenaState.{ArenaState as Arena, IsValid as IsArena}
+use Rattle.edit_model.specs.DomModel.ArenaState.{ArenaState as Arena, IsValid as IsArena}
 use Rattle.edit_doc.specs.Whole.{Whole}
 use Rattle.edit_doc.specs.Held.{IsPart}
 

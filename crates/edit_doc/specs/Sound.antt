@@ -1,23 +1,23 @@
 -- What holds of the fields of every document under edits. No public clause cites this module.
 use Rattle.std.specs.Prelude.{◌≡◌, ◌⊎◌, ℕ, ◌+◌, ◌<◌, ◌≤◌, Bool, false, true, List, [], ◌∷◌, length, take, drop, Option, Some, None, IfSome, slice_index_or}
-use Rattle.dom_model.specs.declared.Content.{Content}
-use Rattle.dom_model.specs.Document.{node_count, char_count, page_depth}
-use Rattle.dom_model.specs.Forest.{Forest, tops, times, count_of, tree_of, parent_of, first_of}
-use Rattle.dom_model.specs.Pruned.{pruned}
-use Rattle.dom_model.specs.ArenaState.{ArenaState as Arena}
-use Rattle.live_range.specs.declared.places.Places.{Places}
-use Rattle.live_range.specs.LivePoints.{LivePoints}
-use Rattle.live_range.specs.PointsEdit.{has_label}
-use Rattle.live_range.specs.Names.{shown, IsOver}
-use Rattle.undo_log.specs.Turning.{inverses_back, inverses_forth, FitsBack, FitsForth}
-use Rattle.undo_log.specs.Log.{Open, noted, is_resumed}
-use Rattle.undo_log.specs.Log.Open.{Closed}
-use Rattle.node_arena.specs.declared.NodeRef.{NodeRef}
-use Rattle.forest_changes.specs.Change.{Change, Fits, applied, inverse}
-use Rattle.forest_changes.specs.Named.{Each, named_in}
-use Rattle.forest_changes.specs.Down.{IsLeft}
-use Rattle.edit_steps.specs.declared.step.Step.{Step}
-use Rattle.edit_steps.specs.Step.{changes_of, nodes_in}
+use Rattle.edit_model.specs.DomModel.declared.Content.{Content}
+use Rattle.edit_model.specs.DomModel.Document.{node_count, char_count, page_depth}
+use Rattle.edit_model.specs.DomModel.Forest.{Forest, tops, times, count_of, tree_of, parent_of, first_of}
+use Rattle.edit_model.specs.DomModel.Pruned.{pruned}
+use Rattle.edit_model.specs.DomModel.ArenaState.{ArenaState as Arena}
+use Rattle.edit_model.specs.LiveRange.declared.places.Places.{Places}
+use Rattle.edit_model.specs.LiveRange.LivePoints.{LivePoints}
+use Rattle.edit_model.specs.LiveRange.PointsEdit.{has_label}
+use Rattle.edit_model.specs.LiveRange.Names.{shown, IsOver}
+use Rattle.step_edits.specs.UndoLog.Turning.{inverses_back, inverses_forth, FitsBack, FitsForth}
+use Rattle.step_edits.specs.UndoLog.Log.{Open, noted, is_resumed}
+use Rattle.step_edits.specs.UndoLog.Log.Open.{Closed}
+use Rattle.edit_model.specs.NodeArena.declared.NodeRef.{NodeRef}
+use Rattle.step_edits.specs.ForestChanges.Change.{Change, Fits, applied, inverse}
+use Rattle.step_edits.specs.ForestChanges.Named.{Each, named_in}
+use Rattle.step_edits.specs.ForestChanges.Down.{IsLeft}
+use Rattle.step_edits.specs.EditSteps.declared.step.Step.{Step}
+use Rattle.step_edits.specs.EditSteps.Step.{changes_of, nodes_in}
 use Rattle.edit_model.specs.Gives.{labels_of}
 use Rattle.edit_model.specs.Valid.{IsValid, IsPlaced}
 use Rattle.edit_doc.specs.declared.command.EntrySnapshot.{EntrySnapshot}

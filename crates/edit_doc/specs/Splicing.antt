@@ -1,10 +1,10 @@
 -- The step by which characters of a text give way to others.
 use Rattle.std.specs.Prelude.{ℕ, ◌+◌, ◌-◌, List, [], length, take, drop, unwrap_or}
-use Rattle.dom_model.specs.declared.Content.{Content}
-use Rattle.dom_model.specs.Contents.{chars_in}
-use Rattle.node_arena.specs.declared.NodeRef.{NodeRef}
-use Rattle.edit_steps.specs.declared.step.Step.{Step}
-use Rattle.edit_steps.specs.declared.step.Step.TheVariants as step
+use Rattle.edit_model.specs.DomModel.declared.Content.{Content}
+use Rattle.edit_model.specs.DomModel.Contents.{chars_in}
+use Rattle.edit_model.specs.NodeArena.declared.NodeRef.{NodeRef}
+use Rattle.step_edits.specs.EditSteps.declared.step.Step.{Step}
+use Rattle.step_edits.specs.EditSteps.declared.step.Step.TheVariants as step
 
 -- the characters that a content has, if it has any
 abbrev pub own_chars : Content → List ℕ

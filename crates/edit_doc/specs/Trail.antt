@@ -1,10 +1,10 @@
 -- The value of the history of a document: the log of the steps, and a snapshot beside each of its
 -- entries. No public clause cites this module.
 use Rattle.std.specs.Prelude.{◌≡◌, ℕ, List, [], ◌++◌, length, take, drop}
-use Rattle.dom_model.specs.ArenaState.{ArenaState as Arena}
-use Rattle.undo_log.specs.Log.{Log, IsLog, FitsUndo, FitsRedo, empty, with_step, undone, redone, undone_state, redone_state}
-use Rattle.edit_steps.specs.declared.step.Step.{Step}
-use Rattle.edit_steps.specs.Step.{StepFits, step_applied, step_inverse}
+use Rattle.edit_model.specs.DomModel.ArenaState.{ArenaState as Arena}
+use Rattle.step_edits.specs.UndoLog.Log.{Log, IsLog, FitsUndo, FitsRedo, empty, with_step, undone, redone, undone_state, redone_state}
+use Rattle.step_edits.specs.EditSteps.declared.step.Step.{Step}
+use Rattle.step_edits.specs.EditSteps.Step.{StepFits, step_applied, step_inverse}
 use Rattle.edit_doc.specs.declared.command.EntrySnapshot.{EntrySnapshot}
 use Rattle.edit_doc.specs.declared.history.Way.{Way}
 use Rattle.edit_doc.specs.declared.history.Way.TheVariants.{Back, Forth}

@@ -1,8 +1,8 @@
 -- What a contract sees of a document under edits.
 use Rattle.std.specs.Prelude.{◌≡◌, ℕ, ◌<◌, ◌≤◌, Bool, false, List, [], ◌∷◌, length, Option, Some, None, IsSome}
-use Rattle.dom_model.specs.Forest.{tops}
-use Rattle.dom_model.specs.ArenaState.{ArenaState as Arena}
-use Rattle.live_range.specs.LivePoints.{no_points}
+use Rattle.edit_model.specs.DomModel.Forest.{tops}
+use Rattle.edit_model.specs.DomModel.ArenaState.{ArenaState as Arena}
+use Rattle.edit_model.specs.LiveRange.LivePoints.{no_points}
 use Rattle.edit_model.specs.State.{State}
 use Rattle.edit_model.specs.Overrides.{no_overrides}
 use Rattle.edit_model.specs.History.{Entry, History, rested, begun, recorded}

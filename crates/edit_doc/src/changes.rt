@@ -5,8 +5,8 @@ ghost use Rattle.edit_doc.specs.Changes.{changes_past, changes_undone, ChangesLe
 ghost use Rattle.edit_doc.specs.Whole.{IsOpen, IsClosed, first_edits};
 
 use crate::Doc;
-use document_edits::DocumentEdit;
 use std::alloc::{AllocError, Global};
+use step_edits::document::DocumentEdit;
 
 impl Doc {
     /// What the entry that undo would take changed in the document, past the first `kept` of its

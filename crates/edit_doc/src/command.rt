@@ -8,8 +8,8 @@ use crate::Counts;
 use crate::history::Way;
 use crate::overrides::Overrides;
 use edit_model::Flags;
-use live_range::{Places, Points};
-use node_arena::NodeRef;
+use edit_model::arena::NodeRef;
+use edit_model::dom_ranges::{Places, Points};
 use std::alloc::Global;
 
 /// Where the points stand just before and just after the commands of an entry, the next label as

@@ -12,10 +12,10 @@ use crate::command::resting_places;
 use crate::giving_up::{give_up_detached, give_up_unnamed};
 use crate::history::{Closing, Way};
 use crate::{Committed, Doc, NodeRef};
+use edit_model::stepping::Steps;
 use std::alloc::AllocError;
 use std::mem::swap;
 use std::sync::ledger::Ledger;
-use step_count::Steps;
 
 impl Doc {
     /// Begins a command with this affected editing host. A keeping command removes no image, no

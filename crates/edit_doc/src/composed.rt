@@ -2,9 +2,9 @@
 //! are those of docs/ALGORITHMS.md.
 
 ghost use Rattle.std.specs.Prelude.{◌≡◌, ℕ, ◌+◌, ◌-◌, ◌<◌, ◌^◌, IfOk, IsSome, Some, length, drop, true};
-ghost use Rattle.dom_model.specs.Contents.{is_element_at};
-ghost use Rattle.dom_model.specs.Forest.{children_of, parent_of};
-ghost use Rattle.dom_model.specs.Places.{index_of};
+ghost use Rattle.edit_model.specs.DomModel.Contents.{is_element_at};
+ghost use Rattle.edit_model.specs.DomModel.Forest.{children_of, parent_of};
+ghost use Rattle.edit_model.specs.DomModel.Places.{index_of};
 ghost use Rattle.edit_model.specs.Gives.{Gives, GivesNode, labels_of};
 ghost use Rattle.edit_model.specs.Run.{final};
 ghost use Rattle.edit_model.specs.Compositions.{characters_of, points_sent, split_under, split_words, renamed, set_tag_name};
@@ -13,8 +13,8 @@ ghost use Rattle.edit_doc.specs.Whole.{IsOpen, with_state};
 ghost use Rattle.edit_doc.specs.Held.{Holds, EachHeld, Keeps};
 
 use crate::{Chars, Doc, EditFault, Name, NodeRef, Point};
+use edit_model::arena::has_name;
 use edit_parts::tail_of;
-use node_arena::has_name;
 use std::alloc::AllocError;
 
 impl Doc {

@@ -1,15 +1,15 @@
 //! Which edits and selecting steps are made.
 
 ghost use Rattle.std.specs.Prelude.{◌≡◌, ◌&&◌, not, Some};
-ghost use Rattle.dom_model.specs.Contents.{is_parent_at};
+ghost use Rattle.edit_model.specs.DomModel.Contents.{is_parent_at};
 ghost use Rattle.edit_model.specs.Gives.{label_of};
 ghost use Rattle.edit_model.specs.Confined.{is_editable_for, is_inside, is_made, is_open, is_own, is_place, may_insert, may_leave, may_go, may_select, may_grow, may_send, stands_so};
 ghost use Rattle.edit_doc.specs.Held.{Holds, IfHeld};
-ghost use Rattle.point_order.specs.PointOrder.{is_within};
+ghost use Rattle.edit_model.specs.PointOrder.PointOrder.{is_within};
 
 use crate::{Doc, Kind, NodeRef, Point};
+use edit_model::arena::is_break;
 use edit_parts::{has_no_kept_leaves, is_in_document};
-use node_arena::is_break;
 
 impl Doc {
     /// Whether a node is editable with the affected editing host of the running command as its
@@ -173,7 +173,7 @@ impl Doc {
     pub(crate) fn may_select(&self, at: Point) -> bool
         ensures { result ≡ may_select self.now.state at }
     {
-        point_order::is_placed(self.nodes(), at)
+        edit_model::boundary::is_placed(self.nodes(), at)
     }
 
     // Whether points at a place may grow: something stands after it.

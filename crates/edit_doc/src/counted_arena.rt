@@ -1,11 +1,11 @@
 //! The nodes of a document, with its numbers.
 
 ghost use Rattle.std.specs.Prelude.{◌≡◌, ◌+◌, ◌≤◌, IsTrue, IfOk, OnOk, OnErr, IfErr};
-ghost use Rattle.edit_steps.specs.Step.{StepFits, step_applied, step_inverse};
-ghost use Rattle.undo_log.specs.Log.{abandoned, is_open, noted, first_length, FitsUndo, FitsRedo};
-ghost use Rattle.undo_log.specs.Log.Open.{Closed};
-ghost use Rattle.undo_log.specs.States.{start};
-ghost use Rattle.undo_log.specs.Turning.{FitsBack};
+ghost use Rattle.step_edits.specs.EditSteps.Step.{StepFits, step_applied, step_inverse};
+ghost use Rattle.step_edits.specs.UndoLog.Log.{abandoned, is_open, noted, first_length, FitsUndo, FitsRedo};
+ghost use Rattle.step_edits.specs.UndoLog.Log.Open.{Closed};
+ghost use Rattle.step_edits.specs.UndoLog.States.{start};
+ghost use Rattle.step_edits.specs.UndoLog.Turning.{FitsBack};
 ghost use Rattle.edit_doc.specs.Changes.{steps_told, steps_told_back};
 ghost use Rattle.edit_doc.specs.Counted.{IsCounted};
 ghost use Rattle.edit_doc.specs.Logging.{steps_logged};
@@ -14,12 +14,12 @@ ghost use Rattle.edit_doc.specs.Trail.{FitsAlong, with_note, steps_along, arena_
 use crate::history::{History, Way};
 use crate::logged::LoggedEdit;
 use crate::{Arena, Counts, EditFault};
-use document_edits::DocumentEdit;
-use edit_steps::Step;
+use edit_model::stepping::Steps;
 use std::alloc::{AllocError, Global};
 use std::sync::ledger::Ledger;
-use step_count::Steps;
-use undo_log::Invertible;
+use step_edits::document::DocumentEdit;
+use step_edits::history::Invertible;
+use step_edits::steps::Step;
 
 // The nodes, and the numbers of the document among them.
 #[derive(Drop)]

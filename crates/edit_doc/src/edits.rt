@@ -1,8 +1,8 @@
 //! The elementary edits.
 
 ghost use Rattle.std.specs.Prelude.{◌≡◌, ℕ, ◌<◌, ◌^◌, length, is_some, IfErr, IfOk, IfSome, OnErr, OnOk, Some, true};
-ghost use Rattle.dom_model.specs.Forest.{parent_of};
-ghost use Rattle.dom_model.specs.Places.{index_of};
+ghost use Rattle.edit_model.specs.DomModel.Forest.{parent_of};
+ghost use Rattle.edit_model.specs.DomModel.Places.{index_of};
 ghost use Rattle.edit_model.specs.Action.{applied};
 ghost use Rattle.edit_model.specs.Confined.{may_change};
 ghost use Rattle.edit_model.specs.Edit.{Insert, Remove, is_made_edit};
@@ -15,13 +15,13 @@ ghost use Rattle.edit_doc.specs.Splicing.{own_chars, splice_step};
 
 use crate::numbers::{chars_replaced, counts_moved, counts_with, counts_without};
 use crate::{Chars, Counts, Doc, EditFault, Name, NodeRef};
+use edit_model::arena::Content;
 use edit_parts::{
     adjust_inserted, adjust_moved, has_value, is_in_document, moving_from, removal_of,
     replaced_part,
 };
-use edit_steps::{Splice, Step};
-use node_arena::Content;
 use std::alloc::{AllocError, Global};
+use step_edits::steps::{Splice, Step};
 
 // The step by which others take the place of `count` characters of a text, from the offset `at` on.
 // `None` where that edit isn't made.

@@ -2,8 +2,8 @@
 
 ghost use Rattle.std.specs.Prelude.{◌≡◌, ℕ, ◌&&◌, ◌∷◌, [], IfOk, drop, not, true};
 ghost use Rattle.std.specs.Option.{option_map};
-ghost use Rattle.dom_model.specs.Contents.{is_element_at, is_parent_at};
-ghost use Rattle.dom_model.specs.Places.{index_of};
+ghost use Rattle.edit_model.specs.DomModel.Contents.{is_element_at, is_parent_at};
+ghost use Rattle.edit_model.specs.DomModel.Places.{index_of};
 ghost use Rattle.edit_model.specs.Gives.{Gives, labels_of};
 ghost use Rattle.edit_model.specs.Action.{may_extract};
 ghost use Rattle.edit_model.specs.Confined.{is_editable_for, is_made};
@@ -12,11 +12,11 @@ ghost use Rattle.edit_model.specs.Run.{extract_tail};
 ghost use Rattle.edit_model.specs.Tail.{Copy, carried, copy_of};
 ghost use Rattle.edit_doc.specs.Whole.{IsOpen};
 ghost use Rattle.edit_doc.specs.Held.{Holds, EachHeld, Keeps};
-ghost use Rattle.point_order.specs.PointOrder.{is_in_document, is_within};
+ghost use Rattle.edit_model.specs.PointOrder.PointOrder.{is_in_document, is_within};
 ghost use Rattle.edit_doc.specs.Extracting.{tail_at, MakesSteps, TellsIndex};
 
 use crate::{Doc, EditFault, NodeRef, Point};
-use point_order::{child_toward, is_in_document, is_within};
+use edit_model::boundary::{child_toward, is_in_document, is_within};
 
 // A node with its index.
 fn place_of(node: Option<NodeRef>, index: u32) -> Option<Point>

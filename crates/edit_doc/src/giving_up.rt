@@ -1,14 +1,14 @@
 //! Trees that no kept entry names are given up.
 
 ghost use Rattle.std.specs.Prelude.{◌≡◌, ℕ, ◌+◌, ◌<◌, ◌==◌, None, length, true};
-ghost use Rattle.dom_model.specs.Forest.{parent_of};
-ghost use Rattle.live_range.specs.PointsEdit.{has_label};
+ghost use Rattle.edit_model.specs.DomModel.Forest.{parent_of};
+ghost use Rattle.edit_model.specs.LiveRange.PointsEdit.{has_label};
 ghost use Rattle.edit_model.specs.Gives.{labels_of};
 ghost use Rattle.edit_doc.specs.GivingUp.{GivesUp, is_unnamed, is_loose, loose_roots, has_detached};
 ghost use Rattle.edit_doc.specs.Marks.{has_named};
 
 use crate::command::{Command, EntrySnapshot};
-use node_arena::{Arena, NodeRef};
+use edit_model::arena::{Arena, NodeRef};
 
 // Whether an edit names a node that the command made.
 fn has_named(command: &Command, label: u32) -> bool

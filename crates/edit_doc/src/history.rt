@@ -2,11 +2,11 @@
 
 ghost use Rattle.std.specs.Prelude.{◌≡◌, ◌+◌, ◌<◌, ◌≤◌, ◌↔◌, ◌++◌, IsTrue, IfOk, OnOk, IfErr, [], length, take, drop, slice_get, option_copied, true, if◌then◌else◌};
 ghost use Rattle.std.specs.Option.{option_map};
-ghost use Rattle.edit_steps.specs.Step.{StepFits, step_applied};
-ghost use Rattle.undo_log.specs.Turning.{FitsBack};
-ghost use Rattle.undo_log.specs.Log.{begun, resumed, abandoned, is_open, is_resumed, noted, first_length, FitsUndo, FitsRedo};
-ghost use Rattle.undo_log.specs.Log.Open.{Closed};
-ghost use Rattle.undo_log.specs.States.{start};
+ghost use Rattle.step_edits.specs.EditSteps.Step.{StepFits, step_applied};
+ghost use Rattle.step_edits.specs.UndoLog.Turning.{FitsBack};
+ghost use Rattle.step_edits.specs.UndoLog.Log.{begun, resumed, abandoned, is_open, is_resumed, noted, first_length, FitsUndo, FitsRedo};
+ghost use Rattle.step_edits.specs.UndoLog.Log.Open.{Closed};
+ghost use Rattle.step_edits.specs.UndoLog.States.{start};
 ghost use Rattle.edit_doc.specs.Fields.{SwapsLeft, Forgets, Enters};
 ghost use Rattle.edit_doc.specs.Sound.{next_first};
 ghost use Rattle.edit_doc.specs.Trail.{IsTrail, FitsAlong, first_trail, with_note, steps_along, snapshots_along, arena_along, trail_along};
@@ -20,17 +20,17 @@ use crate::giving_up::keep_loose;
 use crate::log_recorder::LogRecorder;
 use crate::logged::LoggedEdit;
 use circular_buffer::HeapCircularBuffer;
-use document_edits::DocumentEdit;
-use edit_steps::Step;
-use live_range::Places;
-use node_arena::Arena;
+use edit_model::arena::Arena;
+use edit_model::dom_ranges::Places;
+use edit_model::stepping::Steps;
 use std::alloc::{AllocError, Global};
 use std::marker::Model;
 use std::mem::swap;
 use std::sync::ledger::Ledger;
-use step_count::Steps;
 use step_edits::EditRecorder;
-use undo_log::{Committed, UndoLog};
+use step_edits::document::DocumentEdit;
+use step_edits::history::{Committed, UndoLog};
+use step_edits::steps::Step;
 
 // The two ways through the history: back, as undo goes, and forth again, as redo goes.
 #[derive(Clone, Copy)]

@@ -33,19 +33,20 @@ mod tree;
 pub use command::EntrySpan;
 use command::{Command, Kept};
 use counted_arena::CountedArena;
-pub use document_edits::{DocumentEdit, TreeNode};
-pub use dom_model::{Attributes, Chars, Name};
+pub use edit_model::arena::{Arena, Kind, NodeList, NodeRef};
+pub use edit_model::dom::{Attributes, Chars, Name};
+pub use edit_model::dom_ranges::{MarkFault, Pair, Point, Points};
 pub use edit_model::{EditFault, Flags, Setting};
 pub use edit_parts::Counts;
 use history::History;
-pub use live_range::{MarkFault, Pair, Point, Points};
 pub use logged::{LoggedEdit, LoggedEntry, MadeNode};
-pub use node_arena::{Arena, Kind, NodeList, NodeRef};
 use overrides::Overrides;
 use std::alloc::{AllocError, Global};
 use std::marker::Model;
+pub use step_edits::document;
+pub use step_edits::document::{DocumentEdit, TreeNode};
+pub use step_edits::history::Committed;
 use tree::LiveTree;
-pub use undo_log::Committed;
 
 /// A document under edits.
 #[derive(Drop)]

@@ -1,22 +1,22 @@
 //! One who looks on as the steps of an entry are made, and keeps its edits as a log has them.
 
 ghost use Rattle.std.specs.Prelude.{◌≡◌, [], ◌∷◌, ◌++◌, Some, true, IfOk, OnOk};
-ghost use Rattle.dom_model.specs.Change as change;
-ghost use Rattle.dom_model.specs.Forest.{content_of};
+ghost use Rattle.edit_model.specs.DomModel.Change as change;
+ghost use Rattle.edit_model.specs.DomModel.Forest.{content_of};
 ghost use Rattle.edit_model.specs.Gives.{label_of};
-ghost use Rattle.edit_steps.specs.Step.{StepFits, change_of};
-ghost use Rattle.edit_steps.specs.declared.step.Step.TheVariants as step;
+ghost use Rattle.step_edits.specs.EditSteps.Step.{StepFits, change_of};
+ghost use Rattle.step_edits.specs.EditSteps.declared.step.Step.TheVariants as step;
 ghost use Rattle.edit_doc.specs.Logged.{element_name};
 ghost use Rattle.edit_doc.specs.Logging.{Recording, Records, logged_at};
 
 use crate::logged::LoggedEdit;
 use crate::{Arena, Name, NodeRef};
-use edit_steps::{Splice, Step};
-use node_arena::Content;
+use edit_model::arena::Content;
 use std::alloc::{AllocError, Global};
 use std::marker::Model;
+use step_edits::history::Watch;
 use step_edits::spliced_words;
-use undo_log::Watch;
+use step_edits::steps::{Splice, Step};
 
 // The edits of steps, in their order, kept by one who looks on as they are made: so the whole
 // contents can be told that a step gives. They are complete as long as memory suffices.

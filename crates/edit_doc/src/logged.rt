@@ -1,9 +1,9 @@
 //! The entries of the history before the cursor, read as forward edits.
 
 ghost use Rattle.std.specs.Prelude.{◌≡◌, ℕ, ◌+◌, ◌<◌, ◌≤◌, List, None, IfOk, OnOk, [], ◌∷◌, ◌++◌, length, map, reverse, take, drop};
-ghost use Rattle.forest_changes.specs.Named.{Each, named, named_in};
-ghost use Rattle.live_range.specs.Names.{shown, IsOver};
-ghost use Rattle.edit_steps.specs.Step.{change_of, changes_of};
+ghost use Rattle.step_edits.specs.ForestChanges.Named.{Each, named, named_in};
+ghost use Rattle.edit_model.specs.LiveRange.Names.{shown, IsOver};
+ghost use Rattle.step_edits.specs.EditSteps.Step.{change_of, changes_of};
 ghost use Rattle.edit_model.specs.History.{used, redone_state, redone_history};
 ghost use Rattle.edit_model.specs.Valid.{IsPlaced};
 ghost use Rattle.edit_doc.specs.Whole.{IsClosed, with_state};
@@ -14,13 +14,13 @@ ghost use Rattle.edit_doc.specs.Logged.{Logged, logged_entry, first_made, first_
 
 use crate::command::Kept;
 use crate::{Arena, Attributes, Chars, Doc, Name, NodeRef};
-use edit_steps::Step;
-use node_arena::Content;
+use edit_model::arena::Content;
+use edit_model::stepping::Steps;
 use std::alloc::{AllocError, Global};
 use std::marker::{Brand, Model};
 use std::mem::swap;
 use std::sync::ledger::{Blank, Ledger};
-use step_count::Steps;
+use step_edits::steps::Step;
 
 /// An edit of a logged entry, by labels, with the whole contents afterwards.
 #[derive(Drop)]

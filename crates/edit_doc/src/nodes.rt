@@ -3,7 +3,7 @@
 ghost use Rattle.std.specs.Prelude.{◌≡◌, ◌↔◌, IsTrue, IfSome, Some, None};
 
 use crate::{Doc, Kind, NodeRef};
-use node_arena::{Content, Nodes};
+use edit_model::arena::{Content, Nodes};
 
 impl Nodes for Doc {
     ghost use Rattle.edit_doc.specs.Held.{Holds};

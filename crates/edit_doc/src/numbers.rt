@@ -2,20 +2,20 @@
 //! it changes.
 
 ghost use Rattle.std.specs.Prelude.{◌≡◌, ◌+◌, ◌<◌, ◌≤◌, ◌^◌, max, min, Some, true};
-ghost use Rattle.dom_model.specs.Contents.{words_length};
-ghost use Rattle.dom_model.specs.Document.{node_count, char_count};
-ghost use Rattle.dom_model.specs.Forest.{content_of, depth_of, parent_of, total, tree_of, unlink};
-ghost use Rattle.dom_model.specs.Places.{levels};
-ghost use Rattle.dom_model.specs.Revised.{revised};
+ghost use Rattle.edit_model.specs.DomModel.Contents.{words_length};
+ghost use Rattle.edit_model.specs.DomModel.Document.{node_count, char_count};
+ghost use Rattle.edit_model.specs.DomModel.Forest.{content_of, depth_of, parent_of, total, tree_of, unlink};
+ghost use Rattle.edit_model.specs.DomModel.Places.{levels};
+ghost use Rattle.edit_model.specs.DomModel.Revised.{revised};
 ghost use Rattle.edit_model.specs.Confined.{may_change};
 ghost use Rattle.edit_model.specs.Edit.{with_replaced};
-ghost use Rattle.node_arena.specs.Held.{Holds};
-ghost use Rattle.point_order.specs.PointOrder.{is_in_document};
+ghost use Rattle.edit_model.specs.NodeArena.Held.{Holds};
+ghost use Rattle.edit_model.specs.PointOrder.PointOrder.{is_in_document};
 ghost use Rattle.edit_doc.specs.Fields.{IsRaised, comes_in, with_more};
 
 use crate::Counts;
+use edit_model::arena::{Arena, NodeRef};
 use edit_parts::{add_counts, is_in_document, tree_counts};
-use node_arena::{Arena, NodeRef};
 
 // Up to this depth a move further down adds how far it goes; beyond, the moved tree is walked for
 // its height.

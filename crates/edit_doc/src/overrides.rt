@@ -1,16 +1,16 @@
 //! The overrides of commands.
 
 ghost use Rattle.std.specs.Prelude.{◌≡◌, IfOk, IfSome};
-ghost use Rattle.dom_model.specs.declared.Content.{Content};
-ghost use Rattle.dom_model.specs.Forest.{Forest};
-ghost use Rattle.live_range.specs.LivePoints.{LivePoints};
+ghost use Rattle.edit_model.specs.DomModel.declared.Content.{Content};
+ghost use Rattle.edit_model.specs.DomModel.Forest.{Forest};
+ghost use Rattle.edit_model.specs.LiveRange.LivePoints.{LivePoints};
 ghost use Rattle.edit_model.specs.Overrides.{no_overrides, setting_of, with_setting};
 ghost use Rattle.edit_model.specs.Valid.{IsPlacedPair};
 ghost use Rattle.edit_parts.specs.Following.{Watches, unset_if_range_changed};
 
 use crate::{Arena, Points, Setting};
+use edit_model::element_names::Command;
 use edit_parts::{Watch, place_of, unset_overrides_if_range_changed, watch_range};
-use html_names::Command;
 use std::alloc::{AllocError, Global};
 use std::marker::Model;
 

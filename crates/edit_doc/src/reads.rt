@@ -1,22 +1,22 @@
 //! What is read of a document under edits.
 
 ghost use Rattle.std.specs.Prelude.{◌≡◌, ◌≤◌, ℕ, ◌↔◌, None, Some, IsTrue, IfSome, nat_lt, true};
-ghost use Rattle.dom_model.specs.Contents.{is_element_at, has_chars_at, name_of, attributes_of, chars_of, length_of};
-ghost use Rattle.dom_model.specs.Document.{node_count, char_count, page_depth};
-ghost use Rattle.dom_model.specs.Forest.{content_of, count_of, tree_of, parent_of, first_of, last_of, prev_of, next_of};
-ghost use Rattle.dom_model.specs.Places.{index_of};
+ghost use Rattle.edit_model.specs.DomModel.Contents.{is_element_at, has_chars_at, name_of, attributes_of, chars_of, length_of};
+ghost use Rattle.edit_model.specs.DomModel.Document.{node_count, char_count, page_depth};
+ghost use Rattle.edit_model.specs.DomModel.Forest.{content_of, count_of, tree_of, parent_of, first_of, last_of, prev_of, next_of};
+ghost use Rattle.edit_model.specs.DomModel.Places.{index_of};
 ghost use Rattle.edit_model.specs.Gives.{label_of};
 ghost use Rattle.edit_doc.specs.Whole.{IsDoc, IsClosed};
 ghost use Rattle.edit_doc.specs.Shows.{Shows};
 ghost use Rattle.edit_doc.specs.Kept.{HoldsOnlyNeeded};
 ghost use Rattle.edit_doc.specs.Onward.{HasLedOnward};
 ghost use Rattle.edit_doc.specs.Held.{Holds, Finds, IfHeld, IsPart};
-ghost use Rattle.node_arena.specs.Kinds.{kind_of};
-ghost use Rattle.point_order.specs.PointOrder.{is_before, is_placed};
+ghost use Rattle.edit_model.specs.NodeArena.Kinds.{kind_of};
+ghost use Rattle.edit_model.specs.PointOrder.PointOrder.{is_before, is_placed};
 
 use crate::{Arena, Attributes, Chars, Counts, Doc, Kind, Name, NodeRef, Point};
-use node_arena::Content;
-use point_order::{comes_before, root_of};
+use edit_model::arena::Content;
+use edit_model::boundary::{comes_before, root_of};
 
 impl Doc {
     /// What holds of every document under edits, for proofs. It does nothing.

@@ -1,9 +1,9 @@
 //! Selecting steps, marks, overrides and flags.
 
 ghost use Rattle.std.specs.Prelude.{◌≡◌, ℕ, ◌↔◌, ◌&&◌, Err, IsNone, IfSome, OnOk, OnErr, length, true, false};
-ghost use Rattle.dom_model.specs.Forest.{parent_of};
-ghost use Rattle.dom_model.specs.Places.{index_of};
-ghost use Rattle.live_range.specs.LivePoints.{has_mark, with_mark, without_mark};
+ghost use Rattle.edit_model.specs.DomModel.Forest.{parent_of};
+ghost use Rattle.edit_model.specs.DomModel.Places.{index_of};
+ghost use Rattle.edit_model.specs.LiveRange.LivePoints.{has_mark, with_mark, without_mark};
 ghost use Rattle.edit_model.specs.Action.{Select, Extend, Unselect, Grow, Scratch, Override, Flag, acted, Send, with_selection};
 ghost use Rattle.edit_model.specs.Confined.{may_select};
 ghost use Rattle.edit_model.specs.Overrides.{setting_of};
@@ -13,8 +13,8 @@ ghost use Rattle.edit_doc.specs.Whole.{IsOpen, IsClosed, with_state};
 ghost use Rattle.edit_doc.specs.Held.{Holds, Keeps};
 
 use crate::{Doc, Flags, MarkFault, NodeRef, Pair, Point, Points, Setting};
+use edit_model::element_names::Command;
 use edit_parts::stands_at;
-use html_names::Command;
 
 impl Doc {
     /// The live points.

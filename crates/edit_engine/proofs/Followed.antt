@@ -1,16 +1,16 @@
 -- What a host is told of a call leads from the document before it to the document after it.
 use Rattle.std.proofs.Common.{◌≡◌, ℕ, ◌<◌, ◌≤◌, Bool, true, false, true≢false, List, [], ◌∷◌, length, Some, Ok, refl, sym, ap, subst, ◌∙◌, inl, inr, arith}
 use Rattle.std.specs.Prelude.{◌↔◌, IsTrue}
-use Rattle.dom_model.specs.declared.Content.{Content}
-use Rattle.dom_model.specs.Forest.{Forest}
-use Rattle.undo_log.specs.declared.log.Committed.{Committed}
-use Rattle.undo_log.specs.declared.log.Committed.TheVariants as committed
+use Rattle.edit_commands.specs.DomModel.declared.Content.{Content}
+use Rattle.edit_commands.specs.DomModel.Forest.{Forest}
+use Rattle.edit_commands.specs.UndoLog.declared.log.Committed.{Committed}
+use Rattle.edit_commands.specs.UndoLog.declared.log.Committed.TheVariants as committed
 use Rattle.edit_model.specs.State.{State}
 use Rattle.edit_model.specs.History.{Entry, History, document_of, rested, undone_state, undone_history, redone_state, redone_history, undone_state_by, undone_history_by, redone_state_by, redone_history_by, at_view}
-use Rattle.forest_changes.specs.Change.{Change}
-use Rattle.edit_doc.specs.Changes.{Lead, changes_past, changes_undone, resumed_at, ChangesLead, UndoneLead}
-use Rattle.edit_doc.specs.Kept.{HoldsOnlyNeeded, LeadAllBack, LeadAllForth}
-use Rattle.edit_doc.specs.Whole.{Whole, IsDoc, IsClosed}
+use Rattle.edit_commands.specs.ForestChanges.Change.{Change}
+use Rattle.edit_commands.specs.EditDoc.Changes.{Lead, changes_past, changes_undone, resumed_at, ChangesLead, UndoneLead}
+use Rattle.edit_commands.specs.EditDoc.Kept.{HoldsOnlyNeeded, LeadAllBack, LeadAllForth}
+use Rattle.edit_commands.specs.EditDoc.Whole.{Whole, IsDoc, IsClosed}
 use Rattle.edit_engine.specs.declared.following.Following.{Following}
 use Rattle.edit_engine.specs.declared.going.Going.{Going}
 use Rattle.edit_engine.specs.Following.{after_commit, after_undo, after_redo}

@@ -1,28 +1,28 @@
 -- The lines of an entry, one after another: none is refused, and they make the nodes and then the changes of the entry.
 use Rattle.std.proofs.Common.{◌≡◌, ℕ, ◌+◌, ◌≤◌, Bool, true, false, true≢false, cond, map, List, [], ◌∷◌, ◌++◌, length, Option, Some, None, Ok, unwrap_or, refl, sym, ap, subst, ◌∙◌, arith, eqb}
 use Rattle.std.specs.Option.{option_map, option_map_or, option_and_then}
-use Rattle.dom_model.specs.declared.attributes.Attribute.{Attribute}
-use Rattle.dom_model.specs.declared.Content.{Content}
-use Rattle.dom_model.specs.declared.Content.TheVariants.{Document, Element, Words, Remark}
-use Rattle.dom_model.specs.Contents.{is_element, is_element_at, name_in, name_of, with_chars, with_attributes}
-use Rattle.dom_model.specs.Document.{page_depth}
-use Rattle.dom_model.specs.Forest.{Forest, parent_of, content_of, with_leaf, unlink}
-use Rattle.dom_model.specs.Places.{levels, kids_in}
-use Rattle.dom_model.specs.Revised.{revised}
-use Rattle.dom_model.specs.Pruned.{pruned}
-use Rattle.dom_model.proofs.Kept.{content_of-link, content_of-unlink}
-use Rattle.dom_model.proofs.Revising.{content_of-revised}
-use Rattle.dom_model.proofs.Pruning.{tree_of-pruned}
-use Rattle.undo_log.specs.Turning.{forth, FitsForth}
-use Rattle.forest_changes.specs.Change.{Change, Remove, Insert, Move, SetText, Splice, SetAttributes, IsForest, Fits, applied, spliced_at, whole, wholes}
-use Rattle.forest_changes.specs.Down.{Prunes, IsLeft}
-use Rattle.forest_changes.specs.Named.{Each, named}
-use Rattle.forest_changes.proofs.Contents.{here_is}
-use Rattle.forest_changes.proofs.DownChange.{down, up, IsForest-pruned}
-use Rattle.forest_changes.proofs.PrunedChanges.{content_of-pruned}
-use Rattle.forest_changes.proofs.Twice.{given_parent, IsForest-unlink, IsForest-applied}
-use Rattle.forest_changes.proofs.Wholes.{applied_whole}
-use Rattle.edit_doc.proofs.Onwards.{below_past}
+use Rattle.edit_commands.specs.DomModel.declared.attributes.Attribute.{Attribute}
+use Rattle.edit_commands.specs.DomModel.declared.Content.{Content}
+use Rattle.edit_commands.specs.DomModel.declared.Content.TheVariants.{Document, Element, Words, Remark}
+use Rattle.edit_commands.specs.DomModel.Contents.{is_element, is_element_at, name_in, name_of, with_chars, with_attributes}
+use Rattle.edit_commands.specs.DomModel.Document.{page_depth}
+use Rattle.edit_commands.specs.DomModel.Forest.{Forest, parent_of, content_of, with_leaf, unlink}
+use Rattle.edit_commands.specs.DomModel.Places.{levels, kids_in}
+use Rattle.edit_commands.specs.DomModel.Revised.{revised}
+use Rattle.edit_commands.specs.DomModel.Pruned.{pruned}
+use Rattle.edit_commands.proofs.DomModel.Kept.{content_of-link, content_of-unlink}
+use Rattle.edit_commands.proofs.DomModel.Revising.{content_of-revised}
+use Rattle.edit_commands.proofs.DomModel.Pruning.{tree_of-pruned}
+use Rattle.edit_commands.specs.UndoLog.Turning.{forth, FitsForth}
+use Rattle.edit_commands.specs.ForestChanges.Change.{Change, Remove, Insert, Move, SetText, Splice, SetAttributes, IsForest, Fits, applied, spliced_at, whole, wholes}
+use Rattle.edit_commands.specs.ForestChanges.Down.{Prunes, IsLeft}
+use Rattle.edit_commands.specs.ForestChanges.Named.{Each, named}
+use Rattle.edit_commands.proofs.ForestChanges.Contents.{here_is}
+use Rattle.edit_commands.proofs.ForestChanges.DownChange.{down, up, IsForest-pruned}
+use Rattle.edit_commands.proofs.ForestChanges.PrunedChanges.{content_of-pruned}
+use Rattle.edit_commands.proofs.ForestChanges.Twice.{given_parent, IsForest-unlink, IsForest-applied}
+use Rattle.edit_commands.proofs.ForestChanges.Wholes.{applied_whole}
+use Rattle.edit_commands.proofs.EditDoc.Onwards.{below_past}
 use Rattle.step_text.specs.declared.line.Made.{Made}
 use Rattle.step_text.specs.declared.line.Made.TheVariants as made
 use Rattle.step_text.specs.declared.line.StepLine.{StepLine}
@@ -30,8 +30,8 @@ use Rattle.step_text.specs.declared.line.StepLine.TheVariants as steps
 use Rattle.step_text.specs.Applying.{Labelled, is_text, made_content, replayed_from}
 use Rattle.step_text.specs.Replaying.{CanSay, line_of}
 use Rattle.step_text.proofs.Replays.{change_led, make_led, one_led}
-use Rattle.edit_doc.specs.Logged.{element_name}
-use Rattle.edit_doc.specs.Onward.{with_made, RiseFrom, next_past}
+use Rattle.edit_commands.specs.EditDoc.Logged.{element_name}
+use Rattle.edit_commands.specs.EditDoc.Onward.{with_made, RiseFrom, next_past}
 use Rattle.edit_engine.specs.Logs.{content_steps}
 use Rattle.edit_engine.specs.Replaying.{can_be_made, ChangesText, StayShallow}
 

@@ -1,10 +1,10 @@
 -- What a label tells of a node for as long as an editor lasts.
 use Rattle.std.specs.Prelude.{◌≡◌, ℕ, ◌≤◌, List, [], ◌∷◌, ◌++◌, Option, Some}
-use Rattle.dom_model.specs.declared.Content.{Content}
-use Rattle.dom_model.specs.Forest.{Forest}
-use Rattle.forest_changes.specs.Named.{Each}
+use Rattle.edit_commands.specs.DomModel.declared.Content.{Content}
+use Rattle.edit_commands.specs.DomModel.Forest.{Forest}
+use Rattle.edit_commands.specs.ForestChanges.Named.{Each}
 use Rattle.edit_model.specs.History.{Entry}
-use Rattle.edit_laws.specs.Kinds.{Kind, kind_of, SameKinds, DrawsKinds}
+use Rattle.command_laws.specs.EditLaws.Kinds.{Kind, kind_of, SameKinds, DrawsKinds}
 use Rattle.edit_engine.specs.Editing.{Editing}
 
 -- a label that stands for a node before and after stands for one of the same kind, an element of

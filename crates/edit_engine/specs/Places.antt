@@ -1,15 +1,15 @@
 -- Places: points by the path of their node, and by its label.
 use Rattle.std.specs.Prelude.{◌≡◌, ℕ, nat_le, List, length, false, ◌&&◌, Option, Some, None, if◌then◌else◌}
 use Rattle.std.specs.Option.{option_and_then, option_map}
-use Rattle.dom_model.specs.declared.Content.{Content}
-use Rattle.dom_model.specs.Contents.{length_of}
-use Rattle.dom_model.specs.Forest.{Forest}
-use Rattle.live_range.specs.LivePoints.{has_mark, with_mark, without_mark}
-use Rattle.live_range.specs.declared.places.Point.{Point}
-use Rattle.live_range.specs.declared.places.Pair.{Pair}
-use Rattle.node_paths.specs.Paths.{label_at}
-use Rattle.point_order.specs.PointOrder.{is_placed}
-use Rattle.script_read.specs.declared.act.Place.{Place}
+use Rattle.edit_commands.specs.DomModel.declared.Content.{Content}
+use Rattle.edit_commands.specs.DomModel.Contents.{length_of}
+use Rattle.edit_commands.specs.DomModel.Forest.{Forest}
+use Rattle.edit_commands.specs.LiveRange.LivePoints.{has_mark, with_mark, without_mark}
+use Rattle.edit_commands.specs.LiveRange.declared.places.Point.{Point}
+use Rattle.edit_commands.specs.LiveRange.declared.places.Pair.{Pair}
+use Rattle.edit_commands.specs.NodePaths.Paths.{label_at}
+use Rattle.edit_commands.specs.PointOrder.PointOrder.{is_placed}
+use Rattle.step_text.specs.ScriptRead.declared.act.Place.{Place}
 use Rattle.edit_model.specs.Action.{Select, Unselect, acted}
 use Rattle.edit_engine.specs.Editing.{Editing, stopped_at}
 

@@ -1,18 +1,18 @@
 -- What `probe` tells of a node, on one line: what the tests of nodes answer.
 use Rattle.std.specs.Prelude.{ℕ, Bool, List, ◌++◌, codes, encode_utf8_all, is_some, Option, Some, None, if◌then◌else◌}
-use Rattle.dom_model.specs.declared.Content.{Content}
-use Rattle.dom_model.specs.Contents.{is_element_at}
-use Rattle.dom_model.specs.Editing.{editing_host}
-use Rattle.dom_model.specs.Forest.{Forest}
-use Rattle.style_table.specs.declared.Property.{Property}
-use Rattle.style_table.specs.declared.Property.TheVariants.{Display, WhiteSpace}
-use Rattle.node_styles.specs.Blocks.{is_block, is_whitespace}
-use Rattle.node_styles.specs.Resolved.{resolved}
-use Rattle.node_tests.specs.CollapsedWhitespace.{is_collapsed_whitespace}
-use Rattle.node_tests.specs.SolidNeighbours.{is_extraneous_break, is_collapsed_break}
-use Rattle.node_tests.specs.Visible.{is_visible}
-use Rattle.node_tests.specs.BlockProps.{is_block_prop}
-use Rattle.node_paths.specs.Paths.{node_text}
+use Rattle.edit_commands.specs.DomModel.declared.Content.{Content}
+use Rattle.edit_commands.specs.DomModel.Contents.{is_element_at}
+use Rattle.edit_commands.specs.DomModel.Editing.{editing_host}
+use Rattle.edit_commands.specs.DomModel.Forest.{Forest}
+use Rattle.edit_commands.specs.StyleTable.declared.Property.{Property}
+use Rattle.edit_commands.specs.StyleTable.declared.Property.TheVariants.{Display, WhiteSpace}
+use Rattle.edit_commands.specs.NodeStyles.Blocks.{is_block, is_whitespace}
+use Rattle.edit_commands.specs.NodeStyles.Resolved.{resolved}
+use Rattle.edit_commands.specs.NodeTests.CollapsedWhitespace.{is_collapsed_whitespace}
+use Rattle.edit_commands.specs.NodeTests.SolidNeighbours.{is_extraneous_break, is_collapsed_break}
+use Rattle.edit_commands.specs.NodeTests.Visible.{is_visible}
+use Rattle.edit_commands.specs.NodeTests.BlockProps.{is_block_prop}
+use Rattle.edit_commands.specs.NodePaths.Paths.{node_text}
 
 -- a test, by its words and its answer
 abbrev pub tested : List ℕ → Bool → List ℕ

@@ -1,8 +1,8 @@
 //! What an editor answers, and why it refuses.
 
-use edit_doc::{EditFault, MarkFault};
-use script_read::Path;
+use edit_commands::doc::{EditFault, MarkFault};
 use std::alloc::AllocError;
+use step_text::script::Path;
 use thiserror::Error;
 
 /// What executing a command answers (HTML Editing APIs, "execCommand()").

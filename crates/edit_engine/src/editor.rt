@@ -1,19 +1,19 @@
 //! The editor.
 
 ghost use Rattle.std.specs.Prelude.{◌≡◌, ◌↔◌, ◌⊎◌, ◌<◌, ◌+◌, IfOk, IfSome, OnOk, OnErr, IsTrue, MatchOption, Ok, Err, None, Some, length, true, false};
-ghost use Rattle.live_range.specs.LivePoints.{has_mark};
-ghost use Rattle.live_range.specs.declared.places.Pair.{Pair};
+ghost use Rattle.edit_commands.specs.LiveRange.LivePoints.{has_mark};
+ghost use Rattle.edit_commands.specs.LiveRange.declared.places.Pair.{Pair};
 ghost use Rattle.edit_model.specs.Valid.{IsPlacedPair};
-ghost use Rattle.edit_doc.specs.Kept.{HoldsOnlyNeeded};
-ghost use Rattle.edit_doc.specs.Whole.{HasNoLoose, IsClosed, first_edits};
+ghost use Rattle.edit_commands.specs.EditDoc.Kept.{HoldsOnlyNeeded};
+ghost use Rattle.edit_commands.specs.EditDoc.Whole.{HasNoLoose, IsClosed, first_edits};
 ghost use Rattle.command_gate.specs.Denied.{is_denied};
-ghost use Rattle.html_names.specs.Commands.{command_named};
-ghost use Rattle.node_paths.specs.Paths.{label_at};
+ghost use Rattle.edit_commands.specs.HtmlNames.Commands.{command_named};
+ghost use Rattle.edit_commands.specs.NodePaths.Paths.{label_at};
 ghost use Rattle.edit_engine.specs.Changes.{CanFollow, TellsNoChange, changes_of};
 ghost use Rattle.edit_engine.specs.Commands.{action_of};
 ghost use Rattle.edit_engine.specs.Confinement.{CommandKeeps, KeepsCharacters, GivesBack, joins_last};
 ghost use Rattle.edit_engine.specs.Editing.{EditorValue, IsJoinable, document, new_editing, undone, redone};
-ghost use Rattle.edit_actions.specs.ActiveRange.{affected_host, host_of_pair};
+ghost use Rattle.edit_commands.specs.EditActions.ActiveRange.{affected_host, host_of_pair};
 ghost use Rattle.edit_engine.specs.Execution.{gated_outcome, outcome, joined_outcome, replaced_outcome, outcome_by, command_outcome, run_outcome, host_at, run_at, Tells, TellsReplaced};
 ghost use Rattle.edit_engine.specs.Following.{first_following};
 ghost use Rattle.edit_engine.specs.Going.{goes_on, joins_by};
@@ -36,16 +36,16 @@ use crate::probe::probe_line;
 use crate::queries::{ask, is_enabled_in};
 use crate::views::{html_line, points_lines, stat_line, tree_lines};
 use command_gate::{Asks, Gate};
-use document_edits::DocumentEdit;
-use dom_model::Name;
-use edit_doc::{Arena, Doc, Pair, Point};
-use edit_query::Reply;
-use html_names::{Command, QueryKind};
-use script_read::{Path, Place};
+use edit_commands::doc::{Arena, Doc, Pair, Point};
+use edit_commands::document::DocumentEdit;
+use edit_commands::dom::Name;
+use edit_commands::element_names::{Command, QueryKind};
+use edit_commands::query::Reply;
+use edit_commands::stepping::Steps;
 use std::alloc::{AllocError, Global};
 use std::marker::Model;
 use std::sync::ledger::Ledger;
-use step_count::Steps;
+use step_text::script::{Path, Place};
 
 // How deep a document may be as a command begins.
 const DEPTH_LIMIT: u32 = 250;
@@ -74,7 +74,7 @@ impl Model for Editor {
 
 impl Editor {
     /// The editor of a page's nodes, which keeps at most `undo_depth` entries for undo.
-    #[tactic(auto, unfolding(edit_doc::specs::Whole::first_doc, edit_doc::specs::Whole::first_state))]
+    #[tactic(auto, unfolding(crate::specs::Below::first_doc, crate::specs::Below::first_state))]
     pub fn new(alloc: Global, arena: Arena, undo_depth: usize) -> Result<Editor, AllocError>
         requires depth { 0 < undo_depth }
         requires loose { HasNoLoose arena }

@@ -1,22 +1,22 @@
 //! What the tests of nodes answer of a node, on one line.
 
 ghost use Rattle.std.specs.Prelude.{◌≡◌, ◌++◌, OnOk, IfOk};
-ghost use Rattle.dom_model.specs.Contents.{is_element_at};
-ghost use Rattle.dom_model.specs.Editing.{editing_host};
-ghost use Rattle.node_arena.specs.Held.{label};
-ghost use Rattle.edit_doc.specs.Whole.{IsClosed};
-ghost use Rattle.edit_doc.specs.Held.{Holds, IfHeld};
+ghost use Rattle.edit_commands.specs.DomModel.Contents.{is_element_at};
+ghost use Rattle.edit_commands.specs.DomModel.Editing.{editing_host};
+ghost use Rattle.edit_commands.specs.NodeArena.Held.{label};
+ghost use Rattle.edit_commands.specs.EditDoc.Whole.{IsClosed};
+ghost use Rattle.edit_commands.specs.EditDoc.Held.{Holds, IfHeld};
 ghost use Rattle.edit_engine.specs.Probe.{tested, path_or_none, host_words, text_words, break_words, style_text, style_words, probe_line};
 
-use edit_doc::{Doc, Kind, NodeRef};
-use escaped_text::push_chars;
-use node_paths::push_path;
-use node_tests::{
+use edit_commands::doc::{Doc, Kind, NodeRef};
+use edit_commands::node_place::push_path;
+use edit_commands::properties::Property;
+use edit_commands::questions::{
     editing_host, is_block, is_block_prop, is_collapsed_break, is_collapsed_whitespace, is_element,
     is_extraneous_break, is_visible, is_whitespace, resolved,
 };
 use std::alloc::{AllocError, Global};
-use style_table::Property;
+use step_text::escapes::push_chars;
 
 // Appends a test: its words and its answer.
 fn push_test(bytes: &mut Vec<u8>, words: &[u8], answer: bool) -> Result<(), AllocError>

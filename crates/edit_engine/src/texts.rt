@@ -3,8 +3,8 @@
 
 ghost use Rattle.std.specs.Prelude.{◌≡◌, ◌↔◌, IfOk, Some, Err};
 ghost use Rattle.std.specs.Option.{option_map};
-ghost use Rattle.dom_model.specs.Forest.{count_of};
-ghost use Rattle.node_paths.specs.Paths.{label_at};
+ghost use Rattle.edit_commands.specs.DomModel.Forest.{count_of};
+ghost use Rattle.edit_commands.specs.NodePaths.Paths.{label_at};
 ghost use Rattle.node_texts.specs.NodeHtml.{node_html};
 ghost use Rattle.node_texts.specs.Occurrences.{found_in};
 ghost use Rattle.node_texts.specs.PlainText.{plain_text};
@@ -12,11 +12,11 @@ ghost use Rattle.edit_engine.specs.SelectedTexts.{selected_html, selected_text};
 
 use crate::answers::ViewFault;
 use crate::editor::Editor;
-use edit_actions::ends_of;
-use edit_doc::Point;
+use edit_commands::actions::ends_of;
+use edit_commands::doc::Point;
 use node_texts::{find, node_html, path_of, plain_text, range_html, range_text};
-use script_read::Path;
 use std::alloc::{AllocError, Global};
+use step_text::script::Path;
 
 impl Editor {
     /// The path of the node of a label.
@@ -84,7 +84,7 @@ impl Editor {
     /// The HTML of what is selected (DOM Standard, "clone the contents" of a range), if anything
     /// is: of the children of the innermost node that holds both points, from the earlier point to
     /// the later one.
-    #[tactic(auto, using(edit_actions::proofs::Placed::placed_here), unfolding(crate::specs::SelectedTexts::selected_html))]
+    #[tactic(auto, using(crate::proofs::Below::placed_here), unfolding(crate::specs::SelectedTexts::selected_html))]
     pub fn selection_html(&self, alloc: Global) -> Result<Option<Vec<u8>>, AllocError>
         ensures { IfOk result (λ html. option_map (λ text. text.items) html
             ≡ selected_html self.now.editing.state) }
@@ -98,7 +98,7 @@ impl Editor {
     }
 
     /// The plain text of what is selected, if anything is, as `node_text` has it of a node.
-    #[tactic(auto, using(edit_actions::proofs::Placed::placed_here), unfolding(crate::specs::SelectedTexts::selected_text))]
+    #[tactic(auto, using(crate::proofs::Below::placed_here), unfolding(crate::specs::SelectedTexts::selected_text))]
     pub fn selection_text(&self, alloc: Global) -> Result<Option<Vec<char>>, AllocError>
         ensures { IfOk result (λ text. option_map (λ chars. chars.items) text
             ≡ selected_text self.now.editing.state) }

@@ -1,11 +1,11 @@
 -- A loose node without children comes to just after another one, which moves into it.
 use Rattle.std.proofs.Common.{◌≡◌, ℕ, ◌<◌, zero, suc, true, [], ◌++◌, Option, Some, None, refl, ap, ◌∙◌, inl, inr, arith}
 use Rattle.std.proofs.lemmas.Bool.{cases_Bool}
-use Rattle.dom_model.specs.declared.Content.{Content}
-use Rattle.dom_model.specs.Forest.{tops, first_in, count_of, parent_of, next_of, tree_of, put_under, join}
-use Rattle.dom_model.specs.Forest.Forest.{Nil, Tree}
-use Rattle.dom_model.proofs.Totals.{put_under_nowhere}
-use Rattle.dom_model.proofs.Within.{within_root}
+use Rattle.edit_model.specs.DomModel.declared.Content.{Content}
+use Rattle.edit_model.specs.DomModel.Forest.{tops, first_in, count_of, parent_of, next_of, tree_of, put_under, join}
+use Rattle.edit_model.specs.DomModel.Forest.Forest.{Nil, Tree}
+use Rattle.edit_model.proofs.DomModel.Totals.{put_under_nowhere}
+use Rattle.edit_model.proofs.DomModel.Within.{within_root}
 use Rattle.edit_model.specs.State.{State}
 use Rattle.edit_model.specs.Kept.{borne_by, leaves}
 use Rattle.edit_model.specs.Confined.{may_insert}

@@ -1,13 +1,13 @@
 -- A forest around a place in it, and what stands at the place.
 use Rattle.std.proofs.Common.{◌≡◌, ℕ, ◌+◌, ◌<◌, ◌≤◌, zero, suc, Bool, true, false, cond, eqb, Option, Some, None, refl, sym, ap, ◌∙◌, inl, inr, arith}
 use Rattle.std.proofs.lemmas.Bool.Decides.{eqb_tells}
-use Rattle.dom_model.specs.declared.Content.{Content}
-use Rattle.dom_model.specs.Forest.{Forest, either, tops, count_of, IsDistinct, seek, tree_of, without, put_before, put_under}
-use Rattle.dom_model.specs.Forest.Forest.{Nil, Tree}
-use Rattle.dom_model.proofs.Totals.{put_under_nowhere}
-use Rattle.dom_model.proofs.Stands.{seek_absent}
-use Rattle.dom_model.proofs.Links.{join-Nil, tree_of_absent, eqb_refl_true}
-use Rattle.dom_model.proofs.DropTree.{without_absent}
+use Rattle.edit_model.specs.DomModel.declared.Content.{Content}
+use Rattle.edit_model.specs.DomModel.Forest.{Forest, either, tops, count_of, IsDistinct, seek, tree_of, without, put_before, put_under}
+use Rattle.edit_model.specs.DomModel.Forest.Forest.{Nil, Tree}
+use Rattle.edit_model.proofs.DomModel.Totals.{put_under_nowhere}
+use Rattle.edit_model.proofs.DomModel.Stands.{seek_absent}
+use Rattle.edit_model.proofs.DomModel.Links.{join-Nil, tree_of_absent, eqb_refl_true}
+use Rattle.edit_model.proofs.DomModel.DropTree.{without_absent}
 use Rattle.edit_model.specs.Kept.{leaves}
 use Rattle.edit_laws.proofs.Leaves.{leaves-Tree}
 

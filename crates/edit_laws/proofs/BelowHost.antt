@@ -3,9 +3,9 @@ use Rattle.std.proofs.Common.{◌≡◌, ℕ, ◌<◌, List, [], ◌++◌, refl,
 use Rattle.std.specs.List.{filter}
 use Rattle.std.proofs.lemmas.List.{append_cancel_left, append_cancel_right}
 use Rattle.std.proofs.lemmas.List.Elements.{filter-append}
-use Rattle.dom_model.specs.declared.Content.{Content}
-use Rattle.dom_model.specs.Forest.{Forest, count_of, IsDistinct}
-use Rattle.dom_model.specs.Forest.Forest.{Nil, Tree}
+use Rattle.edit_model.specs.DomModel.declared.Content.{Content}
+use Rattle.edit_model.specs.DomModel.Forest.{Forest, count_of, IsDistinct}
+use Rattle.edit_model.specs.DomModel.Forest.Forest.{Nil, Tree}
 use Rattle.edit_model.specs.Kept.{Leaf, borne_by, leaves, is_kept, kept_leaves}
 use Rattle.edit_model.specs.Outside.{hollowed}
 use Rattle.edit_laws.specs.Order.{KeepsLeaves}

@@ -3,13 +3,13 @@ use Rattle.std.proofs.Common.{◌≡◌, ℕ, ◌<◌, zero, suc, Bool, true, fa
 use Rattle.std.specs.Option.{option_map, option_map_or, option_and_then}
 use Rattle.std.specs.Prelude.{nat_le}
 use Rattle.std.proofs.lemmas.Bool.{cases_Bool, lt-ltb, ltb-true}
-use Rattle.dom_model.specs.declared.Content.{Content}
-use Rattle.dom_model.specs.Contents.{is_parent_at, may_have_children}
-use Rattle.dom_model.specs.Forest.{Forest, Seen, times, tops, first_in, after_in, count_of, IsWithin, seek, parent_of, children_of, next_of, tree_of, join}
-use Rattle.dom_model.specs.Forest.Forest.{Nil, Tree}
-use Rattle.dom_model.proofs.Lists.{times-append}
-use Rattle.dom_model.proofs.Neighbours.{parent_of-next}
-use Rattle.dom_model.proofs.Links.{found_stands, parent_of_child}
+use Rattle.edit_model.specs.DomModel.declared.Content.{Content}
+use Rattle.edit_model.specs.DomModel.Contents.{is_parent_at, may_have_children}
+use Rattle.edit_model.specs.DomModel.Forest.{Forest, Seen, times, tops, first_in, after_in, count_of, IsWithin, seek, parent_of, children_of, next_of, tree_of, join}
+use Rattle.edit_model.specs.DomModel.Forest.Forest.{Nil, Tree}
+use Rattle.edit_model.proofs.DomModel.Lists.{times-append}
+use Rattle.edit_model.proofs.DomModel.Neighbours.{parent_of-next}
+use Rattle.edit_model.proofs.DomModel.Links.{found_stands, parent_of_child}
 use Rattle.edit_model.specs.State.{State}
 use Rattle.edit_model.specs.Kept.{borne_by}
 use Rattle.edit_model.specs.Confined.{is_made, is_open, may_move}

@@ -3,12 +3,12 @@
 use Rattle.std.proofs.Common.{◌≡◌, ◌≢◌, ℕ, ◌<◌, Bool, true, false, ◌&&◌, eqb, [], Option, Some, None, refl, sym, ap, subst, ◌∙◌, arith, true≢false}
 use Rattle.std.specs.Option.{option_map_or}
 use Rattle.std.proofs.lemmas.Bool.{eq-eqb}
-use Rattle.dom_model.specs.declared.Content.{Content}
-use Rattle.dom_model.specs.Contents.{is_parent_at}
-use Rattle.dom_model.specs.Forest.{Forest, Seen, times, tops, count_of, IsDistinct, IsWithin, seek, parent_of, children_of, tree_of, without, join}
-use Rattle.dom_model.specs.Forest.Forest.{Nil, Tree}
-use Rattle.dom_model.proofs.Stands.{times-tops}
-use Rattle.dom_model.proofs.Links.{found_stands, parent_of_child, join-Nil}
+use Rattle.edit_model.specs.DomModel.declared.Content.{Content}
+use Rattle.edit_model.specs.DomModel.Contents.{is_parent_at}
+use Rattle.edit_model.specs.DomModel.Forest.{Forest, Seen, times, tops, count_of, IsDistinct, IsWithin, seek, parent_of, children_of, tree_of, without, join}
+use Rattle.edit_model.specs.DomModel.Forest.Forest.{Nil, Tree}
+use Rattle.edit_model.proofs.DomModel.Stands.{times-tops}
+use Rattle.edit_model.proofs.DomModel.Links.{found_stands, parent_of_child, join-Nil}
 use Rattle.edit_model.specs.State.{State}
 use Rattle.edit_model.specs.Kept.{borne_by}
 use Rattle.edit_model.specs.Confined.{is_open, may_move}

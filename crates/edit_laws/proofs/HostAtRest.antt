@@ -1,11 +1,11 @@
 -- The selection of a command whose run leaves it in the host is there once loose trees are dropped.
 use Rattle.std.proofs.Common.{◌≡◌, ℕ, ◌<◌, Bool, true, false, Option, Some, None, IfSome, refl, sym, ap, subst, ◌∙◌, arith, true≢false}
 use Rattle.std.specs.Option.{option_map, option_map_or}
-use Rattle.dom_model.specs.declared.Content.{Content}
-use Rattle.dom_model.specs.declared.Content.TheVariants as content
-use Rattle.dom_model.specs.Editing.{is_true_state, is_host}
-use Rattle.dom_model.specs.Forest.{Forest, count_of, tree_of, content_of, IsWithin}
-use Rattle.live_range.specs.declared.places.Pair.{Pair}
+use Rattle.edit_model.specs.DomModel.declared.Content.{Content}
+use Rattle.edit_model.specs.DomModel.declared.Content.TheVariants as content
+use Rattle.edit_model.specs.DomModel.Editing.{is_true_state, is_host}
+use Rattle.edit_model.specs.DomModel.Forest.{Forest, count_of, tree_of, content_of, IsWithin}
+use Rattle.edit_model.specs.LiveRange.declared.places.Pair.{Pair}
 use Rattle.edit_model.specs.State.{State}
 use Rattle.edit_model.specs.History.{begun, rested}
 use Rattle.edit_model.specs.Outside.{hollowed, outside}

@@ -1,10 +1,10 @@
 -- Runs that leave the points in the host, by their parts: those of which no action places a point by itself, and those in which
 -- each point that is placed is near.
 use Rattle.std.proofs.Common.{◌≡◌, ◌≢◌, ℕ, zero, suc, ◌+◌, ◌≤◌, Bool, true, false, if◌then◌else◌, List, [], ◌∷◌, Option, Some, None, IfSome, refl, arith}
-use Rattle.dom_model.specs.declared.Content.{Content}
-use Rattle.dom_model.specs.declared.attributes.Attribute.{Attribute}
-use Rattle.dom_model.specs.Forest.{Forest, parent_of}
-use Rattle.live_range.specs.declared.places.Pair.{Pair}
+use Rattle.edit_model.specs.DomModel.declared.Content.{Content}
+use Rattle.edit_model.specs.DomModel.declared.attributes.Attribute.{Attribute}
+use Rattle.edit_model.specs.DomModel.Forest.{Forest, parent_of}
+use Rattle.edit_model.specs.LiveRange.declared.places.Pair.{Pair}
 use Rattle.edit_model.specs.State.{State}
 use Rattle.edit_model.specs.Edit.{Edit}
 use Rattle.edit_model.specs.Action as action

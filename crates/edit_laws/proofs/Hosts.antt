@@ -2,13 +2,13 @@
 use Rattle.std.proofs.Common.{◌≡◌, ◌≢◌, ℕ, Bool, true, false, ◌||◌, cond, eqb, Option, Some, None, refl, sym, ap, ◌∙◌, inl, inr, true≢false}
 use Rattle.std.specs.Option.{option_map_or}
 use Rattle.std.proofs.lemmas.Bool.{cases_Bool, ne_eqb, eq-eqb}
-use Rattle.dom_model.specs.declared.Content.{Content}
-use Rattle.dom_model.specs.Contents.{is_element}
-use Rattle.dom_model.specs.Editing.{is_true_state, is_false_state, host_by, offered, host_from, editing_host, is_editable}
-use Rattle.dom_model.specs.Forest.{Forest, is_label, either, parent_of, join, put_before, put_under}
-use Rattle.dom_model.specs.Forest.Forest.{Nil, Tree}
-use Rattle.dom_model.proofs.Hosts.{editing_host-child}
-use Rattle.dom_model.proofs.Links.{parent_count}
+use Rattle.edit_model.specs.DomModel.declared.Content.{Content}
+use Rattle.edit_model.specs.DomModel.Contents.{is_element}
+use Rattle.edit_model.specs.DomModel.Editing.{is_true_state, is_false_state, host_by, offered, host_from, editing_host, is_editable}
+use Rattle.edit_model.specs.DomModel.Forest.{Forest, is_label, either, parent_of, join, put_before, put_under}
+use Rattle.edit_model.specs.DomModel.Forest.Forest.{Nil, Tree}
+use Rattle.edit_model.proofs.DomModel.Hosts.{editing_host-child}
+use Rattle.edit_model.proofs.DomModel.Links.{parent_count}
 use Rattle.edit_model.specs.State.{State}
 use Rattle.edit_model.specs.Confined.{is_editable_for, is_inside}
 use Rattle.edit_model.specs.Valid.{IsValid}

@@ -3,10 +3,10 @@ use Rattle.std.proofs.Common.{◌≡◌, ℕ, Bool, true, false, ◌&&◌, cond,
 use Rattle.std.specs.List.{filter}
 use Rattle.std.proofs.lemmas.Bool.{and_parts}
 use Rattle.std.proofs.lemmas.List.Elements.{filter-append}
-use Rattle.dom_model.specs.declared.Content.{Content}
-use Rattle.dom_model.specs.Forest.{Forest, is_label, join, tree_of, without, put_before, put_under}
-use Rattle.dom_model.specs.Forest.Forest.{Nil, Tree}
-use Rattle.dom_model.specs.Revised.{revised}
+use Rattle.edit_model.specs.DomModel.declared.Content.{Content}
+use Rattle.edit_model.specs.DomModel.Forest.{Forest, is_label, join, tree_of, without, put_before, put_under}
+use Rattle.edit_model.specs.DomModel.Forest.Forest.{Nil, Tree}
+use Rattle.edit_model.specs.DomModel.Revised.{revised}
 use Rattle.edit_model.specs.Kept.{borne_by, leaves, is_kept, kept_leaves, is_empty, has_no_kept_leaves}
 use Rattle.edit_model.proofs.Bearing.{bears-Tree}
 use Rattle.edit_laws.specs.Order.{Subsequence}

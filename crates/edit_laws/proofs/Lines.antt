@@ -3,11 +3,11 @@ use Rattle.std.proofs.Common.{◌≡◌, ◌≢◌, ℕ, ◌<◌, zero, suc, con
 use Rattle.std.specs.Option.{option_and_then}
 use Rattle.std.proofs.lemmas.Bool.{cases_Bool, ne_eqb}
 use Rattle.std.proofs.lemmas.Bool.Decides.{eqb_tells}
-use Rattle.dom_model.specs.declared.Content.{Content}
-use Rattle.dom_model.specs.Forest.{Forest, Seen, times, count_of, IsDistinct, IsWithin, depth_of, parent_of, children_of, unlink}
-use Rattle.dom_model.proofs.Links.{seen, parent_count, parent_of-unlink, parent_of-link, tree_of_absent}
-use Rattle.dom_model.proofs.Move.{parent_apart}
-use Rattle.dom_model.proofs.Within.{within_self, within_child, within_parent, within_up, depth_of-parent}
+use Rattle.edit_model.specs.DomModel.declared.Content.{Content}
+use Rattle.edit_model.specs.DomModel.Forest.{Forest, Seen, times, count_of, IsDistinct, IsWithin, depth_of, parent_of, children_of, unlink}
+use Rattle.edit_model.proofs.DomModel.Links.{seen, parent_count, parent_of-unlink, parent_of-link, tree_of_absent}
+use Rattle.edit_model.proofs.DomModel.Move.{parent_apart}
+use Rattle.edit_model.proofs.DomModel.Within.{within_self, within_child, within_parent, within_up, depth_of-parent}
 use Rattle.edit_model.specs.State.{State}
 use Rattle.edit_model.specs.Confined.{may_move}
 use Rattle.edit_model.specs.Edit.{Move, is_made_edit, trees_after, edited}

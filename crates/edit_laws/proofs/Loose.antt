@@ -1,9 +1,9 @@
 -- What happens among loose trees leaves the document as it is.
 use Rattle.std.proofs.Common.{◌≡◌, ℕ, ◌<◌, zero, suc, List, [], ◌∷◌, Option, Some, None, refl, ap, ◌∙◌, inl, inr, arith}
 use Rattle.std.proofs.lemmas.Bool.{cases_Bool, ltb-true, lt-ltb}
-use Rattle.dom_model.specs.Forest.{count_of, parent_of, next_of, first_of, tree_of, put_under}
-use Rattle.dom_model.proofs.Totals.{put_under_nowhere}
-use Rattle.dom_model.proofs.DropTree.{without_absent}
+use Rattle.edit_model.specs.DomModel.Forest.{count_of, parent_of, next_of, first_of, tree_of, put_under}
+use Rattle.edit_model.proofs.DomModel.Totals.{put_under_nowhere}
+use Rattle.edit_model.proofs.DomModel.DropTree.{without_absent}
 use Rattle.edit_model.specs.State.{State}
 use Rattle.edit_model.specs.Confined.{may_move}
 use Rattle.edit_model.specs.Edit.{Move, is_made_edit, edited}

@@ -2,13 +2,13 @@
 use Rattle.std.proofs.Common.{◌≡◌, ℕ, ◌<◌, zero, suc, List, [], ◌∷◌, ◌++◌, reverse, Option, Some, None, refl, sym, ap, subst, ◌∙◌, arith, append_assoc}
 use Rattle.std.specs.Option.{option_map, option_map_or, option_and_then}
 use Rattle.std.proofs.lemmas.List.{append-nil, reverse-append}
-use Rattle.dom_model.specs.declared.Content.{Content}
-use Rattle.dom_model.specs.Forest.{Forest, Seen, times, tops, count_of, IsWithin, parent_of, children_of, next_of, after_in, first_in, seek, tree_of, join}
-use Rattle.dom_model.specs.Forest.Forest.{Nil, Tree}
-use Rattle.dom_model.specs.Places.{rest_in}
-use Rattle.dom_model.proofs.Lists.{times-append}
-use Rattle.dom_model.proofs.Links.{join-Nil, found_stands, parent_of_child}
-use Rattle.dom_model.proofs.Neighbours.{parent_of-next}
+use Rattle.edit_model.specs.DomModel.declared.Content.{Content}
+use Rattle.edit_model.specs.DomModel.Forest.{Forest, Seen, times, tops, count_of, IsWithin, parent_of, children_of, next_of, after_in, first_in, seek, tree_of, join}
+use Rattle.edit_model.specs.DomModel.Forest.Forest.{Nil, Tree}
+use Rattle.edit_model.specs.DomModel.Places.{rest_in}
+use Rattle.edit_model.proofs.DomModel.Lists.{times-append}
+use Rattle.edit_model.proofs.DomModel.Links.{join-Nil, found_stands, parent_of_child}
+use Rattle.edit_model.proofs.DomModel.Neighbours.{parent_of-next}
 use Rattle.edit_model.specs.State.{State}
 use Rattle.edit_model.specs.Kept.{borne_by, leaves}
 use Rattle.edit_model.specs.History.{document_of}

@@ -4,16 +4,16 @@ use Rattle.std.specs.Prelude.{nat_lt, unwrap_or, if◌then◌else◌}
 use Rattle.std.specs.Option.{option_map, option_map_or}
 use Rattle.std.proofs.lemmas.Bool.{and_parts, leb-true, or_cases}
 use Rattle.std.proofs.lemmas.Bool.Decides.{eqb_tells}
-use Rattle.dom_model.specs.declared.Content.{Content}
-use Rattle.dom_model.specs.Forest.{Forest, is_label, count_of, tree_of, preorder, parent_of, IsDistinct, IsWithin}
-use Rattle.dom_model.specs.Places.{index_of}
-use Rattle.dom_model.proofs.Totals.{total-without}
-use Rattle.dom_model.proofs.Within.{within_self, within_step}
-use Rattle.live_range.specs.declared.places.Point.{Point}
-use Rattle.live_range.specs.declared.places.Pair.{Pair}
-use Rattle.live_range.specs.LivePoints.{LivePoints, mapped}
-use Rattle.live_range.specs.PointsEdit as range
-use Rattle.live_range.specs.PointsEdit.{adjusted, adjusted_pair, has_label}
+use Rattle.edit_model.specs.DomModel.declared.Content.{Content}
+use Rattle.edit_model.specs.DomModel.Forest.{Forest, is_label, count_of, tree_of, preorder, parent_of, IsDistinct, IsWithin}
+use Rattle.edit_model.specs.DomModel.Places.{index_of}
+use Rattle.edit_model.proofs.DomModel.Totals.{total-without}
+use Rattle.edit_model.proofs.DomModel.Within.{within_self, within_step}
+use Rattle.edit_model.specs.LiveRange.declared.places.Point.{Point}
+use Rattle.edit_model.specs.LiveRange.declared.places.Pair.{Pair}
+use Rattle.edit_model.specs.LiveRange.LivePoints.{LivePoints, mapped}
+use Rattle.edit_model.specs.LiveRange.PointsEdit as range
+use Rattle.edit_model.specs.LiveRange.PointsEdit.{adjusted, adjusted_pair, has_label}
 use Rattle.edit_model.specs.State.{State}
 use Rattle.edit_model.specs.Confined.{is_editable_for, is_inside, is_made, is_open, is_own, may_select, may_grow, may_send}
 use Rattle.edit_model.specs.Edit.{Edit, Insert, Remove, Move, Replace, Set, Unset, index_before, is_made_edit, points_after, changed, with_change, edited}

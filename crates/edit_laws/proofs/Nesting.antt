@@ -2,17 +2,17 @@
 use Rattle.std.proofs.Common.{◌≡◌, ◌≢◌, ℕ, ◌<◌, zero, suc, Bool, true, false, cond, eqb, List, [], ◌∷◌, ◌++◌, Option, Some, None, refl, sym, ap, subst, ◌∙◌, inl, inr, arith}
 use Rattle.std.specs.Option.{option_map, option_map_or, option_and_then}
 use Rattle.std.proofs.lemmas.Bool.{cases_Bool, ne_eqb}
-use Rattle.dom_model.specs.declared.Content.{Content}
-use Rattle.dom_model.specs.declared.attributes.Attribute.{Attribute}
-use Rattle.dom_model.specs.Forest.{Forest, Seen, tops, first_in, after_in, count_of, seek, parent_of, children_of, next_of, content_of, tree_of, link, join}
-use Rattle.dom_model.specs.Forest.Forest.{Nil, Tree}
-use Rattle.dom_model.specs.Revised.{revised}
-use Rattle.dom_model.proofs.DropTree.{leaf_tree}
-use Rattle.dom_model.proofs.Stands.{Stands, Stands-tree_of, seek_Stands}
-use Rattle.dom_model.proofs.Links.{tree_of_absent, next_of-link, children_of-link, seek-with_leaf_new, eqb_refl_true}
-use Rattle.dom_model.proofs.Kept.{content_of-link}
-use Rattle.dom_model.proofs.Revising.{total-revised, parent_of-revised, children_of-revised, content_of-revised}
-use Rattle.dom_model.proofs.Within.{within_self}
+use Rattle.edit_model.specs.DomModel.declared.Content.{Content}
+use Rattle.edit_model.specs.DomModel.declared.attributes.Attribute.{Attribute}
+use Rattle.edit_model.specs.DomModel.Forest.{Forest, Seen, tops, first_in, after_in, count_of, seek, parent_of, children_of, next_of, content_of, tree_of, link, join}
+use Rattle.edit_model.specs.DomModel.Forest.Forest.{Nil, Tree}
+use Rattle.edit_model.specs.DomModel.Revised.{revised}
+use Rattle.edit_model.proofs.DomModel.DropTree.{leaf_tree}
+use Rattle.edit_model.proofs.DomModel.Stands.{Stands, Stands-tree_of, seek_Stands}
+use Rattle.edit_model.proofs.DomModel.Links.{tree_of_absent, next_of-link, children_of-link, seek-with_leaf_new, eqb_refl_true}
+use Rattle.edit_model.proofs.DomModel.Kept.{content_of-link}
+use Rattle.edit_model.proofs.DomModel.Revising.{total-revised, parent_of-revised, children_of-revised, content_of-revised}
+use Rattle.edit_model.proofs.DomModel.Within.{within_self}
 use Rattle.edit_model.specs.State.{State}
 use Rattle.edit_model.specs.Kept.{borne_by, leaves, is_thing}
 use Rattle.edit_model.specs.Confined.{may_insert, may_move, may_set, may_unset}

@@ -1,8 +1,8 @@
 -- Runs that insert a new element.
 use Rattle.std.proofs.Common.{◌≡◌, ℕ, Bool, true, false, if◌then◌else◌, List, [], ◌++◌, Option, Some, None, refl, ap, ◌∙◌}
-use Rattle.dom_model.specs.declared.attributes.Attribute.{Attribute}
-use Rattle.dom_model.specs.Forest.{tree_of}
-use Rattle.dom_model.specs.Forest.Forest.{Nil}
+use Rattle.edit_model.specs.DomModel.declared.attributes.Attribute.{Attribute}
+use Rattle.edit_model.specs.DomModel.Forest.{tree_of}
+use Rattle.edit_model.specs.DomModel.Forest.Forest.{Nil}
 use Rattle.edit_model.specs.State.{State}
 use Rattle.edit_model.specs.Kept.{leaves, is_thing}
 use Rattle.edit_model.specs.Action.{element_content, made}

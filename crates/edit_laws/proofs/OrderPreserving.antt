@@ -1,6 +1,6 @@
 -- Runs that keep the order, by their parts.
 use Rattle.std.proofs.Common.{ℕ, zero, suc, Bool, true, false, if◌then◌else◌, List, [], ◌∷◌, Option, Some, None}
-use Rattle.dom_model.specs.declared.attributes.Attribute.{Attribute}
+use Rattle.edit_model.specs.DomModel.declared.attributes.Attribute.{Attribute}
 use Rattle.edit_model.specs.State.{State}
 use Rattle.edit_model.specs.Edit.{Remove, Set, Unset, is_made_edit}
 use Rattle.edit_model.specs.Action.{Action, Change, MakeElement, MakeWords}

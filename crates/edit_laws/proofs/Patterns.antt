@@ -1,13 +1,13 @@
 -- The moves that keep the order, as changes of the list of the trees below one node.
 use Rattle.std.proofs.Common.{◌≡◌, ℕ, ◌+◌, false, cond, eqb, [], ◌++◌, Option, Some, None, refl, sym, ap, ◌∙◌, arith, append_assoc}
 use Rattle.std.proofs.lemmas.List.{append-nil}
-use Rattle.dom_model.specs.declared.Content.{Content}
-use Rattle.dom_model.specs.Forest.{Forest, first_in, tops, count_of, IsDistinct, seek, tree_of, without, put_before, put_under, join}
-use Rattle.dom_model.specs.Forest.Forest.{Nil, Tree}
-use Rattle.dom_model.proofs.Totals.{total-join, put_under_nowhere}
-use Rattle.dom_model.proofs.Stands.{seek_absent}
-use Rattle.dom_model.proofs.Links.{join-Nil, tree_of_absent, eqb_refl_true}
-use Rattle.dom_model.proofs.DropTree.{without_absent}
+use Rattle.edit_model.specs.DomModel.declared.Content.{Content}
+use Rattle.edit_model.specs.DomModel.Forest.{Forest, first_in, tops, count_of, IsDistinct, seek, tree_of, without, put_before, put_under, join}
+use Rattle.edit_model.specs.DomModel.Forest.Forest.{Nil, Tree}
+use Rattle.edit_model.proofs.DomModel.Totals.{total-join, put_under_nowhere}
+use Rattle.edit_model.proofs.DomModel.Stands.{seek_absent}
+use Rattle.edit_model.proofs.DomModel.Links.{join-Nil, tree_of_absent, eqb_refl_true}
+use Rattle.edit_model.proofs.DomModel.DropTree.{without_absent}
 use Rattle.edit_model.specs.Kept.{borne_by, leaves}
 use Rattle.edit_laws.proofs.Leaves.{leaves-Nil, leaves-Tree, leaves-join}
 use Rattle.edit_laws.proofs.Around.{off_by, self_one}

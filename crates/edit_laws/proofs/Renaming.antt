@@ -2,19 +2,19 @@
 use Rattle.std.proofs.Common.{◌≡◌, ◌≢◌, ℕ, Bool, true, false, ◌||◌, not, cond, eqb, if◌then◌else◌, List, [], ◌++◌, Option, Some, None, refl, sym, ap, subst, ◌∙◌, inl, inr, arith}
 use Rattle.std.proofs.lemmas.Bool.{cases_Bool, ne_eqb}
 use Rattle.std.proofs.lemmas.List.{append-nil}
-use Rattle.dom_model.specs.declared.Content.{Content}
-use Rattle.dom_model.specs.declared.Content.TheVariants.{Element}
-use Rattle.dom_model.specs.declared.attributes.Attribute.{Attribute}
-use Rattle.dom_model.specs.AttributeList.{are_distinct}
-use Rattle.dom_model.specs.Forest.{seek, count_of, IsWithin, parent_of, children_of, next_of, content_of, tree_of, link, with_leaf}
-use Rattle.dom_model.specs.Forest.Forest.{Nil, Tree}
-use Rattle.dom_model.proofs.Totals.{total-without}
-use Rattle.dom_model.proofs.Links.{parent_count, children_of-link, children_of-with_leaf, next_of-link, seek-with_leaf_new, eqb_refl_true}
-use Rattle.dom_model.proofs.Kept.{content_of-link, content_of-with_leaf_other}
+use Rattle.edit_model.specs.DomModel.declared.Content.{Content}
+use Rattle.edit_model.specs.DomModel.declared.Content.TheVariants.{Element}
+use Rattle.edit_model.specs.DomModel.declared.attributes.Attribute.{Attribute}
+use Rattle.edit_model.specs.DomModel.AttributeList.{are_distinct}
+use Rattle.edit_model.specs.DomModel.Forest.{seek, count_of, IsWithin, parent_of, children_of, next_of, content_of, tree_of, link, with_leaf}
+use Rattle.edit_model.specs.DomModel.Forest.Forest.{Nil, Tree}
+use Rattle.edit_model.proofs.DomModel.Totals.{total-without}
+use Rattle.edit_model.proofs.DomModel.Links.{parent_count, children_of-link, children_of-with_leaf, next_of-link, seek-with_leaf_new, eqb_refl_true}
+use Rattle.edit_model.proofs.DomModel.Kept.{content_of-link, content_of-with_leaf_other}
 use Rattle.edit_model.specs.State.{State}
 use Rattle.edit_model.specs.Kept.{borne_by, leaves, is_thing}
 use Rattle.edit_model.specs.Confined.{is_editable_for, may_insert}
-use Rattle.dom_model.specs.Contents.{has_name}
+use Rattle.edit_model.specs.DomModel.Contents.{has_name}
 use Rattle.edit_model.specs.Edit.{Insert, is_made_edit, trees_after, edited}
 use Rattle.edit_model.specs.Action.{MakeElement, element_content, made, acted}
 use Rattle.edit_model.specs.History.{document_of}

@@ -1,12 +1,12 @@
 -- What stays along a command is there when its loose trees have been dropped.
 use Rattle.std.proofs.Common.{◌≡◌, ℕ, ◌<◌, Bool, true, false, cond, eqb, [], ◌∷◌, ◌++◌, Option, Some, None, refl, sym, ap, subst, ◌∙◌, inl, inr, arith, append_assoc, true≢false}
 use Rattle.std.specs.List.{AllZip}
-use Rattle.dom_model.specs.declared.Content.{Content}
-use Rattle.dom_model.specs.Change as change
-use Rattle.dom_model.specs.Editing.{is_host}
-use Rattle.dom_model.specs.Forest.{Forest, count_of, tree_of, IsDistinct, IsWithin}
-use Rattle.dom_model.proofs.Totals.{total-without}
-use Rattle.dom_model.proofs.Stands.{seek_absent}
+use Rattle.edit_model.specs.DomModel.declared.Content.{Content}
+use Rattle.edit_model.specs.DomModel.Change as change
+use Rattle.edit_model.specs.DomModel.Editing.{is_host}
+use Rattle.edit_model.specs.DomModel.Forest.{Forest, count_of, tree_of, IsDistinct, IsWithin}
+use Rattle.edit_model.proofs.DomModel.Totals.{total-without}
+use Rattle.edit_model.proofs.DomModel.Stands.{seek_absent}
 use Rattle.edit_model.specs.State.{State}
 use Rattle.edit_model.specs.Edit.{Insert, Remove, Move, Replace, Set, Unset, change_of}
 use Rattle.edit_model.specs.Action as action

@@ -3,13 +3,13 @@
 use Rattle.std.proofs.Common.{◌≡◌, ◌≢◌, ℕ, ◌+◌, ◌<◌, Bool, true, false, ◌&&◌, [], ◌∷◌, ◌++◌, Some, None, refl, sym, ap, subst, ◌∙◌, arith}
 use Rattle.std.specs.Option.{option_and_then, option_map_or}
 use Rattle.std.proofs.lemmas.Bool.{ne_eqb}
-use Rattle.dom_model.specs.declared.Content.{Content}
-use Rattle.dom_model.specs.Contents.{is_parent_at}
-use Rattle.dom_model.specs.Forest.{Forest, Seen, times, tops, first_in, after_in, count_of, IsDistinct, parent_of, children_of, next_of, first_of, tree_of, without, join}
-use Rattle.dom_model.specs.Forest.Forest.{Nil, Tree}
-use Rattle.dom_model.proofs.Stands.{times-tops}
-use Rattle.dom_model.proofs.Lists.{after_in-middle}
-use Rattle.dom_model.proofs.Links.{eqb_refl_true, join-Nil}
+use Rattle.edit_model.specs.DomModel.declared.Content.{Content}
+use Rattle.edit_model.specs.DomModel.Contents.{is_parent_at}
+use Rattle.edit_model.specs.DomModel.Forest.{Forest, Seen, times, tops, first_in, after_in, count_of, IsDistinct, parent_of, children_of, next_of, first_of, tree_of, without, join}
+use Rattle.edit_model.specs.DomModel.Forest.Forest.{Nil, Tree}
+use Rattle.edit_model.proofs.DomModel.Stands.{times-tops}
+use Rattle.edit_model.proofs.DomModel.Lists.{after_in-middle}
+use Rattle.edit_model.proofs.DomModel.Links.{eqb_refl_true, join-Nil}
 use Rattle.edit_model.specs.State.{State}
 use Rattle.edit_model.specs.Kept.{borne_by, leaves}
 use Rattle.edit_model.specs.Confined.{is_open, is_place, may_move}

@@ -1,18 +1,18 @@
 -- A move that keeps the order, as one fact: the children of one node become others that bear the same.
 use Rattle.std.proofs.Common.{◌≡◌, ◌≢◌, ℕ, ◌+◌, ◌<◌, zero, suc, Bool, true, false, ◌&&◌, ◌||◌, not, cond, eqb, List, [], ◌∷◌, Option, Some, None, refl, sym, ap, subst, ◌∙◌, arith, true≢false, nat_lt}
 use Rattle.std.proofs.lemmas.Bool.{ne_eqb, eq-eqb, lt-ltb}
-use Rattle.dom_model.specs.declared.Content.{Content}
-use Rattle.dom_model.specs.Contents.{is_parent_at}
-use Rattle.dom_model.specs.Forest.{Forest, Seen, times, count_of, IsDistinct, IsWithin, seek, parent_of, tree_of, without, put_under, unlink}
-use Rattle.dom_model.specs.Forest.Forest.{Tree}
-use Rattle.dom_model.proofs.Totals.{total-without}
-use Rattle.dom_model.proofs.Links.{parent_count}
-use Rattle.dom_model.proofs.Move.{tree_of-unlink, parent_apart}
-use Rattle.dom_model.proofs.Within.{within_self, within_child, within_step}
+use Rattle.edit_model.specs.DomModel.declared.Content.{Content}
+use Rattle.edit_model.specs.DomModel.Contents.{is_parent_at}
+use Rattle.edit_model.specs.DomModel.Forest.{Forest, Seen, times, count_of, IsDistinct, IsWithin, seek, parent_of, tree_of, without, put_under, unlink}
+use Rattle.edit_model.specs.DomModel.Forest.Forest.{Tree}
+use Rattle.edit_model.proofs.DomModel.Totals.{total-without}
+use Rattle.edit_model.proofs.DomModel.Links.{parent_count}
+use Rattle.edit_model.proofs.DomModel.Move.{tree_of-unlink, parent_apart}
+use Rattle.edit_model.proofs.DomModel.Within.{within_self, within_child, within_step}
 use Rattle.edit_model.specs.State.{State}
 use Rattle.edit_model.specs.Kept.{leaves}
 use Rattle.edit_model.specs.Confined.{is_open, is_place, stands_so, may_go, may_move}
-use Rattle.point_order.specs.PointOrder.{is_within, is_in_document}
+use Rattle.edit_model.specs.PointOrder.PointOrder.{is_within, is_in_document}
 use Rattle.edit_model.specs.Edit.{Move, is_made_edit, trees_after, edited}
 use Rattle.edit_model.specs.History.{document_of}
 use Rattle.edit_model.specs.Valid.{IsValid}

@@ -7,19 +7,19 @@ use Rattle.std.proofs.lemmas.Bool.Decides.{leb_tells}
 use Rattle.std.proofs.lemmas.List.{append-nil, append_assoc, length-append, length-drop, map-append, take-append-drop}
 use Rattle.std.proofs.lemmas.Slice.Eq.{bytes_eq-Decides}
 use Rattle.std.proofs.Math.ListN.{drop_of_length-le}
-use Rattle.dom_model.specs.declared.Content.{Content}
-use Rattle.dom_model.specs.declared.Content.TheVariants.{Words}
-use Rattle.dom_model.specs.Contents.{is_parent_at, may_have_children, char_length, chars_in}
-use Rattle.dom_model.specs.Editing.{editing_host}
-use Rattle.dom_model.specs.Forest.{Forest, Seen, tops, times, is_label, count_of, IsWithin, seek, parent_of, next_of, content_of, tree_of, join, link, with_leaf, without, put_before, put_under, CanPut, IsDistinct}
-use Rattle.dom_model.specs.Forest.Forest.{Nil, Tree}
-use Rattle.dom_model.specs.Revised.{revised}
-use Rattle.dom_model.specs.Places.{index_of}
-use Rattle.dom_model.proofs.Totals.{put_under_nowhere}
-use Rattle.dom_model.proofs.Stands.{Stands, seek_absent}
-use Rattle.dom_model.proofs.Links.{join-Nil, eqb_refl_true, seen, parent_count, child_of_parent, parent_of-with_leaf}
-use Rattle.dom_model.proofs.Kept.{content_of-link, content_of-with_leaf_other}
-use Rattle.dom_model.proofs.Neighbours.{parent_of-next}
+use Rattle.edit_model.specs.DomModel.declared.Content.{Content}
+use Rattle.edit_model.specs.DomModel.declared.Content.TheVariants.{Words}
+use Rattle.edit_model.specs.DomModel.Contents.{is_parent_at, may_have_children, char_length, chars_in}
+use Rattle.edit_model.specs.DomModel.Editing.{editing_host}
+use Rattle.edit_model.specs.DomModel.Forest.{Forest, Seen, tops, times, is_label, count_of, IsWithin, seek, parent_of, next_of, content_of, tree_of, join, link, with_leaf, without, put_before, put_under, CanPut, IsDistinct}
+use Rattle.edit_model.specs.DomModel.Forest.Forest.{Nil, Tree}
+use Rattle.edit_model.specs.DomModel.Revised.{revised}
+use Rattle.edit_model.specs.DomModel.Places.{index_of}
+use Rattle.edit_model.proofs.DomModel.Totals.{put_under_nowhere}
+use Rattle.edit_model.proofs.DomModel.Stands.{Stands, seek_absent}
+use Rattle.edit_model.proofs.DomModel.Links.{join-Nil, eqb_refl_true, seen, parent_count, child_of_parent, parent_of-with_leaf}
+use Rattle.edit_model.proofs.DomModel.Kept.{content_of-link, content_of-with_leaf_other}
+use Rattle.edit_model.proofs.DomModel.Neighbours.{parent_of-next}
 use Rattle.edit_model.specs.State.{State}
 use Rattle.edit_model.specs.Kept.{Letter, borne_by, leaves}
 use Rattle.edit_model.specs.Confined.{spliced, is_inside, is_made, is_open, is_own, is_editable_for, is_place, may_change, may_insert, may_replace}

@@ -2,15 +2,15 @@
 use Rattle.std.proofs.Common.{◌≡◌, ◌≢◌, ℕ, ◌<◌, ◌≤◌, Bool, true, false, cond, eqb, List, Option, Some, None, refl, sym, ap, ◌∙◌, inl, inr, arith}
 use Rattle.std.specs.Option.{option_map}
 use Rattle.std.proofs.lemmas.Bool.{cases_Bool, cases_lt}
-use Rattle.dom_model.specs.declared.Content.{Content}
-use Rattle.dom_model.specs.declared.Content.TheVariants.{Document, Element, Words, Remark}
-use Rattle.dom_model.specs.Forest.{Forest, Seen, seek, count_of, tree_of, parent_of, content_of, link, unlink, CanPut, IsDistinct}
-use Rattle.dom_model.specs.Revised.{revised}
-use Rattle.dom_model.proofs.Kept.{content_of-link, content_of-unlink, content_of-with_leaf_other}
-use Rattle.dom_model.proofs.Links.{found_count}
-use Rattle.dom_model.proofs.Revising.{content_of-revised}
-use Rattle.dom_model.proofs.Stands.{Stands-count, Stands-tree_of, seek_Stands}
-use Rattle.dom_model.proofs.Totals.{total-without}
+use Rattle.edit_model.specs.DomModel.declared.Content.{Content}
+use Rattle.edit_model.specs.DomModel.declared.Content.TheVariants.{Document, Element, Words, Remark}
+use Rattle.edit_model.specs.DomModel.Forest.{Forest, Seen, seek, count_of, tree_of, parent_of, content_of, link, unlink, CanPut, IsDistinct}
+use Rattle.edit_model.specs.DomModel.Revised.{revised}
+use Rattle.edit_model.proofs.DomModel.Kept.{content_of-link, content_of-unlink, content_of-with_leaf_other}
+use Rattle.edit_model.proofs.DomModel.Links.{found_count}
+use Rattle.edit_model.proofs.DomModel.Revising.{content_of-revised}
+use Rattle.edit_model.proofs.DomModel.Stands.{Stands-count, Stands-tree_of, seek_Stands}
+use Rattle.edit_model.proofs.DomModel.Totals.{total-without}
 use Rattle.edit_model.specs.State.{State}
 use Rattle.edit_model.specs.Edit.{Edit, Insert, Remove, Move, Replace, Set, Unset, is_made_edit, trees_after, changed, with_change, with_replaced, with_set, with_unset}
 use Rattle.edit_model.specs.Action as action

@@ -1,8 +1,8 @@
 -- Runs that leave the states of contenteditable and the selection, by their parts.
 use Rattle.std.proofs.Common.{◌≡◌, ℕ, ◌+◌, Bool, true, false, ◌||◌, not, if◌then◌else◌, List, Option, Some, refl}
 use Rattle.std.proofs.lemmas.Bool.{or_parts, not-false}
-use Rattle.dom_model.specs.Contents.{has_name}
-use Rattle.dom_model.specs.Forest.{parent_of, children_of}
+use Rattle.edit_model.specs.DomModel.Contents.{has_name}
+use Rattle.edit_model.specs.DomModel.Forest.{parent_of, children_of}
 use Rattle.edit_model.specs.State.{State}
 use Rattle.edit_model.specs.Edit.{Edit}
 use Rattle.edit_model.specs.Action.{Action, Change, MakeElement, Unselect, Send, Grow}
@@ -12,7 +12,7 @@ use Rattle.edit_model.specs.Moves.{move_each_last}
 use Rattle.edit_model.specs.Laws.{LeavesStates, LeavesStatesOn}
 use Rattle.edit_model.specs.Valid.{IsValid}
 use Rattle.edit_model.specs.Run.{Reaches, here, onward, Run, ◌>>=◌, ◌>>◌, act, answer, done, look, given, for_each, while_at_most, edit, insert, remove, make_element, make_words, perform, send, grow}
-use Rattle.dom_model.specs.declared.attributes.Attribute.{Attribute}
+use Rattle.edit_model.specs.DomModel.declared.attributes.Attribute.{Attribute}
 use Rattle.edit_model.proofs.Each.{Each, EachOn, each_bind, each_answer, each_look, each_if, each_given, each_for_each, each_while, each_act, each_edit, each_make_element, each_make_words, each_perform, copy_stateless}
 use Rattle.edit_laws.specs.Steady.{IsSteady, SteadyOn, Steady}
 

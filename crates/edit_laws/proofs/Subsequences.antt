@@ -1,8 +1,8 @@
 -- Subsequences, and forests that bear the same in order.
 use Rattle.std.proofs.Common.{◌≡◌, List, [], ◌∷◌, ◌++◌, refl, ap, ◌∙◌}
 use Rattle.std.specs.List.{filter}
-use Rattle.dom_model.specs.declared.Content.{Content}
-use Rattle.dom_model.specs.Forest.{Forest}
+use Rattle.edit_model.specs.DomModel.declared.Content.{Content}
+use Rattle.edit_model.specs.DomModel.Forest.{Forest}
 use Rattle.edit_model.specs.Kept.{Leaf, leaves, is_kept, kept_leaves}
 use Rattle.edit_laws.specs.Order.{Subsequence, empty, both, left_out, KeepsLeaves}
 

@@ -5,15 +5,15 @@ use Rattle.std.specs.Option.{option_map, option_map_or, option_and_then}
 use Rattle.std.specs.Prelude.{codes, bytes_eq}
 use Rattle.std.proofs.lemmas.Bool.{cases_Bool}
 use Rattle.std.proofs.lemmas.List.{append-nil}
-use Rattle.dom_model.specs.declared.Content.{Content}
-use Rattle.dom_model.specs.Contents.{name_in, is_break, is_parent_at}
-use Rattle.dom_model.specs.Forest.{Forest, Seen, is_label, times, count_of, IsWithin, depth_of, parent_of, children_of, next_of, tree_of, unlink, join}
-use Rattle.dom_model.specs.Forest.Forest.{Nil, Tree}
-use Rattle.dom_model.proofs.Totals.{put_under_nowhere}
-use Rattle.dom_model.proofs.DropTree.{without_absent}
-use Rattle.dom_model.proofs.Links.{seen, parent_count, parent_of-unlink, join-Nil, eqb_refl_true}
-use Rattle.dom_model.proofs.Move.{tree_of-unlink}
-use Rattle.dom_model.proofs.Within.{within_self, within_parent}
+use Rattle.edit_model.specs.DomModel.declared.Content.{Content}
+use Rattle.edit_model.specs.DomModel.Contents.{name_in, is_break, is_parent_at}
+use Rattle.edit_model.specs.DomModel.Forest.{Forest, Seen, is_label, times, count_of, IsWithin, depth_of, parent_of, children_of, next_of, tree_of, unlink, join}
+use Rattle.edit_model.specs.DomModel.Forest.Forest.{Nil, Tree}
+use Rattle.edit_model.proofs.DomModel.Totals.{put_under_nowhere}
+use Rattle.edit_model.proofs.DomModel.DropTree.{without_absent}
+use Rattle.edit_model.proofs.DomModel.Links.{seen, parent_count, parent_of-unlink, join-Nil, eqb_refl_true}
+use Rattle.edit_model.proofs.DomModel.Move.{tree_of-unlink}
+use Rattle.edit_model.proofs.DomModel.Within.{within_self, within_parent}
 use Rattle.edit_model.specs.State.{State}
 use Rattle.edit_model.specs.Kept.{borne_by}
 use Rattle.edit_model.specs.Confined.{is_inside, is_made, is_own, is_open, is_editable_for, may_insert, may_remove, may_move}

@@ -1,7 +1,7 @@
 -- The children of a bare node come before it, and it goes: the order is kept.
 use Rattle.std.proofs.Common.{ℕ, List, [], sym}
 use Rattle.std.proofs.lemmas.List.{append-nil}
-use Rattle.dom_model.specs.Forest.{children_of}
+use Rattle.edit_model.specs.DomModel.Forest.{children_of}
 use Rattle.edit_model.specs.State.{State}
 use Rattle.edit_model.specs.Run.{Run, final, ◌>>=◌, ◌>>◌, done, remove}
 use Rattle.edit_model.specs.Moves.{move_before, move_all_before, unwrap}

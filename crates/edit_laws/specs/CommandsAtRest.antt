@@ -2,9 +2,9 @@
 -- its loose trees are dropped.
 use Rattle.std.specs.Prelude.{◌≡◌, ℕ, Bool, true, Option, Some, None, IsSome, IfSome}
 use Rattle.std.specs.List.{AllZip}
-use Rattle.dom_model.specs.Editing.{is_host}
-use Rattle.dom_model.specs.Forest.{tree_of}
-use Rattle.live_range.specs.declared.places.Pair.{Pair}
+use Rattle.edit_model.specs.DomModel.Editing.{is_host}
+use Rattle.edit_model.specs.DomModel.Forest.{tree_of}
+use Rattle.edit_model.specs.LiveRange.declared.places.Pair.{Pair}
 use Rattle.edit_model.specs.State.{State}
 use Rattle.edit_model.specs.Valid.{IsPlacedPair, IsValid}
 use Rattle.edit_model.specs.History.{begun, rested}

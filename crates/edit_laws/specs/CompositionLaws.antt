@@ -1,7 +1,7 @@
 -- The laws of order of unwrapping, of setting a tag name and of splitting a text.
 use Rattle.std.specs.Prelude.{◌≡◌, ℕ, true, false, List, Some}
-use Rattle.dom_model.specs.declared.Content.TheVariants.{Words}
-use Rattle.dom_model.specs.Forest.{IsWithin, content_of}
+use Rattle.edit_model.specs.DomModel.declared.Content.TheVariants.{Words}
+use Rattle.edit_model.specs.DomModel.Forest.{IsWithin, content_of}
 use Rattle.edit_model.specs.State.{State}
 use Rattle.edit_model.specs.Kept.{is_thing}
 use Rattle.edit_model.specs.Confined.{is_editable_for}

@@ -1,9 +1,9 @@
 -- What a command does to an island of its host.
 use Rattle.std.specs.Prelude.{◌≡◌, ◌≢◌, ◌⊎◌, ℕ, true, List, ◌∷◌, ◌++◌}
-use Rattle.dom_model.specs.declared.Content.{Content}
-use Rattle.dom_model.specs.Change.{Change}
-use Rattle.dom_model.specs.Change as change
-use Rattle.dom_model.specs.Forest.{Forest, tree_of, IsWithin}
+use Rattle.edit_model.specs.DomModel.declared.Content.{Content}
+use Rattle.edit_model.specs.DomModel.Change.{Change}
+use Rattle.edit_model.specs.DomModel.Change as change
+use Rattle.edit_model.specs.DomModel.Forest.{Forest, tree_of, IsWithin}
 use Rattle.edit_model.specs.State.{State}
 use Rattle.edit_model.specs.Confined.{is_own}
 use Rattle.edit_model.specs.Edit.{Remove, is_made_edit}

@@ -1,9 +1,9 @@
 -- What a node is for as long as it is there: its kind, and of an element its name.
 use Rattle.std.specs.Prelude.{◌≡◌, ◌⊎◌, ℕ, ◌<◌, ◌≤◌, List, Option, Some}
 use Rattle.std.specs.Option.{option_map}
-use Rattle.dom_model.specs.declared.Content.{Content}
-use Rattle.dom_model.specs.declared.Content.TheVariants as content
-use Rattle.dom_model.specs.Forest.{Forest, content_of}
+use Rattle.edit_model.specs.DomModel.declared.Content.{Content}
+use Rattle.edit_model.specs.DomModel.declared.Content.TheVariants as content
+use Rattle.edit_model.specs.DomModel.Forest.{Forest, content_of}
 
 pub data Kind : Type 0 where
   Document : Kind

@@ -1,9 +1,9 @@
 -- The laws of order of moves: each loop keeps the order where its nodes stand as said, whatever of
 -- it is left out.
 use Rattle.std.specs.Prelude.{◌≡◌, ◌≢◌, ℕ, List, [], ◌∷◌, ◌++◌, true, false, Some}
-use Rattle.dom_model.specs.declared.Content.{Content}
-use Rattle.dom_model.specs.Contents.{is_parent_at, is_break}
-use Rattle.dom_model.specs.Forest.{IsWithin, parent_of, children_of, next_of, content_of, tree_of}
+use Rattle.edit_model.specs.DomModel.declared.Content.{Content}
+use Rattle.edit_model.specs.DomModel.Contents.{is_parent_at, is_break}
+use Rattle.edit_model.specs.DomModel.Forest.{IsWithin, parent_of, children_of, next_of, content_of, tree_of}
 use Rattle.edit_model.specs.State.{State}
 use Rattle.edit_model.specs.Kept.{borne_by, leaves}
 use Rattle.edit_model.specs.Confined.{is_made, is_open}

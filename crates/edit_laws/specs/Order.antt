@@ -1,8 +1,8 @@
 -- What the document bears, in tree order, and what a command that keeps contents makes of it.
 use Rattle.std.specs.Prelude.{◌≡◌, true}
-use Rattle.dom_model.specs.declared.Content.{Content}
-use Rattle.dom_model.specs.Forest.{Forest}
-pub use Rattle.dom_model.specs.Subsequence.{Subsequence, empty, both, left_out}
+use Rattle.edit_model.specs.DomModel.declared.Content.{Content}
+use Rattle.edit_model.specs.DomModel.Forest.{Forest}
+pub use Rattle.edit_model.specs.DomModel.Subsequence.{Subsequence, empty, both, left_out}
 use Rattle.edit_model.specs.Kept.{leaves, kept_leaves}
 use Rattle.edit_model.specs.State.{State}
 use Rattle.edit_model.specs.History.{document_of}

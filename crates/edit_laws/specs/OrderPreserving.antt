@@ -1,6 +1,6 @@
 -- Runs that keep the order from each state: the certificate of an algorithm.
 use Rattle.std.specs.Prelude.{◌≡◌, ℕ, []}
-use Rattle.dom_model.specs.Forest.{tree_of}
+use Rattle.edit_model.specs.DomModel.Forest.{tree_of}
 use Rattle.edit_model.specs.Kept.{leaves}
 use Rattle.edit_model.specs.State.{State}
 use Rattle.edit_model.specs.Edit.{Insert, Move, Replace}

@@ -3,14 +3,14 @@ use Rattle.std.proofs.Common.{◌≡◌, ◌≢◌, ℕ, zero, suc, ◌<◌, tru
 use Rattle.std.specs.Prelude.{unwrap_or}
 use Rattle.std.specs.List.{AllZip}
 use Rattle.std.proofs.lemmas.Bool.{and_parts, cases_Bool, ne_eqb, eqb-false, le-ltb}
-use Rattle.dom_model.specs.Forest.{is_label, count_of, tree_of, preorder, parent_of, without, unlink, IsWithin}
-use Rattle.dom_model.specs.Places.{index_of}
-use Rattle.dom_model.proofs.Totals.{total-without}
-use Rattle.live_range.specs.declared.places.Point.{Point}
-use Rattle.live_range.specs.declared.places.Pair.{Pair}
-use Rattle.live_range.specs.PointsEdit as range
-use Rattle.live_range.specs.PointsEdit.{adjusted, adjusted_pair, has_label}
-use Rattle.live_range.specs.LivePoints.{LivePoints, mapped, at_pair}
+use Rattle.point_order.specs.DomModel.Forest.{is_label, count_of, tree_of, preorder, parent_of, without, unlink, IsWithin}
+use Rattle.point_order.specs.DomModel.Places.{index_of}
+use Rattle.point_order.proofs.DomModel.Totals.{total-without}
+use Rattle.point_order.specs.LiveRange.declared.places.Point.{Point}
+use Rattle.point_order.specs.LiveRange.declared.places.Pair.{Pair}
+use Rattle.point_order.specs.LiveRange.PointsEdit as range
+use Rattle.point_order.specs.LiveRange.PointsEdit.{adjusted, adjusted_pair, has_label}
+use Rattle.point_order.specs.LiveRange.LivePoints.{LivePoints, mapped, at_pair}
 use Rattle.edit_model.specs.State.{State}
 use Rattle.edit_model.specs.Confined.{is_open, is_own, may_select, may_grow, may_send}
 use Rattle.edit_model.specs.Edit.{Edit, Insert, Remove, Move, Replace, Set, Unset, is_made_edit, index_before, points_after, changed, with_change, edited}

@@ -1,8 +1,8 @@
 -- No action changes what is known of the running command: its host, whether it keeps contents, and where its labels begin.
 use Rattle.std.proofs.Common.{◌≡◌, ℕ, ◌&&◌, List, Option, Some, None, refl, ◌∙◌}
-use Rattle.dom_model.specs.declared.Content.{Content}
-use Rattle.live_range.specs.declared.places.Point.{Point}
-use Rattle.live_range.specs.declared.places.Pair.{Pair}
+use Rattle.point_order.specs.DomModel.declared.Content.{Content}
+use Rattle.point_order.specs.LiveRange.declared.places.Point.{Point}
+use Rattle.point_order.specs.LiveRange.declared.places.Pair.{Pair}
 use Rattle.edit_model.specs.State.{State}
 use Rattle.edit_model.specs.Confined.{may_select, may_grow, may_send}
 use Rattle.edit_model.specs.Edit.{Edit, is_made_edit, changed, with_change, edited}

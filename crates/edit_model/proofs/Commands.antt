@@ -1,8 +1,8 @@
 -- A command that begins in a valid state is confined, and what a keeping one removes bears nothing that is kept.
 use Rattle.std.proofs.Common.{◌≡◌, ℕ, ◌≤◌, Bool, true, false, ◌||◌, not, cond, eqb, Option, Some, None, sym, ap, ◌∙◌, arith, true≢false}
-use Rattle.dom_model.specs.declared.Content.{Content}
-use Rattle.dom_model.specs.Forest.{Forest, count_of, tree_of}
-use Rattle.dom_model.proofs.Totals.{total-without}
+use Rattle.point_order.specs.DomModel.declared.Content.{Content}
+use Rattle.point_order.specs.DomModel.Forest.{Forest, count_of, tree_of}
+use Rattle.point_order.proofs.DomModel.Totals.{total-without}
 use Rattle.edit_model.specs.State.{State}
 use Rattle.edit_model.specs.Kept.{has_no_kept_leaves}
 use Rattle.edit_model.specs.Edit.{Edit, Insert, Remove, Move, Replace, Set, Unset, is_made_edit}

@@ -1,10 +1,10 @@
 -- Splitting a text and setting a tag name leave the states of contenteditable.
 use Rattle.std.proofs.Common.{◌≡◌, ℕ, ◌+◌, Bool, true, ◌||◌, not, List, Some}
 use Rattle.std.proofs.lemmas.Bool.{or_parts, not-false}
-use Rattle.dom_model.specs.Forest.{parent_of, children_of}
+use Rattle.point_order.specs.DomModel.Forest.{parent_of, children_of}
 use Rattle.edit_model.specs.State.{State}
 use Rattle.edit_model.specs.Confined.{is_editable_for}
-use Rattle.dom_model.specs.Contents.{has_name}
+use Rattle.point_order.specs.DomModel.Contents.{has_name}
 use Rattle.edit_model.specs.Action.{Action, Send, Grow}
 use Rattle.edit_model.specs.Run.{◌>>=◌, ◌>>◌, answer, done, insert, remove, make_element, send, grow}
 use Rattle.edit_model.specs.Valid.{IsValid}

@@ -3,21 +3,21 @@ use Rattle.std.proofs.Common.{◌≡◌, ◌≢◌, ◌⊎◌, ℕ, zero, suc, �
 use Rattle.std.proofs.lemmas.Bool.Decides.{eqb_tells}
 use Rattle.std.proofs.lemmas.Bool.{le-ltb, eq-eqb, ne_eqb}
 use Rattle.std.specs.Option.{option_map, option_map_or}
-use Rattle.dom_model.specs.declared.Content.{Content}
-use Rattle.dom_model.specs.declared.Content.TheVariants.{Document, Element, Words, Remark}
-use Rattle.dom_model.specs.Contents.{is_parent_at, may_have_children, length_in, length_of}
-use Rattle.dom_model.specs.Forest.{Forest, Seen, total, times, is_label, put_in, taken_from, count_of, tree_of, parent_of, children_of, content_of, without, put_rising, put_before, put_under, link, unlink, with_leaf, IsDistinct, IsWithin, CanPut}
-use Rattle.dom_model.specs.Forest.Forest.{Nil, Tree}
-use Rattle.dom_model.specs.Places.{place_in, index_of}
-use Rattle.dom_model.specs.Revised.{revised}
-use Rattle.dom_model.proofs.Totals.{total-join, total-without, total-put_before, total-put_under}
-use Rattle.dom_model.proofs.Links.{children_of-link, children_of-unlink, children_of-with_leaf, times_n, tree_of_absent, p_of_n}
-use Rattle.dom_model.proofs.Move.{tree_of-unlink}
-use Rattle.dom_model.proofs.DropTree.{without_absent}
-use Rattle.dom_model.proofs.Within.{within_root, within_step, within_child}
-use Rattle.dom_model.proofs.Walks.{document_first}
-use Rattle.dom_model.proofs.Kept.{content_of-link, content_of-unlink, content_of-with_leaf_other}
-use Rattle.dom_model.proofs.Revising.{total-revised}
+use Rattle.point_order.specs.DomModel.declared.Content.{Content}
+use Rattle.point_order.specs.DomModel.declared.Content.TheVariants.{Document, Element, Words, Remark}
+use Rattle.point_order.specs.DomModel.Contents.{is_parent_at, may_have_children, length_in, length_of}
+use Rattle.point_order.specs.DomModel.Forest.{Forest, Seen, total, times, is_label, put_in, taken_from, count_of, tree_of, parent_of, children_of, content_of, without, put_rising, put_before, put_under, link, unlink, with_leaf, IsDistinct, IsWithin, CanPut}
+use Rattle.point_order.specs.DomModel.Forest.Forest.{Nil, Tree}
+use Rattle.point_order.specs.DomModel.Places.{place_in, index_of}
+use Rattle.point_order.specs.DomModel.Revised.{revised}
+use Rattle.point_order.proofs.DomModel.Totals.{total-join, total-without, total-put_before, total-put_under}
+use Rattle.point_order.proofs.DomModel.Links.{children_of-link, children_of-unlink, children_of-with_leaf, times_n, tree_of_absent, p_of_n}
+use Rattle.point_order.proofs.DomModel.Move.{tree_of-unlink}
+use Rattle.point_order.proofs.DomModel.DropTree.{without_absent}
+use Rattle.point_order.proofs.DomModel.Within.{within_root, within_step, within_child}
+use Rattle.point_order.proofs.DomModel.Walks.{document_first}
+use Rattle.point_order.proofs.DomModel.Kept.{content_of-link, content_of-unlink, content_of-with_leaf_other}
+use Rattle.point_order.proofs.DomModel.Revising.{total-revised}
 use Rattle.edit_model.specs.Valid.{IsForest}
 use Rattle.edit_model.proofs.Forests.{forest-unlink, inner_child, fresh}
 

@@ -3,14 +3,14 @@
 use Rattle.std.proofs.Common.{◌≡◌, ℕ, zero, suc, Bool, true, false, ◌||◌, cond, if◌then◌else◌, List, [], ◌∷◌, Option, Some, None, refl, sym, ◌∙◌, true≢false}
 use Rattle.std.specs.Prelude.{unwrap_or}
 use Rattle.std.specs.Option.{option_map_or, option_and_then}
-use Rattle.dom_model.specs.declared.Content.{Content}
-use Rattle.dom_model.specs.declared.Content.TheVariants.{Document, Element, Words, Remark}
-use Rattle.dom_model.specs.Contents.{is_element, attributes_in}
-use Rattle.dom_model.specs.Editing.{is_true_state, is_false_state, editing_host, is_editable}
-use Rattle.dom_model.specs.Forest.{Forest, parent_of, content_of}
-use Rattle.dom_model.proofs.Links.{parent_count}
-use Rattle.dom_model.proofs.Hosts.{editing_host-root, editing_host-child}
-use Rattle.dom_model.specs.declared.attributes.Attribute.{Attribute}
+use Rattle.point_order.specs.DomModel.declared.Content.{Content}
+use Rattle.point_order.specs.DomModel.declared.Content.TheVariants.{Document, Element, Words, Remark}
+use Rattle.point_order.specs.DomModel.Contents.{is_element, attributes_in}
+use Rattle.point_order.specs.DomModel.Editing.{is_true_state, is_false_state, editing_host, is_editable}
+use Rattle.point_order.specs.DomModel.Forest.{Forest, parent_of, content_of}
+use Rattle.point_order.proofs.DomModel.Links.{parent_count}
+use Rattle.point_order.proofs.DomModel.Hosts.{editing_host-root, editing_host-child}
+use Rattle.point_order.specs.DomModel.declared.attributes.Attribute.{Attribute}
 use Rattle.edit_model.specs.State.{State}
 use Rattle.edit_model.specs.Edit.{Edit}
 use Rattle.edit_model.specs.Action.{Action, Change, MakeElement, MakeWords}

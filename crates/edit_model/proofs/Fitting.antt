@@ -4,19 +4,19 @@ use Rattle.std.specs.Prelude.{nat_lt, nat_le}
 use Rattle.std.specs.Option.{option_map, option_map_or}
 use Rattle.std.proofs.lemmas.Bool.{and_parts, ltb-true, leb-true}
 use Rattle.std.proofs.lemmas.List.Elements.{All-weaker}
-use Rattle.dom_model.specs.declared.Content.{Content}
-use Rattle.dom_model.specs.declared.Content.TheVariants.{Document, Element, Words, Remark}
-use Rattle.dom_model.specs.Contents.{length_in, length_of, char_length}
-use Rattle.dom_model.specs.Forest.{Forest, Seen, seek, count_of, tree_of, preorder, children_of, link, unlink}
-use Rattle.dom_model.specs.Places.{index_of}
-use Rattle.dom_model.specs.Revised.{revised}
-use Rattle.dom_model.proofs.Few.{some_nodes}
-use Rattle.dom_model.proofs.Indexes.{length-children_of}
-use Rattle.live_range.specs.declared.places.Point.{Point}
-use Rattle.live_range.specs.declared.places.Pair.{Pair}
-use Rattle.live_range.specs.PointsEdit as range
-use Rattle.live_range.specs.PointsEdit.{adjusted, PointFits, PairFits}
-use Rattle.live_range.specs.LivePoints.{LivePoints, Fits}
+use Rattle.point_order.specs.DomModel.declared.Content.{Content}
+use Rattle.point_order.specs.DomModel.declared.Content.TheVariants.{Document, Element, Words, Remark}
+use Rattle.point_order.specs.DomModel.Contents.{length_in, length_of, char_length}
+use Rattle.point_order.specs.DomModel.Forest.{Forest, Seen, seek, count_of, tree_of, preorder, children_of, link, unlink}
+use Rattle.point_order.specs.DomModel.Places.{index_of}
+use Rattle.point_order.specs.DomModel.Revised.{revised}
+use Rattle.point_order.proofs.DomModel.Few.{some_nodes}
+use Rattle.point_order.proofs.DomModel.Indexes.{length-children_of}
+use Rattle.point_order.specs.LiveRange.declared.places.Point.{Point}
+use Rattle.point_order.specs.LiveRange.declared.places.Pair.{Pair}
+use Rattle.point_order.specs.LiveRange.PointsEdit as range
+use Rattle.point_order.specs.LiveRange.PointsEdit.{adjusted, PointFits, PairFits}
+use Rattle.point_order.specs.LiveRange.LivePoints.{LivePoints, Fits}
 use Rattle.point_order.specs.PointOrder.{is_in_document}
 use Rattle.edit_model.specs.State.{State}
 use Rattle.edit_model.specs.Edit.{index_before, parent_or_0, with_replaced}

@@ -1,22 +1,22 @@
 -- Each change of the trees keeps what holds of them.
 use Rattle.std.proofs.Common.{◌≡◌, ◌≢◌, ◌↔◌, ℕ, zero, suc, ◌+◌, ◌<◌, ◌≤◌, ◌^◌, true, false, cond, eqb, Option, Some, None, IfSome, refl, sym, ap, subst, ◌∙◌, inl, inr, arith}
 use Rattle.std.proofs.lemmas.Bool.Decides.{eqb_tells}
-use Rattle.dom_model.specs.declared.Content.{Content}
-use Rattle.dom_model.specs.declared.Content.TheVariants.{Document}
-use Rattle.dom_model.specs.AttributeList.{IsDistinctNames}
-use Rattle.dom_model.specs.Contents.{is_parent_at, may_have_children, attributes_in, char_length}
-use Rattle.dom_model.specs.Forest.{Forest, Seen, total, times, tops, count_of, tree_of, parent_of, content_of, without, put_rising, link, unlink, with_leaf, RisesFrom, CanPut}
-use Rattle.dom_model.specs.Revised.{revised}
+use Rattle.point_order.specs.DomModel.declared.Content.{Content}
+use Rattle.point_order.specs.DomModel.declared.Content.TheVariants.{Document}
+use Rattle.point_order.specs.DomModel.AttributeList.{IsDistinctNames}
+use Rattle.point_order.specs.DomModel.Contents.{is_parent_at, may_have_children, attributes_in, char_length}
+use Rattle.point_order.specs.DomModel.Forest.{Forest, Seen, total, times, tops, count_of, tree_of, parent_of, content_of, without, put_rising, link, unlink, with_leaf, RisesFrom, CanPut}
+use Rattle.point_order.specs.DomModel.Revised.{revised}
 use Rattle.std.specs.Option.{option_map, option_map_or}
-use Rattle.dom_model.proofs.Totals.{total-unlink}
-use Rattle.dom_model.proofs.Stands.{times-tops}
-use Rattle.dom_model.proofs.Links.{total-link, IsDistinct-link, parent_of-link_root, IsDistinct-unlink, tree_n, gone_n, parent_of-unlink_root, total-with_leaf, parent_of-with_leaf}
-use Rattle.dom_model.proofs.Rising.{RisesFrom-without, RisesFrom-put_under, RisesFrom-put_rising, RisesFrom-with_leaf}
-use Rattle.dom_model.proofs.Move.{CanPut-unlink}
-use Rattle.dom_model.proofs.Kept.{content_of-unlink}
-use Rattle.dom_model.proofs.Revising.{total-revised, RisesFrom-revised, parent_of-revised}
-use Rattle.dom_model.proofs.Few.{total-few}
-use Rattle.dom_model.proofs.NodesKept.{nodes-link, nodes-unlink, nodes-with_leaf, nodes-revised}
+use Rattle.point_order.proofs.DomModel.Totals.{total-unlink}
+use Rattle.point_order.proofs.DomModel.Stands.{times-tops}
+use Rattle.point_order.proofs.DomModel.Links.{total-link, IsDistinct-link, parent_of-link_root, IsDistinct-unlink, tree_n, gone_n, parent_of-unlink_root, total-with_leaf, parent_of-with_leaf}
+use Rattle.point_order.proofs.DomModel.Rising.{RisesFrom-without, RisesFrom-put_under, RisesFrom-put_rising, RisesFrom-with_leaf}
+use Rattle.point_order.proofs.DomModel.Move.{CanPut-unlink}
+use Rattle.point_order.proofs.DomModel.Kept.{content_of-unlink}
+use Rattle.point_order.proofs.DomModel.Revising.{total-revised, RisesFrom-revised, parent_of-revised}
+use Rattle.point_order.proofs.DomModel.Few.{total-few}
+use Rattle.point_order.proofs.DomModel.NodesKept.{nodes-link, nodes-unlink, nodes-with_leaf, nodes-revised}
 use Rattle.edit_model.specs.Valid.{IsForest}
 
 module _ (f : Forest Content) (next : ℕ) (is : IsForest f next) where

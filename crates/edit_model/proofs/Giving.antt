@@ -1,21 +1,18 @@
 -- What a call of one action gives of its run, where the action is made and where it is left out.
 use Rattle.std.proofs.Common.{◌≡◌, ℕ, ◌≤◌, true, false, List, Ok, Err, refl, sym, ap, ◌∙◌, arith}
-use Rattle.dom_model.specs.declared.Content.{Content}
-use Rattle.dom_model.specs.declared.Content.TheVariants.{Element}
-use Rattle.dom_model.specs.declared.attributes.Attribute.{Attribute}
-use Rattle.dom_model.specs.AttributeList.{IsDistinctNames}
-use Rattle.dom_model.specs.Forest.{Forest}
-use Rattle.dom_model.proofs.AttributeLemmas.{distinct_told}
-use Rattle.dom_model.proofs.NodesKept.{AreNodes}
-use Rattle.node_arena.specs.declared.NodeRef.{NodeRef}
+use Rattle.point_order.specs.DomModel.declared.Content.{Content}
+use Rattle.point_order.specs.DomModel.declared.Content.TheVariants.{Element}
+use Rattle.point_order.specs.DomModel.declared.attributes.Attribute.{Attribute}
+use Rattle.point_order.specs.DomModel.AttributeList.{IsDistinctNames}
+use Rattle.point_order.specs.DomModel.Forest.{Forest}
+use Rattle.point_order.proofs.DomModel.AttributeLemmas.{distinct_told}
+use Rattle.point_order.specs.NodeArena.declared.NodeRef.{NodeRef}
 use Rattle.edit_model.specs.declared.settings.EditFault.TheVariants.{Full}
 use Rattle.edit_model.specs.State.{State, IsPastCap}
 use Rattle.edit_model.specs.Edit.{Edit, is_made_edit, trees_after, points_after, changed, change_of, with_change, edited}
 use Rattle.edit_model.specs.Action.{made, words_content, element_content}
-use Rattle.edit_model.specs.Compositions.{attribute_list_of}
 use Rattle.edit_model.specs.Run.{final, edit, make_element, make_words}
 use Rattle.edit_model.specs.Gives.{Gives, GivesNode}
-use Rattle.edit_model.proofs.TailPlan.{attributes_distinct}
 use Rattle.edit_model.proofs.Steps.{final-edit, value-edit, final-make_element, value-make_element, final-make_words, value-make_words}
 
 -- ---- an edit
@@ -44,11 +41,7 @@ gives_left e s t off is = (final-edit e s ∙ (edited-left e s off ∙ sym is), 
 pub distinct_element : (name : List ℕ) (attributes : List Attribute) → IsDistinctNames attributes → element_content name attributes ≡ Element name attributes
 distinct_element name attributes distinct = rw (distinct_told attributes distinct) refl
 
--- so in a list of a node
-pub distinct_copy : (f : Forest Content) → AreNodes f → (n : ℕ) (name : List ℕ) → element_content name (attribute_list_of f n) ≡ Element name (attribute_list_of f n)
-distinct_copy f nodes n name = distinct_element name (attribute_list_of f n) (attributes_distinct f nodes n)
-
--- the run of it, then
+-- the run that makes it
 pub final_distinct_element : (name : List ℕ) (attributes : List Attribute) (s : State) → IsDistinctNames attributes → final (make_element name attributes) s ≡ made (Element name attributes) s
 final_distinct_element name attributes s distinct = final-make_element name attributes s ∙ ap (λ c. made c s) (distinct_element name attributes distinct)
 

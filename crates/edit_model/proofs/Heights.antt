@@ -1,14 +1,14 @@
 -- A document is no deeper after a run than it was or than its insertions and moves reach, whatever the run.
 use Rattle.std.proofs.Common.{◌≡◌, ℕ, ◌<◌, ◌≤◌, max, zero, suc, true, false, Bool, if◌then◌else◌, List, [], ◌∷◌, Option, Some, None, refl, sym, ap, subst, ◌∙◌, arith}
 use Rattle.std.proofs.lemmas.Bool.{and_parts}
-use Rattle.dom_model.specs.declared.Content.{Content}
-use Rattle.dom_model.specs.Document.{page_depth}
-use Rattle.dom_model.specs.Forest.{Forest, parent_of}
-use Rattle.dom_model.specs.Forest.Forest.{Tree}
-use Rattle.dom_model.proofs.Heights.{page_depth-link, page_depth-unlink, page_depth-move, page_depth-with_leaf, page_depth-revised}
-use Rattle.dom_model.proofs.Walks.{document_first}
-use Rattle.live_range.specs.declared.places.Pair.{Pair}
-use Rattle.live_range.specs.declared.places.Point.{Point}
+use Rattle.point_order.specs.DomModel.declared.Content.{Content}
+use Rattle.point_order.specs.DomModel.Document.{page_depth}
+use Rattle.point_order.specs.DomModel.Forest.{Forest, parent_of}
+use Rattle.point_order.specs.DomModel.Forest.Forest.{Tree}
+use Rattle.point_order.proofs.DomModel.Heights.{page_depth-link, page_depth-unlink, page_depth-move, page_depth-with_leaf, page_depth-revised}
+use Rattle.point_order.proofs.DomModel.Walks.{document_first}
+use Rattle.point_order.specs.LiveRange.declared.places.Pair.{Pair}
+use Rattle.point_order.specs.LiveRange.declared.places.Point.{Point}
 use Rattle.edit_model.specs.State.{State}
 use Rattle.edit_model.specs.Edit.{Edit, Insert, Remove, Move, Replace, Set, Unset, is_made_edit, trees_after, edited, changed, with_change, with_replaced, with_set, with_unset}
 use Rattle.edit_model.specs.Action as action

@@ -3,17 +3,17 @@ use Rattle.std.proofs.Common.{◌≡◌, ◌≢◌, ℕ, zero, suc, ◌+◌, ◌
 use Rattle.std.proofs.lemmas.Bool.Decides.{eqb_tells}
 use Rattle.std.proofs.lemmas.Bool.{ne_eqb, eq-eqb}
 use Rattle.std.specs.Option.{option_map}
-use Rattle.dom_model.specs.declared.Content.{Content}
-use Rattle.dom_model.specs.Contents.{is_element}
-use Rattle.dom_model.specs.Editing.{is_true_state, is_false_state, host_by, editing_host}
-use Rattle.dom_model.specs.Forest.{Forest, Seen, count_of, tree_of, parent_of, content_of, without, put_under, IsDistinct, IsWithin, depth_of}
-use Rattle.dom_model.specs.Forest.Forest.{Nil, Tree}
-use Rattle.dom_model.specs.Revised.{revised}
-use Rattle.dom_model.proofs.Totals.{total-join, total-without}
-use Rattle.dom_model.proofs.Links.{tree_of_absent, parent_count, seen}
-use Rattle.dom_model.proofs.Move.{parent_apart}
-use Rattle.dom_model.proofs.Within.{within_self, within_child, depth_of-parent}
-use Rattle.dom_model.proofs.Hosts.{editing_host-root, editing_host-child}
+use Rattle.point_order.specs.DomModel.declared.Content.{Content}
+use Rattle.point_order.specs.DomModel.Contents.{is_element}
+use Rattle.point_order.specs.DomModel.Editing.{is_true_state, is_false_state, host_by, editing_host}
+use Rattle.point_order.specs.DomModel.Forest.{Forest, Seen, count_of, tree_of, parent_of, content_of, without, put_under, IsDistinct, IsWithin, depth_of}
+use Rattle.point_order.specs.DomModel.Forest.Forest.{Nil, Tree}
+use Rattle.point_order.specs.DomModel.Revised.{revised}
+use Rattle.point_order.proofs.DomModel.Totals.{total-join, total-without}
+use Rattle.point_order.proofs.DomModel.Links.{tree_of_absent, parent_count, seen}
+use Rattle.point_order.proofs.DomModel.Move.{parent_apart}
+use Rattle.point_order.proofs.DomModel.Within.{within_self, within_child, depth_of-parent}
+use Rattle.point_order.proofs.DomModel.Hosts.{editing_host-root, editing_host-child}
 use Rattle.edit_model.specs.Outside.{hollowed}
 use Rattle.edit_model.specs.Valid.{IsForest}
 use Rattle.edit_model.proofs.Documents.{document_shape, part_of_tree, tree_inside, within_above}

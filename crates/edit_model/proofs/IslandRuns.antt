@@ -3,18 +3,18 @@ use Rattle.std.proofs.Common.{◌≡◌, ◌≢◌, ◌⊎◌, ℕ, ◌<◌, Boo
 use Rattle.std.specs.Prelude.{bytes_eq, codes}
 use Rattle.std.specs.Option.{option_map, option_map_or, option_and_then}
 use Rattle.std.proofs.lemmas.Bool.{and_parts, or_cases, cases_Bool, eq-eqb, leb-true, not-true, eqb-true}
-use Rattle.dom_model.specs.declared.Content.{Content}
-use Rattle.dom_model.specs.declared.Content.TheVariants.{Document, Element, Words, Remark}
-use Rattle.dom_model.specs.Contents.{is_element, name_in, may_have_children, is_break}
-use Rattle.dom_model.specs.Editing.{is_true_state, is_false_state, editing_host, is_host, is_editable}
-use Rattle.dom_model.specs.Forest.{Forest, Seen, is_label, tops, count_of, tree_of, parent_of, content_of, unlink, IsDistinct, IsWithin}
-use Rattle.dom_model.specs.Forest.Forest.{Nil, Tree}
-use Rattle.dom_model.proofs.Totals.{total-without, total-unlink}
-use Rattle.dom_model.proofs.Stands.{Stands, Stands-tree_of, seek_Stands}
-use Rattle.dom_model.proofs.Links.{seen, parent_count, tree_is}
-use Rattle.dom_model.proofs.Move.{parent_apart}
-use Rattle.dom_model.proofs.Within.{within_self}
-use Rattle.dom_model.proofs.Hosts.{editing_host-child, editing_host-root}
+use Rattle.point_order.specs.DomModel.declared.Content.{Content}
+use Rattle.point_order.specs.DomModel.declared.Content.TheVariants.{Document, Element, Words, Remark}
+use Rattle.point_order.specs.DomModel.Contents.{is_element, name_in, may_have_children, is_break}
+use Rattle.point_order.specs.DomModel.Editing.{is_true_state, is_false_state, editing_host, is_host, is_editable}
+use Rattle.point_order.specs.DomModel.Forest.{Forest, Seen, is_label, tops, count_of, tree_of, parent_of, content_of, unlink, IsDistinct, IsWithin}
+use Rattle.point_order.specs.DomModel.Forest.Forest.{Nil, Tree}
+use Rattle.point_order.proofs.DomModel.Totals.{total-without, total-unlink}
+use Rattle.point_order.proofs.DomModel.Stands.{Stands, Stands-tree_of, seek_Stands}
+use Rattle.point_order.proofs.DomModel.Links.{seen, parent_count, tree_is}
+use Rattle.point_order.proofs.DomModel.Move.{parent_apart}
+use Rattle.point_order.proofs.DomModel.Within.{within_self}
+use Rattle.point_order.proofs.DomModel.Hosts.{editing_host-child, editing_host-root}
 use Rattle.edit_model.specs.State.{State}
 use Rattle.edit_model.specs.Confined.{is_editable_for, is_inside, is_made, is_open, is_own}
 use Rattle.edit_model.specs.Edit.{Edit, Insert, Remove, Move, Replace, Set, Unset, is_made_edit, trees_after, changed, with_change, edited, with_replaced, with_set, with_unset}

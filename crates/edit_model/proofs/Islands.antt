@@ -2,15 +2,15 @@
 use Rattle.std.proofs.Common.{◌≡◌, ◌≢◌, ℕ, zero, suc, ◌<◌, Bool, true, false, ◌||◌, cond, eqb, Option, Some, None, refl, sym, ap, subst, ◌∙◌, inl, inr, arith, true≢false}
 use Rattle.std.specs.Option.{option_map}
 use Rattle.std.proofs.lemmas.Bool.Decides.{eqb_tells}
-use Rattle.dom_model.specs.declared.Content.{Content}
-use Rattle.dom_model.specs.Contents.{is_element}
-use Rattle.dom_model.specs.Editing.{is_true_state, is_false_state, host_by, editing_host}
-use Rattle.dom_model.specs.Forest.{Forest, Seen, count_of, tree_of, parent_of, content_of, without, put_under, put_rising, link, unlink, IsDistinct, IsWithin, CanPut, depth_of}
-use Rattle.dom_model.specs.Forest.Forest.{Nil, Tree}
-use Rattle.dom_model.proofs.Totals.{total-without}
-use Rattle.dom_model.proofs.Links.{seen, parent_count, tree, p_left, tree_n}
-use Rattle.dom_model.proofs.Within.{within_self, within_step, within_root, depth_of-parent}
-use Rattle.dom_model.proofs.Hosts.{editing_host-root, editing_host-child}
+use Rattle.point_order.specs.DomModel.declared.Content.{Content}
+use Rattle.point_order.specs.DomModel.Contents.{is_element}
+use Rattle.point_order.specs.DomModel.Editing.{is_true_state, is_false_state, host_by, editing_host}
+use Rattle.point_order.specs.DomModel.Forest.{Forest, Seen, count_of, tree_of, parent_of, content_of, without, put_under, put_rising, link, unlink, IsDistinct, IsWithin, CanPut, depth_of}
+use Rattle.point_order.specs.DomModel.Forest.Forest.{Nil, Tree}
+use Rattle.point_order.proofs.DomModel.Totals.{total-without}
+use Rattle.point_order.proofs.DomModel.Links.{seen, parent_count, tree, p_left, tree_n}
+use Rattle.point_order.proofs.DomModel.Within.{within_self, within_step, within_root, depth_of-parent}
+use Rattle.point_order.proofs.DomModel.Hosts.{editing_host-root, editing_host-child}
 use Rattle.edit_model.proofs.Trees.{none_or_some, tree_of-put_other, tree_of-put_moved, tree_of-without_other, tree_of-inside, tree_of-rising_other, tree_of-rising_moved}
 
 -- ---- a link and an unlink elsewhere

@@ -36,3 +36,5 @@ pub mod OwnRoots
 pub mod Each
 pub mod Composed
 pub mod Heights
+pub use Rattle.point_order.proofs.DomModel
+pub use Rattle.point_order.proofs.LiveRange

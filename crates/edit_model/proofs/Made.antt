@@ -1,17 +1,17 @@
 -- The trees after an edit that is made are valid, and the kept points are placed in them.
 use Rattle.std.proofs.Common.{◌≡◌, ◌↔◌, ℕ, ◌<◌, ◌^◌, true, List, length, Option, Some, IfSome, refl, sym, ap, subst}
 use Rattle.std.proofs.lemmas.Bool.{ltb-true, lt-ltb}
-use Rattle.dom_model.specs.declared.Content.{Content}
-use Rattle.dom_model.specs.declared.Content.TheVariants.{Document, Element, Words, Remark}
-use Rattle.dom_model.specs.AttributeList.{IsDistinctNames}
-use Rattle.dom_model.specs.Contents.{may_have_children, attributes_in, char_length, length_in}
-use Rattle.dom_model.specs.Forest.{Forest, count_of, tree_of, parent_of, content_of, link, unlink, IsWithin, preorder}
-use Rattle.dom_model.specs.Places.{index_of}
-use Rattle.dom_model.specs.Revised.{revised}
-use Rattle.dom_model.proofs.AttributeLemmas.{distinct-set, distinct-unset}
+use Rattle.point_order.specs.DomModel.declared.Content.{Content}
+use Rattle.point_order.specs.DomModel.declared.Content.TheVariants.{Document, Element, Words, Remark}
+use Rattle.point_order.specs.DomModel.AttributeList.{IsDistinctNames}
+use Rattle.point_order.specs.DomModel.Contents.{may_have_children, attributes_in, char_length, length_in}
+use Rattle.point_order.specs.DomModel.Forest.{Forest, count_of, tree_of, parent_of, content_of, link, unlink, IsWithin, preorder}
+use Rattle.point_order.specs.DomModel.Places.{index_of}
+use Rattle.point_order.specs.DomModel.Revised.{revised}
+use Rattle.point_order.proofs.DomModel.AttributeLemmas.{distinct-set, distinct-unset}
 use Rattle.std.specs.Prelude.{unwrap_or}
-use Rattle.live_range.specs.PointsEdit as range
-use Rattle.live_range.specs.LivePoints.{mapped}
+use Rattle.point_order.specs.LiveRange.PointsEdit as range
+use Rattle.point_order.specs.LiveRange.LivePoints.{mapped}
 use Rattle.edit_model.specs.State.{State}
 use Rattle.edit_model.specs.Edit.{Edit, Insert, Remove, Move, Replace, Set, Unset, is_made_edit, trees_after, points_after, index_before, parent_or_0, with_replaced, with_set, with_unset}
 use Rattle.edit_model.specs.Confined.{spliced}

@@ -3,13 +3,13 @@ use Rattle.std.proofs.Common.{◌≡◌, ◌≢◌, ℕ, zero, suc, ◌<◌, tru
 use Rattle.std.specs.Prelude.{unwrap_or}
 use Rattle.std.specs.Option.{option_map_or}
 use Rattle.std.proofs.lemmas.Bool.{or_cases, leb-true}
-use Rattle.dom_model.specs.declared.Content.{Content}
+use Rattle.point_order.specs.DomModel.declared.Content.{Content}
 use Rattle.edit_model.specs.Overrides.{with_setting}
-use Rattle.dom_model.specs.Editing.{editing_host, is_editable}
-use Rattle.dom_model.specs.Forest.{Forest, is_label, count_of, tree_of, unlink, with_leaf}
-use Rattle.dom_model.proofs.Totals.{total-without}
-use Rattle.live_range.specs.declared.places.Point.{Point}
-use Rattle.live_range.specs.declared.places.Pair.{Pair}
+use Rattle.point_order.specs.DomModel.Editing.{editing_host, is_editable}
+use Rattle.point_order.specs.DomModel.Forest.{Forest, is_label, count_of, tree_of, unlink, with_leaf}
+use Rattle.point_order.proofs.DomModel.Totals.{total-without}
+use Rattle.point_order.specs.LiveRange.declared.places.Point.{Point}
+use Rattle.point_order.specs.LiveRange.declared.places.Pair.{Pair}
 use Rattle.edit_model.specs.State.{State}
 use Rattle.edit_model.specs.Confined.{is_editable_for, is_inside, is_made, is_open, is_own, may_select, may_grow, may_send}
 use Rattle.edit_model.specs.Edit.{Edit, Insert, Remove, Move, Replace, Set, Unset, is_made_edit, trees_after, changed, with_change, edited, with_replaced, with_set, with_unset}

@@ -3,16 +3,16 @@ use Rattle.std.proofs.Common.{◌≡◌, ◌≢◌, ◌⊎◌, ℕ, zero, suc, �
 use Rattle.std.specs.Option.{option_map, option_map_or}
 use Rattle.std.proofs.lemmas.Bool.{and_parts, or_cases, or_parts, cases_Bool, cases_lt, eqb-true, leb-false, leb-true, not-true}
 use Rattle.std.proofs.lemmas.Bool.Decides.{eqb_tells}
-use Rattle.dom_model.specs.declared.Content.{Content}
-use Rattle.dom_model.specs.Contents.{is_element, is_break}
-use Rattle.dom_model.specs.Editing.{contenteditable, is_true_state, is_false_state, editing_host, is_host, is_editable}
-use Rattle.dom_model.specs.Forest.{Forest, Seen, is_label, count_of, tree_of, parent_of, content_of, IsDistinct, IsWithin, depth_of}
-use Rattle.dom_model.proofs.Totals.{total-without}
-use Rattle.dom_model.proofs.Stands.{seek_absent}
-use Rattle.dom_model.proofs.Links.{parent_count, tree_is, tree_of_absent}
-use Rattle.dom_model.proofs.Move.{parent_apart}
-use Rattle.dom_model.proofs.Within.{within_self, within_parent, within_step, depth_of-parent, within_up}
-use Rattle.dom_model.proofs.Hosts.{editing_host-child}
+use Rattle.point_order.specs.DomModel.declared.Content.{Content}
+use Rattle.point_order.specs.DomModel.Contents.{is_element, is_break}
+use Rattle.point_order.specs.DomModel.Editing.{contenteditable, is_true_state, is_false_state, editing_host, is_host, is_editable}
+use Rattle.point_order.specs.DomModel.Forest.{Forest, Seen, is_label, count_of, tree_of, parent_of, content_of, IsDistinct, IsWithin, depth_of}
+use Rattle.point_order.proofs.DomModel.Totals.{total-without}
+use Rattle.point_order.proofs.DomModel.Stands.{seek_absent}
+use Rattle.point_order.proofs.DomModel.Links.{parent_count, tree_is, tree_of_absent}
+use Rattle.point_order.proofs.DomModel.Move.{parent_apart}
+use Rattle.point_order.proofs.DomModel.Within.{within_self, within_parent, within_step, depth_of-parent, within_up}
+use Rattle.point_order.proofs.DomModel.Hosts.{editing_host-child}
 use Rattle.edit_model.specs.State.{State}
 use Rattle.edit_model.specs.Confined.{is_editable_for, is_inside, is_made, is_open, is_own}
 use Rattle.edit_model.specs.Edit.{Insert, Remove, Move, Replace, Set, Unset, is_made_edit}

@@ -5,21 +5,21 @@ use Rattle.std.specs.Option.{option_map, option_map_or}
 use Rattle.std.proofs.lemmas.Bool.{and_parts, and_from, ltb-true, leb-true, lt-ltb, le-leb, le-ltb, eq-eqb, ne_eqb, cases_lt}
 use Rattle.std.proofs.lemmas.Bool.Decides.{eqb_tells, nat_tests}
 use Rattle.std.proofs.lemmas.List.Elements.{All-map, All-weaker}
-use Rattle.dom_model.specs.declared.Content.{Content}
-use Rattle.dom_model.specs.declared.Content.TheVariants.{Words}
-use Rattle.dom_model.specs.Contents.{is_parent_at, length_in, length_of}
-use Rattle.dom_model.specs.Forest.{Forest, times, count_of, tree_of, preorder_onto, preorder, parent_of, children_of, content_of, link, unlink, with_leaf, IsWithin, CanPut}
-use Rattle.dom_model.specs.Forest.Forest.{Nil, Tree}
-use Rattle.dom_model.specs.Places.{index_of}
-use Rattle.dom_model.specs.Revised.{revised}
-use Rattle.dom_model.proofs.Totals.{total-without}
-use Rattle.dom_model.proofs.Move.{parent_apart}
-use Rattle.dom_model.proofs.Revising.{children_of-revised, content_of-revised}
-use Rattle.live_range.specs.declared.places.Point.{Point}
-use Rattle.live_range.specs.declared.places.Pair.{Pair}
-use Rattle.live_range.specs.PointsEdit as range
-use Rattle.live_range.specs.PointsEdit.{adjusted, adjusted_pair, with_offset, after_insert, after_removal, after_replacement, after_loss, has_label, PointFits, PairFits}
-use Rattle.live_range.specs.LivePoints.{LivePoints, mapped, at_pair}
+use Rattle.point_order.specs.DomModel.declared.Content.{Content}
+use Rattle.point_order.specs.DomModel.declared.Content.TheVariants.{Words}
+use Rattle.point_order.specs.DomModel.Contents.{is_parent_at, length_in, length_of}
+use Rattle.point_order.specs.DomModel.Forest.{Forest, times, count_of, tree_of, preorder_onto, preorder, parent_of, children_of, content_of, link, unlink, with_leaf, IsWithin, CanPut}
+use Rattle.point_order.specs.DomModel.Forest.Forest.{Nil, Tree}
+use Rattle.point_order.specs.DomModel.Places.{index_of}
+use Rattle.point_order.specs.DomModel.Revised.{revised}
+use Rattle.point_order.proofs.DomModel.Totals.{total-without}
+use Rattle.point_order.proofs.DomModel.Move.{parent_apart}
+use Rattle.point_order.proofs.DomModel.Revising.{children_of-revised, content_of-revised}
+use Rattle.point_order.specs.LiveRange.declared.places.Point.{Point}
+use Rattle.point_order.specs.LiveRange.declared.places.Pair.{Pair}
+use Rattle.point_order.specs.LiveRange.PointsEdit as range
+use Rattle.point_order.specs.LiveRange.PointsEdit.{adjusted, adjusted_pair, with_offset, after_insert, after_removal, after_replacement, after_loss, has_label, PointFits, PairFits}
+use Rattle.point_order.specs.LiveRange.LivePoints.{LivePoints, mapped, at_pair}
 use Rattle.point_order.specs.PointOrder.{is_in_document, is_placed}
 use Rattle.edit_model.specs.Edit.{index_before, with_replaced}
 use Rattle.edit_model.specs.Confined.{spliced}

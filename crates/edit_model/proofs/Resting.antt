@@ -2,13 +2,13 @@
 use Rattle.std.proofs.Common.{◌≡◌, ℕ, ◌≤◌, cond, eqb, [], length, Option, Some, None, refl, sym, ap, subst, ◌∙◌, inl, inr, arith}
 use Rattle.std.specs.Option.{option_map, option_map_or}
 use Rattle.std.proofs.lemmas.Bool.Decides.{eqb_tells}
-use Rattle.dom_model.specs.declared.Content.{Content}
-use Rattle.dom_model.specs.Contents.{length_of, length_in}
-use Rattle.dom_model.specs.Forest.{Forest, Seen, seek, either, count_of, tree_of, parent_of, IsDistinct, IsWithin, RisesFrom}
-use Rattle.dom_model.specs.Forest.Forest.{Nil, Tree}
-use Rattle.dom_model.proofs.Totals.{total-without}
-use Rattle.dom_model.proofs.Stands.{Stands-count, seek_Stands}
-use Rattle.dom_model.proofs.Within.{within_self}
+use Rattle.point_order.specs.DomModel.declared.Content.{Content}
+use Rattle.point_order.specs.DomModel.Contents.{length_of, length_in}
+use Rattle.point_order.specs.DomModel.Forest.{Forest, Seen, seek, either, count_of, tree_of, parent_of, IsDistinct, IsWithin, RisesFrom}
+use Rattle.point_order.specs.DomModel.Forest.Forest.{Nil, Tree}
+use Rattle.point_order.proofs.DomModel.Totals.{total-without}
+use Rattle.point_order.proofs.DomModel.Stands.{Stands-count, seek_Stands}
+use Rattle.point_order.proofs.DomModel.Within.{within_self}
 use Rattle.edit_model.specs.State.{State}
 use Rattle.edit_model.specs.Overrides.{no_overrides}
 use Rattle.edit_model.specs.History.{View, view_of, at_view, rested}

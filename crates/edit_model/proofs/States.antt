@@ -6,19 +6,19 @@ use Rattle.std.specs.Char.{to_ascii_lowercase}
 use Rattle.std.proofs.lemmas.Bool.{cases_Bool}
 use Rattle.std.proofs.lemmas.Bool.Decides.{eqb_tells}
 use Rattle.std.proofs.lemmas.Slice.Eq.{bytes_eq-Decides}
-use Rattle.dom_model.specs.declared.Content.{Content}
-use Rattle.dom_model.specs.declared.Content.TheVariants.{Document, Element, Words, Remark}
-use Rattle.dom_model.specs.declared.attributes.Attribute.{Attribute}
-use Rattle.dom_model.specs.AttributeList.{value_of, set_in, unset_in, are_distinct}
-use Rattle.dom_model.specs.Contents.{name_in, attributes_in}
-use Rattle.dom_model.specs.Editing.{contenteditable, is_true_state, is_false_state, editing_host, is_host}
-use Rattle.dom_model.specs.Forest.{Forest, Seen, count_of, content_of, unlink, with_leaf}
-use Rattle.dom_model.specs.Revised.{revised}
-use Rattle.dom_model.proofs.Stands.{seek_absent}
+use Rattle.point_order.specs.DomModel.declared.Content.{Content}
+use Rattle.point_order.specs.DomModel.declared.Content.TheVariants.{Document, Element, Words, Remark}
+use Rattle.point_order.specs.DomModel.declared.attributes.Attribute.{Attribute}
+use Rattle.point_order.specs.DomModel.AttributeList.{value_of, set_in, unset_in, are_distinct}
+use Rattle.point_order.specs.DomModel.Contents.{name_in, attributes_in}
+use Rattle.point_order.specs.DomModel.Editing.{contenteditable, is_true_state, is_false_state, editing_host, is_host}
+use Rattle.point_order.specs.DomModel.Forest.{Forest, Seen, count_of, content_of, unlink, with_leaf}
+use Rattle.point_order.specs.DomModel.Revised.{revised}
+use Rattle.point_order.proofs.DomModel.Stands.{seek_absent}
 use Rattle.edit_model.proofs.Trees.{none_or_some}
-use Rattle.dom_model.proofs.Kept.{content_of-link, content_of-unlink, content_of-with_leaf_other, content_of-with_leaf_new}
-use Rattle.dom_model.proofs.Revising.{content_of-revised}
-use Rattle.live_range.specs.declared.places.Point.{Point}
+use Rattle.point_order.proofs.DomModel.Kept.{content_of-link, content_of-unlink, content_of-with_leaf_other, content_of-with_leaf_new}
+use Rattle.point_order.proofs.DomModel.Revising.{content_of-revised}
+use Rattle.point_order.specs.LiveRange.declared.places.Point.{Point}
 use Rattle.edit_model.specs.State.{State}
 use Rattle.edit_model.specs.Edit.{Edit, Insert, Remove, Move, Replace, Set, Unset, is_made_edit, trees_after, edited, changed, with_change, with_replaced, with_set, with_unset}
 use Rattle.edit_model.specs.Action as action

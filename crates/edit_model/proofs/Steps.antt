@@ -5,11 +5,11 @@ use Rattle.std.proofs.Math.Seq.{take-length}
 use Rattle.std.proofs.Math.ListN.{drop_of_length-le}
 use Rattle.std.specs.Result.{IsErrAnd}
 use Rattle.std.specs.Prelude.{insert}
-use Rattle.dom_model.specs.declared.attributes.Attribute.{Attribute}
-use Rattle.dom_model.specs.Forest.{first_in, last_or, last_in}
-use Rattle.live_range.specs.declared.places.Pair.{Pair}
-use Rattle.live_range.specs.declared.places.Point.{Point}
-use Rattle.node_arena.specs.declared.NodeRef.{NodeRef}
+use Rattle.point_order.specs.DomModel.declared.attributes.Attribute.{Attribute}
+use Rattle.point_order.specs.DomModel.Forest.{first_in, last_or, last_in}
+use Rattle.point_order.specs.LiveRange.declared.places.Pair.{Pair}
+use Rattle.point_order.specs.LiveRange.declared.places.Point.{Point}
+use Rattle.point_order.specs.NodeArena.declared.NodeRef.{NodeRef}
 use Rattle.edit_model.specs.declared.settings.EditFault.{EditFault}
 use Rattle.edit_model.specs.declared.settings.EditFault.TheVariants.{Full, Memory}
 use Rattle.edit_model.specs.State.{State, IsPastCap}

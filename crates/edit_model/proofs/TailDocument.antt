@@ -2,13 +2,13 @@
 use Rattle.std.proofs.Common.{◌≡◌, ◌⊎◌, ℕ, zero, suc, ◌+◌, ◌<◌, ◌≤◌, true, false, cond, eqb, List, [], ◌∷◌, ◌++◌, drop, Option, Some, None, refl, sym, ap, subst, ◌∙◌, inl, inr, arith, true≢false}
 use Rattle.std.specs.Option.{option_map_or}
 use Rattle.std.proofs.lemmas.Bool.{and_parts, cases_Bool, ne_eqb, lt-ltb}
-use Rattle.dom_model.specs.declared.Content.{Content}
-use Rattle.dom_model.specs.Forest.{Forest, count_of, tree_of, parent_of, children_of, IsDistinct, IsWithin, CanPut}
-use Rattle.dom_model.proofs.Totals.{total-without}
-use Rattle.dom_model.proofs.Within.{within_child, within_self}
-use Rattle.dom_model.proofs.Move.{tree_of-unlink}
-use Rattle.dom_model.proofs.NodesKept.{AreNodes}
-use Rattle.live_range.specs.declared.places.Point.{Point}
+use Rattle.point_order.specs.DomModel.declared.Content.{Content}
+use Rattle.point_order.specs.DomModel.Forest.{Forest, count_of, tree_of, parent_of, children_of, IsDistinct, IsWithin, CanPut}
+use Rattle.point_order.proofs.DomModel.Totals.{total-without}
+use Rattle.point_order.proofs.DomModel.Within.{within_child, within_self}
+use Rattle.point_order.proofs.DomModel.Move.{tree_of-unlink}
+use Rattle.point_order.proofs.DomModel.NodesKept.{AreNodes}
+use Rattle.point_order.specs.LiveRange.declared.places.Point.{Point}
 use Rattle.point_order.specs.PointOrder.{child_toward}
 use Rattle.edit_model.specs.State.{State}
 use Rattle.edit_model.specs.Edit.{Insert, Remove, is_made_edit, trees_after, changed, with_change}

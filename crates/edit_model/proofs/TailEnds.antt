@@ -2,15 +2,15 @@
 use Rattle.std.proofs.Common.{◌≡◌, ℕ, zero, suc, ◌+◌, ◌<◌, ◌≤◌, true, false, eqb, [], ◌∷◌, ◌++◌, drop, Option, Some, None, refl, sym, ap, ◌∙◌, inl, inr, arith}
 use Rattle.std.specs.Option.{option_map_or}
 use Rattle.std.proofs.lemmas.Bool.{cases_Bool, ne_eqb}
-use Rattle.dom_model.specs.declared.Content.{Content}
-use Rattle.dom_model.specs.Forest.{Forest, total, count_of, tree_of, parent_of, children_of, IsDistinct}
-use Rattle.dom_model.specs.Forest.Forest.{Nil, Tree}
-use Rattle.dom_model.proofs.Totals.{total-without}
-use Rattle.dom_model.proofs.Links.{tree_is, parent_count, join-Nil}
-use Rattle.dom_model.proofs.Stands.{seek_absent}
-use Rattle.dom_model.proofs.Within.{within_child, within_self}
-use Rattle.dom_model.proofs.Move.{parent_apart}
-use Rattle.live_range.specs.declared.places.Point.{Point}
+use Rattle.point_order.specs.DomModel.declared.Content.{Content}
+use Rattle.point_order.specs.DomModel.Forest.{Forest, total, count_of, tree_of, parent_of, children_of, IsDistinct}
+use Rattle.point_order.specs.DomModel.Forest.Forest.{Nil, Tree}
+use Rattle.point_order.proofs.DomModel.Totals.{total-without}
+use Rattle.point_order.proofs.DomModel.Links.{tree_is, parent_count, join-Nil}
+use Rattle.point_order.proofs.DomModel.Stands.{seek_absent}
+use Rattle.point_order.proofs.DomModel.Within.{within_child, within_self}
+use Rattle.point_order.proofs.DomModel.Move.{parent_apart}
+use Rattle.point_order.specs.LiveRange.declared.places.Point.{Point}
 use Rattle.point_order.specs.PointOrder.{is_within, child_toward}
 use Rattle.edit_model.specs.State.{State}
 use Rattle.edit_model.specs.Edit.{Insert}

@@ -2,11 +2,11 @@
 use Rattle.std.proofs.Common.{◌≡◌, ℕ, ◌+◌, ◌<◌, ◌≤◌, false, cond, eqb, Option, Some, refl, sym, ap, subst, ◌∙◌, inl, inr, arith, nat_lt}
 use Rattle.std.proofs.lemmas.Bool.Decides.{eqb_tells}
 use Rattle.std.proofs.lemmas.Bool.{cases_Bool}
-use Rattle.dom_model.specs.Forest.{Forest, join, is_label, count_of, tree_of, parent_of, without, put_before, put_under, put_rising, link, unlink, with_leaf, IsDistinct, IsWithin, CanPut}
-use Rattle.dom_model.specs.Forest.Forest.{Nil, Tree}
-use Rattle.dom_model.proofs.Totals.{total-join, total-without, total-put_before}
-use Rattle.dom_model.proofs.Links.{tree_n, tree_of_absent, parent_of-link, seen, IsDistinct-link, total-link}
-use Rattle.dom_model.proofs.Within.{within_child, within_self}
+use Rattle.point_order.specs.DomModel.Forest.{Forest, join, is_label, count_of, tree_of, parent_of, without, put_before, put_under, put_rising, link, unlink, with_leaf, IsDistinct, IsWithin, CanPut}
+use Rattle.point_order.specs.DomModel.Forest.Forest.{Nil, Tree}
+use Rattle.point_order.proofs.DomModel.Totals.{total-join, total-without, total-put_before}
+use Rattle.point_order.proofs.DomModel.Links.{tree_n, tree_of_absent, parent_of-link, seen, IsDistinct-link, total-link}
+use Rattle.point_order.proofs.DomModel.Within.{within_child, within_self}
 use Rattle.edit_model.proofs.Trees.{tree_of-rising_other, within_trans}
 use Rattle.edit_model.proofs.Islands.{link_elsewhere}
 

@@ -1,14 +1,14 @@
 -- Extracting a tail leaves each tree that has neither the point's node nor the target.
 use Rattle.std.proofs.Common.{◌≡◌, ◌⊎◌, ℕ, ◌<◌, ◌≤◌, true, cond, eqb, Option, Some, sym, ap, ◌∙◌, inl, inr, arith}
 use Rattle.std.proofs.lemmas.Bool.Decides.{eqb_tells}
-use Rattle.dom_model.specs.declared.Content.{Content}
-use Rattle.dom_model.specs.Forest.{Forest, count_of, tree_of, parent_of, IsWithin, CanPut}
-use Rattle.dom_model.specs.Forest.Forest.{Nil, Tree}
-use Rattle.dom_model.proofs.Totals.{total-join, total-without, total-unlink}
-use Rattle.dom_model.proofs.Links.{total-link}
-use Rattle.dom_model.proofs.Within.{within_child, within_step}
-use Rattle.dom_model.proofs.Move.{parent_apart}
-use Rattle.live_range.specs.declared.places.Point.{Point}
+use Rattle.point_order.specs.DomModel.declared.Content.{Content}
+use Rattle.point_order.specs.DomModel.Forest.{Forest, count_of, tree_of, parent_of, IsWithin, CanPut}
+use Rattle.point_order.specs.DomModel.Forest.Forest.{Nil, Tree}
+use Rattle.point_order.proofs.DomModel.Totals.{total-join, total-without, total-unlink}
+use Rattle.point_order.proofs.DomModel.Links.{total-link}
+use Rattle.point_order.proofs.DomModel.Within.{within_child, within_step}
+use Rattle.point_order.proofs.DomModel.Move.{parent_apart}
+use Rattle.point_order.specs.LiveRange.declared.places.Point.{Point}
 use Rattle.edit_model.specs.State.{State}
 use Rattle.edit_model.specs.Edit.{Insert, Remove, trees_after, changed, with_change}
 use Rattle.edit_model.specs.Tail.{document_size}

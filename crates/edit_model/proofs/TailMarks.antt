@@ -1,13 +1,13 @@
 -- Extracting a tail moves no point that stands apart from the affected host.
 use Rattle.std.proofs.Common.{◌≡◌, ◌≢◌, ℕ, ◌<◌, false, cond, eqb, Some, refl, sym, ap, subst, ◌∙◌, inl, inr, arith}
 use Rattle.std.proofs.lemmas.Bool.{ne_eqb, le-ltb}
-use Rattle.dom_model.specs.declared.Content.{Content}
-use Rattle.dom_model.specs.Forest.{Forest, count_of, tree_of, preorder, parent_of, without, IsDistinct, IsWithin}
-use Rattle.dom_model.proofs.Totals.{total-without}
-use Rattle.dom_model.proofs.Within.{within_step}
-use Rattle.live_range.specs.declared.places.Point.{Point}
-use Rattle.live_range.specs.PointsEdit as range
-use Rattle.live_range.specs.PointsEdit.{adjusted, has_label}
+use Rattle.point_order.specs.DomModel.declared.Content.{Content}
+use Rattle.point_order.specs.DomModel.Forest.{Forest, count_of, tree_of, preorder, parent_of, without, IsDistinct, IsWithin}
+use Rattle.point_order.proofs.DomModel.Totals.{total-without}
+use Rattle.point_order.proofs.DomModel.Within.{within_step}
+use Rattle.point_order.specs.LiveRange.declared.places.Point.{Point}
+use Rattle.point_order.specs.LiveRange.PointsEdit as range
+use Rattle.point_order.specs.LiveRange.PointsEdit.{adjusted, has_label}
 use Rattle.edit_model.specs.State.{State}
 use Rattle.edit_model.specs.Valid.{IsValid}
 use Rattle.edit_model.specs.Outside.{hollowed}

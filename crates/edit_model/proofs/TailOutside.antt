@@ -2,12 +2,12 @@
 use Rattle.std.proofs.Common.{◌≡◌, ◌≢◌, ℕ, ◌<◌, ◌≤◌, true, false, cond, eqb, Option, Some, None, refl, sym, ap, ◌∙◌, inl, inr, arith, true≢false}
 use Rattle.std.specs.Option.{option_map_or}
 use Rattle.std.proofs.lemmas.Bool.{leb-true}
-use Rattle.dom_model.specs.declared.Content.{Content}
-use Rattle.dom_model.specs.Editing.{editing_host, is_editable}
-use Rattle.dom_model.specs.Forest.{Forest, count_of, tree_of, parent_of, IsWithin, CanPut}
-use Rattle.dom_model.proofs.Totals.{total-without}
-use Rattle.dom_model.proofs.Links.{tree_of_absent}
-use Rattle.live_range.specs.declared.places.Point.{Point}
+use Rattle.point_order.specs.DomModel.declared.Content.{Content}
+use Rattle.point_order.specs.DomModel.Editing.{editing_host, is_editable}
+use Rattle.point_order.specs.DomModel.Forest.{Forest, count_of, tree_of, parent_of, IsWithin, CanPut}
+use Rattle.point_order.proofs.DomModel.Totals.{total-without}
+use Rattle.point_order.proofs.DomModel.Links.{tree_of_absent}
+use Rattle.point_order.specs.LiveRange.declared.places.Point.{Point}
 use Rattle.edit_model.specs.State.{State}
 use Rattle.edit_model.specs.Confined.{is_editable_for, is_made}
 use Rattle.edit_model.specs.Edit.{Insert, Remove, trees_after, changed, with_change}

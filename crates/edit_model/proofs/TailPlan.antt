@@ -4,15 +4,15 @@ use Rattle.std.specs.Prelude.{unwrap_or, codes}
 use Rattle.std.specs.Option.{option_map, option_map_or, option_and_then}
 use Rattle.std.specs.List.{find}
 use Rattle.std.proofs.lemmas.Bool.{cases_Bool, eq-eqb, ltb-true}
-use Rattle.dom_model.specs.declared.Content.{Content}
-use Rattle.dom_model.specs.declared.Content.TheVariants.{Document, Element, Words, Remark}
-use Rattle.dom_model.specs.AttributeList.{IsDistinctNames}
-use Rattle.dom_model.specs.Contents.{IsNode, attributes_in, char_length}
-use Rattle.dom_model.specs.Forest.{Forest, Seen, seek, times, count_of, tree_of, parent_of, children_of, IsDistinct, IsWithin}
-use Rattle.dom_model.proofs.AttributeLemmas.{distinct-nothing, distinct-unset}
-use Rattle.dom_model.proofs.Links.{parent_of_child, found_stands}
-use Rattle.dom_model.proofs.NodesKept.{AreNodes}
-use Rattle.live_range.specs.declared.places.Point.{Point}
+use Rattle.point_order.specs.DomModel.declared.Content.{Content}
+use Rattle.point_order.specs.DomModel.declared.Content.TheVariants.{Document, Element, Words, Remark}
+use Rattle.point_order.specs.DomModel.AttributeList.{IsDistinctNames}
+use Rattle.point_order.specs.DomModel.Contents.{IsNode, attributes_in, char_length}
+use Rattle.point_order.specs.DomModel.Forest.{Forest, Seen, seek, times, count_of, tree_of, parent_of, children_of, IsDistinct, IsWithin}
+use Rattle.point_order.proofs.DomModel.AttributeLemmas.{distinct-nothing, distinct-unset}
+use Rattle.point_order.proofs.DomModel.Links.{parent_of_child, found_stands}
+use Rattle.point_order.proofs.DomModel.NodesKept.{AreNodes}
+use Rattle.point_order.specs.LiveRange.declared.places.Point.{Point}
 use Rattle.point_order.specs.PointOrder.{is_within, child_toward}
 use Rattle.edit_model.specs.Edit.{Insert, Remove, Move, Replace, Set, Unset}
 use Rattle.edit_model.specs.Compositions.{attribute_list_of}

@@ -3,18 +3,18 @@ use Rattle.std.proofs.Common.{◌≡◌, ◌≢◌, ◌⊎◌, ℕ, zero, suc, �
 use Rattle.std.specs.Option.{option_map, option_map_or, option_and_then}
 use Rattle.std.proofs.lemmas.Bool.{cases_Bool, eq-eqb, ne_eqb, lt-ltb, le-ltb, le-leb, and_parts}
 use Rattle.std.proofs.lemmas.Bool.Decides.{eqb_tells}
-use Rattle.dom_model.specs.declared.Content.{Content}
-use Rattle.dom_model.specs.Contents.{is_parent_at, may_have_children}
-use Rattle.dom_model.specs.Forest.{Forest, Seen, seek, times, count_of, tree_of, parent_of, children_of, relinked, unlinked, link, unlink, with_leaf, IsDistinct, IsWithin, CanPut}
-use Rattle.dom_model.specs.Places.{place_in}
-use Rattle.dom_model.proofs.Totals.{total-without, total-unlink}
-use Rattle.dom_model.proofs.Stands.{times-children}
-use Rattle.dom_model.proofs.Links.{found_stands, seek-link, seek-unlink, parent_of-link_root, parent_of-unlink_root, parent_of-with_leaf, seek-with_leaf_new, tree_of_absent, total-link, total-with_leaf, parent_count}
-use Rattle.dom_model.proofs.Within.{within_child, within_self, within_step}
-use Rattle.dom_model.proofs.Move.{parent_apart}
-use Rattle.dom_model.proofs.NodesKept.{AreNodes}
-use Rattle.dom_model.proofs.Kept.{content_of-link, content_of-with_leaf_new, content_of-with_leaf_other}
-use Rattle.live_range.specs.declared.places.Point.{Point}
+use Rattle.point_order.specs.DomModel.declared.Content.{Content}
+use Rattle.point_order.specs.DomModel.Contents.{is_parent_at, may_have_children}
+use Rattle.point_order.specs.DomModel.Forest.{Forest, Seen, seek, times, count_of, tree_of, parent_of, children_of, relinked, unlinked, link, unlink, with_leaf, IsDistinct, IsWithin, CanPut}
+use Rattle.point_order.specs.DomModel.Places.{place_in}
+use Rattle.point_order.proofs.DomModel.Totals.{total-without, total-unlink}
+use Rattle.point_order.proofs.DomModel.Stands.{times-children}
+use Rattle.point_order.proofs.DomModel.Links.{found_stands, seek-link, seek-unlink, parent_of-link_root, parent_of-unlink_root, parent_of-with_leaf, seek-with_leaf_new, tree_of_absent, total-link, total-with_leaf, parent_count}
+use Rattle.point_order.proofs.DomModel.Within.{within_child, within_self, within_step}
+use Rattle.point_order.proofs.DomModel.Move.{parent_apart}
+use Rattle.point_order.proofs.DomModel.NodesKept.{AreNodes}
+use Rattle.point_order.proofs.DomModel.Kept.{content_of-link, content_of-with_leaf_new, content_of-with_leaf_other}
+use Rattle.point_order.specs.LiveRange.declared.places.Point.{Point}
 use Rattle.point_order.specs.PointOrder.{is_within, child_toward}
 use Rattle.edit_model.specs.State.{State}
 use Rattle.edit_model.specs.Confined.{is_inside, is_made, is_open, is_own, may_insert, may_remove}

@@ -1,11 +1,11 @@
 -- What is copied where a tail is extracted is editable.
 use Rattle.std.proofs.Common.{◌≡◌, ℕ, ◌<◌, false, ◌||◌, cond, eqb, Some, refl, ap, ◌∙◌, inl, inr, arith}
 use Rattle.std.proofs.lemmas.Bool.{cases_Bool, eq-eqb}
-use Rattle.dom_model.specs.declared.Content.{Content}
-use Rattle.dom_model.specs.Editing.{is_true_state, is_false_state, editing_host, is_editable}
-use Rattle.dom_model.specs.Forest.{Forest, is_label, count_of, parent_of, content_of, IsWithin}
-use Rattle.dom_model.proofs.Totals.{total-without}
-use Rattle.dom_model.proofs.Links.{parent_count}
+use Rattle.point_order.specs.DomModel.declared.Content.{Content}
+use Rattle.point_order.specs.DomModel.Editing.{is_true_state, is_false_state, editing_host, is_editable}
+use Rattle.point_order.specs.DomModel.Forest.{Forest, is_label, count_of, parent_of, content_of, IsWithin}
+use Rattle.point_order.proofs.DomModel.Totals.{total-without}
+use Rattle.point_order.proofs.DomModel.Links.{parent_count}
 use Rattle.edit_model.specs.Valid.{IsForest}
 use Rattle.edit_model.proofs.Tests.{label_is}
 use Rattle.edit_model.proofs.Hollow.{editable_below}

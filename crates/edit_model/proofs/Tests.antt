@@ -3,11 +3,11 @@ use Rattle.std.proofs.Common.{◌≡◌, ◌≢◌, ◌⊎◌, ℕ, ◌+◌, ◌
 use Rattle.std.specs.Prelude.{nat_lt, nat_le, is_none}
 use Rattle.std.proofs.lemmas.Bool.{and_parts, not-true, ltb-true, leb-true, eqb-true, eqb-false, lt-ltb}
 use Rattle.std.specs.Option.{option_map, option_map_or}
-use Rattle.dom_model.specs.declared.Content.{Content}
-use Rattle.dom_model.specs.declared.Content.TheVariants.{Document, Element, Words, Remark}
-use Rattle.dom_model.specs.Contents.{is_parent_at, may_have_children, is_break}
-use Rattle.dom_model.specs.Forest.{Forest, Seen, seek, is_label, count_of, tree_of, parent_of, content_of, CanPut}
-use Rattle.dom_model.proofs.Links.{found_count}
+use Rattle.point_order.specs.DomModel.declared.Content.{Content}
+use Rattle.point_order.specs.DomModel.declared.Content.TheVariants.{Document, Element, Words, Remark}
+use Rattle.point_order.specs.DomModel.Contents.{is_parent_at, may_have_children, is_break}
+use Rattle.point_order.specs.DomModel.Forest.{Forest, Seen, seek, is_label, count_of, tree_of, parent_of, content_of, CanPut}
+use Rattle.point_order.proofs.DomModel.Links.{found_count}
 use Rattle.point_order.specs.PointOrder.{is_within, is_in_document}
 use Rattle.edit_model.specs.State.{State}
 use Rattle.edit_model.specs.Kept.{has_no_kept_leaves}

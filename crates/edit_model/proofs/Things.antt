@@ -3,15 +3,15 @@ use Rattle.std.proofs.Common.{◌≡◌, ◌≢◌, ℕ, Bool, true, false, cond
 use Rattle.std.specs.List.{filter}
 use Rattle.std.specs.Option.{option_map, option_and_then}
 use Rattle.std.proofs.lemmas.Bool.{cases_Bool}
-use Rattle.dom_model.specs.declared.Content.{Content}
-use Rattle.dom_model.specs.declared.Content.TheVariants.{Document, Element, Words, Remark}
-use Rattle.dom_model.specs.Contents.{name_in, name_of}
-use Rattle.dom_model.specs.Forest.{Forest, Seen, count_of, tree_of, content_of, unlink, with_leaf, IsDistinct, IsWithin}
-use Rattle.dom_model.specs.Revised.{revised}
-use Rattle.dom_model.proofs.Totals.{total-without}
-use Rattle.dom_model.proofs.Stands.{Stands-count, Stands-tree_of, seek_Stands}
-use Rattle.dom_model.proofs.Kept.{content_of-link, content_of-unlink, content_of-with_leaf_other}
-use Rattle.dom_model.proofs.Revising.{content_of-revised}
+use Rattle.point_order.specs.DomModel.declared.Content.{Content}
+use Rattle.point_order.specs.DomModel.declared.Content.TheVariants.{Document, Element, Words, Remark}
+use Rattle.point_order.specs.DomModel.Contents.{name_in, name_of}
+use Rattle.point_order.specs.DomModel.Forest.{Forest, Seen, count_of, tree_of, content_of, unlink, with_leaf, IsDistinct, IsWithin}
+use Rattle.point_order.specs.DomModel.Revised.{revised}
+use Rattle.point_order.proofs.DomModel.Totals.{total-without}
+use Rattle.point_order.proofs.DomModel.Stands.{Stands-count, Stands-tree_of, seek_Stands}
+use Rattle.point_order.proofs.DomModel.Kept.{content_of-link, content_of-unlink, content_of-with_leaf_other}
+use Rattle.point_order.proofs.DomModel.Revising.{content_of-revised}
 use Rattle.edit_model.specs.State.{State}
 use Rattle.edit_model.specs.Kept.{is_thing, borne_by, is_kept, is_empty, has_no_kept_leaves}
 use Rattle.edit_model.specs.Edit.{Edit, Insert, Remove, Move, Replace, Set, Unset, is_made_edit, trees_after, changed, with_replaced, with_set, with_unset}

@@ -2,12 +2,12 @@
 use Rattle.std.proofs.Common.{◌≡◌, ◌≢◌, ◌⊎◌, ℕ, zero, suc, ◌+◌, ◌<◌, true, false, cond, eqb, Option, refl, sym, inl, inr, arith, nat_lt}
 use Rattle.std.proofs.lemmas.Bool.Decides.{eqb_tells}
 use Rattle.std.proofs.lemmas.Bool.{ne_eqb, eq-eqb, cases_Bool}
-use Rattle.dom_model.specs.Forest.{Forest, join, is_label, count_of, tree_of, without, put_before, put_under, put_rising, with_leaf, IsDistinct, IsWithin}
-use Rattle.dom_model.specs.Forest.Forest.{Nil, Tree}
-use Rattle.dom_model.specs.Revised.{revised}
-use Rattle.dom_model.proofs.Totals.{total-join, total-without, put_under_nowhere}
-use Rattle.dom_model.proofs.Links.{join-Nil, tree_of_absent}
-use Rattle.dom_model.proofs.DropTree.{without_absent}
+use Rattle.point_order.specs.DomModel.Forest.{Forest, join, is_label, count_of, tree_of, without, put_before, put_under, put_rising, with_leaf, IsDistinct, IsWithin}
+use Rattle.point_order.specs.DomModel.Forest.Forest.{Nil, Tree}
+use Rattle.point_order.specs.DomModel.Revised.{revised}
+use Rattle.point_order.proofs.DomModel.Totals.{total-join, total-without, put_under_nowhere}
+use Rattle.point_order.proofs.DomModel.Links.{join-Nil, tree_of_absent}
+use Rattle.point_order.proofs.DomModel.DropTree.{without_absent}
 
 pub none_or_some : (k : ℕ) → (k ≡ 0) ⊎ (0 < k)
 none_or_some zero = inl refl

@@ -1,15 +1,15 @@
 -- The parts of actions, and the steps of a tail, keep a state valid.
 use Rattle.std.proofs.Common.{◌≡◌, ◌≢◌, ℕ, ◌<◌, ◌^◌, Bool, true, false, if◌then◌else◌, List, [], ◌∷◌, length, IfSome, refl, arith}
 use Rattle.std.proofs.lemmas.Bool.{and_parts}
-use Rattle.dom_model.specs.declared.Content.{Content}
-use Rattle.dom_model.specs.Change.{Change}
-use Rattle.dom_model.specs.declared.Content.TheVariants.{Document}
-use Rattle.dom_model.specs.AttributeList.{IsDistinctNames}
-use Rattle.dom_model.specs.Contents.{attributes_in, char_length}
-use Rattle.dom_model.specs.Forest.{Forest, with_leaf}
-use Rattle.live_range.specs.declared.places.Point.{Point}
-use Rattle.live_range.specs.LivePoints.{LivePoints}
-use Rattle.live_range.specs.ActiveRange.{range_changed}
+use Rattle.point_order.specs.DomModel.declared.Content.{Content}
+use Rattle.point_order.specs.DomModel.Change.{Change}
+use Rattle.point_order.specs.DomModel.declared.Content.TheVariants.{Document}
+use Rattle.point_order.specs.DomModel.AttributeList.{IsDistinctNames}
+use Rattle.point_order.specs.DomModel.Contents.{attributes_in, char_length}
+use Rattle.point_order.specs.DomModel.Forest.{Forest, with_leaf}
+use Rattle.point_order.specs.LiveRange.declared.places.Point.{Point}
+use Rattle.point_order.specs.LiveRange.LivePoints.{LivePoints}
+use Rattle.point_order.specs.LiveRange.ActiveRange.{range_changed}
 use Rattle.point_order.specs.PointOrder.{is_before}
 use Rattle.edit_model.specs.declared.settings.Setting.{Setting}
 use Rattle.edit_model.specs.State.{State}

@@ -3,16 +3,16 @@ use Rattle.std.proofs.Common.{◌≡◌, ◌≢◌, ℕ, ◌<◌, ◌^◌, Bool,
 use Rattle.std.specs.Prelude.{nat_lt}
 use Rattle.std.proofs.lemmas.Bool.{and_parts, ltb-true}
 use Rattle.std.proofs.lemmas.List.{length-set}
-use Rattle.dom_model.specs.declared.Content.TheVariants.{Document, Words}
-use Rattle.dom_model.specs.declared.attributes.Attribute.{Attribute}
-use Rattle.dom_model.specs.AttributeList.{IsDistinctNames, are_distinct}
-use Rattle.dom_model.specs.Contents.{attributes_in, char_length}
-use Rattle.dom_model.proofs.AttributeLemmas.{distinct-nothing, told_distinct}
+use Rattle.point_order.specs.DomModel.declared.Content.TheVariants.{Document, Words}
+use Rattle.point_order.specs.DomModel.declared.attributes.Attribute.{Attribute}
+use Rattle.point_order.specs.DomModel.AttributeList.{IsDistinctNames, are_distinct}
+use Rattle.point_order.specs.DomModel.Contents.{attributes_in, char_length}
+use Rattle.point_order.proofs.DomModel.AttributeLemmas.{distinct-nothing, told_distinct}
 use Rattle.html_names.specs.declared.commands.Command.{Command}
-use Rattle.live_range.specs.declared.places.Point.{Point}
-use Rattle.live_range.specs.declared.places.Pair.{Pair}
-use Rattle.live_range.specs.PointsEdit as range
-use Rattle.live_range.specs.LivePoints.{mapped}
+use Rattle.point_order.specs.LiveRange.declared.places.Point.{Point}
+use Rattle.point_order.specs.LiveRange.declared.places.Pair.{Pair}
+use Rattle.point_order.specs.LiveRange.PointsEdit as range
+use Rattle.point_order.specs.LiveRange.LivePoints.{mapped}
 use Rattle.edit_model.specs.declared.settings.Setting.{Setting}
 use Rattle.edit_model.specs.State.{State}
 use Rattle.edit_model.specs.Overrides.{with_setting, place_of}

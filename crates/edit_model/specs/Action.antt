@@ -1,17 +1,17 @@
 -- What commands do to a state besides edits: making nodes, selecting, and setting overrides and
 -- flags.
 use Rattle.std.specs.Prelude.{ℕ, ◌+◌, ◌^◌, Bool, ◌&&◌, not, nat_lt, List, [], ◌∷◌, ◌++◌, length, Option, Some, None, if◌then◌else◌}
-use Rattle.dom_model.specs.declared.Content.{Content}
-use Rattle.dom_model.specs.declared.Content.TheVariants.{Element, Words}
-use Rattle.dom_model.specs.declared.attributes.Attribute.{Attribute}
-use Rattle.dom_model.specs.AttributeList.{are_distinct}
-use Rattle.dom_model.specs.Contents.{is_parent_at}
-use Rattle.dom_model.specs.Forest.{with_leaf}
+use Rattle.point_order.specs.DomModel.declared.Content.{Content}
+use Rattle.point_order.specs.DomModel.declared.Content.TheVariants.{Element, Words}
+use Rattle.point_order.specs.DomModel.declared.attributes.Attribute.{Attribute}
+use Rattle.point_order.specs.DomModel.AttributeList.{are_distinct}
+use Rattle.point_order.specs.DomModel.Contents.{is_parent_at}
+use Rattle.point_order.specs.DomModel.Forest.{with_leaf}
 use Rattle.html_names.specs.declared.commands.Command.{Command}
-use Rattle.live_range.specs.declared.places.Point.{Point}
-use Rattle.live_range.specs.declared.places.Pair.{Pair}
-use Rattle.live_range.specs.PointsEdit as range
-use Rattle.live_range.specs.LivePoints.{mapped}
+use Rattle.point_order.specs.LiveRange.declared.places.Point.{Point}
+use Rattle.point_order.specs.LiveRange.declared.places.Pair.{Pair}
+use Rattle.point_order.specs.LiveRange.PointsEdit as range
+use Rattle.point_order.specs.LiveRange.LivePoints.{mapped}
 use Rattle.point_order.specs.PointOrder.{is_within, is_in_document}
 use Rattle.edit_model.specs.declared.settings.Setting.{Setting}
 use Rattle.edit_model.specs.declared.settings.Flags.{Flags}

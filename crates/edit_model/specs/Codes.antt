@@ -1,15 +1,15 @@
 -- How states and histories are stored, by which proofs tell them apart.
 use Rattle.std.specs.Prelude.{◌≡◌, ℕ, zero, suc, Bool, List, [], Option, refl}
 use Rattle.std.specs.Coded.{Coded, code_by, coded×, coded_ℕ, coded_bool, coded_list, coded_option}
-use Rattle.dom_model.specs.declared.Content.{Content}
-use Rattle.dom_model.specs.Change.{Change}
-use Rattle.dom_model.specs.ChangeCode.{change_code}
-use Rattle.dom_model.specs.ContentCode.{content_code}
-use Rattle.dom_model.specs.Code.{forest_code}
-use Rattle.dom_model.specs.Forest.{Forest}
-use Rattle.live_range.specs.declared.places.Point.{Point}
-use Rattle.live_range.specs.declared.places.Pair.{Pair}
-use Rattle.live_range.specs.LivePoints.{LivePoints}
+use Rattle.point_order.specs.DomModel.declared.Content.{Content}
+use Rattle.point_order.specs.DomModel.Change.{Change}
+use Rattle.point_order.specs.DomModel.ChangeCode.{change_code}
+use Rattle.point_order.specs.DomModel.ContentCode.{content_code}
+use Rattle.point_order.specs.DomModel.Code.{forest_code}
+use Rattle.point_order.specs.DomModel.Forest.{Forest}
+use Rattle.point_order.specs.LiveRange.declared.places.Point.{Point}
+use Rattle.point_order.specs.LiveRange.declared.places.Pair.{Pair}
+use Rattle.point_order.specs.LiveRange.LivePoints.{LivePoints}
 use Rattle.edit_model.specs.declared.settings.Setting.{Setting}
 use Rattle.edit_model.specs.declared.settings.Setting.TheVariants.{On, Off, Text, Absent}
 use Rattle.edit_model.specs.declared.settings.Flags.{Flags}

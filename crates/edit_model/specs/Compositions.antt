@@ -1,11 +1,11 @@
 -- Compositions of edits that the DOM and editing standards name: splitting a text, and setting the
 -- tag name of an element. The steps are those of docs/ALGORITHMS.md.
 use Rattle.std.specs.Prelude.{ℕ, ◌+◌, ◌-◌, Bool, ◌||◌, not, List, [], length, drop, Some, if◌then◌else◌, unwrap_or}
-use Rattle.dom_model.specs.declared.attributes.Attribute.{Attribute}
-use Rattle.dom_model.specs.Contents.{chars_of, name_of, attributes_of, has_name}
-use Rattle.dom_model.specs.Forest.{Forest, parent_of, next_of, children_of}
-use Rattle.dom_model.specs.Places.{index_of}
-use Rattle.dom_model.specs.declared.Content.{Content}
+use Rattle.point_order.specs.DomModel.declared.attributes.Attribute.{Attribute}
+use Rattle.point_order.specs.DomModel.Contents.{chars_of, name_of, attributes_of, has_name}
+use Rattle.point_order.specs.DomModel.Forest.{Forest, parent_of, next_of, children_of}
+use Rattle.point_order.specs.DomModel.Places.{index_of}
+use Rattle.point_order.specs.DomModel.declared.Content.{Content}
 use Rattle.edit_model.specs.State.{State}
 use Rattle.edit_model.specs.Confined.{is_editable_for}
 use Rattle.edit_model.specs.Run.{Run, ◌>>=◌, ◌>>◌, answer, done, look, given, insert, remove, replace, make_element, make_words, send, grow}

@@ -2,15 +2,15 @@
 -- made itself.
 use Rattle.std.specs.Prelude.{ℕ, ◌+◌, ◌^◌, Bool, true, false, ◌||◌, ◌&&◌, not, ◌==◌, nat_le, nat_lt, List, length, Option, Some, None, bytes_eq, is_none}
 use Rattle.std.specs.Option.{option_map_or}
-use Rattle.dom_model.specs.declared.Content.{Content}
-use Rattle.dom_model.specs.declared.Content.TheVariants.{Words}
-use Rattle.dom_model.specs.declared.attributes.Attribute.{Attribute}
-use Rattle.dom_model.specs.AttributeList.{value_of}
-use Rattle.dom_model.specs.Contents.{is_parent_at, attributes_of, length_of, is_break}
-use Rattle.dom_model.specs.Editing.{is_editable}
-pub use Rattle.dom_model.specs.Room.{spliced}
-use Rattle.dom_model.specs.Forest.{Forest, is_label, count_of, tree_of, parent_of, next_of, content_of}
-use Rattle.live_range.specs.declared.places.Point.{Point}
+use Rattle.point_order.specs.DomModel.declared.Content.{Content}
+use Rattle.point_order.specs.DomModel.declared.Content.TheVariants.{Words}
+use Rattle.point_order.specs.DomModel.declared.attributes.Attribute.{Attribute}
+use Rattle.point_order.specs.DomModel.AttributeList.{value_of}
+use Rattle.point_order.specs.DomModel.Contents.{is_parent_at, attributes_of, length_of, is_break}
+use Rattle.point_order.specs.DomModel.Editing.{is_editable}
+pub use Rattle.point_order.specs.DomModel.Room.{spliced}
+use Rattle.point_order.specs.DomModel.Forest.{Forest, is_label, count_of, tree_of, parent_of, next_of, content_of}
+use Rattle.point_order.specs.LiveRange.declared.places.Point.{Point}
 use Rattle.point_order.specs.PointOrder.{is_within, is_in_document, is_placed}
 use Rattle.edit_model.specs.State.{State}
 use Rattle.edit_model.specs.Kept.{has_no_kept_leaves}

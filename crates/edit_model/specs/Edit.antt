@@ -1,17 +1,17 @@
 -- The six elementary edits, and what each makes of a state.
 use Rattle.std.specs.Prelude.{ℕ, ◌+◌, ◌-◌, Bool, List, [], ◌∷◌, ◌++◌, length, take, drop, Option, Some, None, if◌then◌else◌, unwrap_or}
-use Rattle.dom_model.specs.declared.Content.{Content}
-use Rattle.dom_model.specs.declared.Content.TheVariants.{Element, Words}
-use Rattle.dom_model.specs.AttributeList.{set_in, unset_in}
-use Rattle.dom_model.specs.Change.{Change}
-use Rattle.dom_model.specs.Change as change
-use Rattle.dom_model.specs.Contents.{chars_of, attributes_of}
-use Rattle.dom_model.specs.Forest.{Forest, parent_of, children_of, preorder, tree_of, link, unlink}
-use Rattle.dom_model.specs.Places.{place_in, index_of}
-use Rattle.dom_model.specs.Revised.{revised}
-use Rattle.live_range.specs.PointsEdit as range
-use Rattle.live_range.specs.LivePoints.{LivePoints, mapped}
-use Rattle.live_range.specs.ActiveRange.{range_changed}
+use Rattle.point_order.specs.DomModel.declared.Content.{Content}
+use Rattle.point_order.specs.DomModel.declared.Content.TheVariants.{Element, Words}
+use Rattle.point_order.specs.DomModel.AttributeList.{set_in, unset_in}
+use Rattle.point_order.specs.DomModel.Change.{Change}
+use Rattle.point_order.specs.DomModel.Change as change
+use Rattle.point_order.specs.DomModel.Contents.{chars_of, attributes_of}
+use Rattle.point_order.specs.DomModel.Forest.{Forest, parent_of, children_of, preorder, tree_of, link, unlink}
+use Rattle.point_order.specs.DomModel.Places.{place_in, index_of}
+use Rattle.point_order.specs.DomModel.Revised.{revised}
+use Rattle.point_order.specs.LiveRange.PointsEdit as range
+use Rattle.point_order.specs.LiveRange.LivePoints.{LivePoints, mapped}
+use Rattle.point_order.specs.LiveRange.ActiveRange.{range_changed}
 use Rattle.point_order.specs.PointOrder.{is_before}
 use Rattle.edit_model.specs.declared.settings.Setting.{Setting}
 use Rattle.edit_model.specs.State.{State}

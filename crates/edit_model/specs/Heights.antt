@@ -1,8 +1,8 @@
 -- How deep a document may be after a run.
 use Rattle.std.specs.Prelude.{ℕ, ◌+◌, max, List, [], ◌∷◌, if◌then◌else◌}
-use Rattle.dom_model.specs.declared.Content.{Content}
-use Rattle.dom_model.specs.Forest.{Forest, tree_of, depth_of}
-use Rattle.dom_model.specs.Places.{levels}
+use Rattle.point_order.specs.DomModel.declared.Content.{Content}
+use Rattle.point_order.specs.DomModel.Forest.{Forest, tree_of, depth_of}
+use Rattle.point_order.specs.DomModel.Places.{levels}
 use Rattle.edit_model.specs.State.{State}
 use Rattle.edit_model.specs.Edit.{Edit, Insert, Move}
 use Rattle.edit_model.specs.Tail.{Step, Copy, Do}

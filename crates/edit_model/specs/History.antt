@@ -1,10 +1,10 @@
 -- The history of a document, and what begins and ends a command and goes through the history.
 use Rattle.std.specs.Prelude.{ℕ, Bool, false, ◌||◌, nat_le, List, [], ◌∷◌, ◌++◌, length, take, filter, Option, None, if◌then◌else◌, ◌==◌}
-use Rattle.dom_model.specs.declared.Content.{Content}
-use Rattle.dom_model.specs.Change.{Change, named_in}
-use Rattle.dom_model.specs.Forest.{Forest, tree_of}
-use Rattle.live_range.specs.declared.places.Pair.{Pair}
-use Rattle.live_range.specs.PointsEdit.{has_label}
+use Rattle.point_order.specs.DomModel.declared.Content.{Content}
+use Rattle.point_order.specs.DomModel.Change.{Change, named_in}
+use Rattle.point_order.specs.DomModel.Forest.{Forest, tree_of}
+use Rattle.point_order.specs.LiveRange.declared.places.Pair.{Pair}
+use Rattle.point_order.specs.LiveRange.PointsEdit.{has_label}
 use Rattle.edit_model.specs.State.{State}
 use Rattle.edit_model.specs.Overrides.{no_overrides}
 

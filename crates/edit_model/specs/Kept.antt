@@ -1,10 +1,10 @@
 -- What commands that keep contents never remove: images, rules, and characters other than tab, LF,
 -- CR and space.
 use Rattle.std.specs.Prelude.{ℕ, Bool, true, false, ◌||◌, not, ◌==◌, List, [], ◌∷◌, ◌++◌, if◌then◌else◌, bytes_eq, codes, filter, map}
-use Rattle.dom_model.specs.declared.Content.{Content}
-use Rattle.dom_model.specs.declared.Content.TheVariants.{Document, Element, Words, Remark}
-use Rattle.dom_model.specs.Forest.{Forest}
-use Rattle.dom_model.specs.Forest.Forest.{Nil, Tree}
+use Rattle.point_order.specs.DomModel.declared.Content.{Content}
+use Rattle.point_order.specs.DomModel.declared.Content.TheVariants.{Document, Element, Words, Remark}
+use Rattle.point_order.specs.DomModel.Forest.{Forest}
+use Rattle.point_order.specs.DomModel.Forest.Forest.{Nil, Tree}
 
 -- a character, or an img or hr by its label
 pub data Leaf : Type 0 where

@@ -1,13 +1,13 @@
 -- The laws of editing: what holds along every way that actions lead, so of every run (Run.antt).
 use Rattle.std.specs.Prelude.{◌≡◌, ◌≢◌, ◌⊎◌, ℕ, ◌≤◌, Bool, ◌||◌, true, false, bytes_eq, codes, List, ◌++◌, length, Option, Some}
 use Rattle.std.specs.List.{AllZip}
-use Rattle.dom_model.specs.declared.Content.{Content}
-use Rattle.dom_model.specs.declared.Content.TheVariants.{Element}
-use Rattle.dom_model.specs.Editing.{is_host, is_true_state, is_false_state}
-use Rattle.dom_model.specs.Contents.{name_of, is_break}
-use Rattle.dom_model.specs.Forest.{Forest, tree_of, IsWithin}
-use Rattle.live_range.specs.declared.places.Pair.{Pair}
-use Rattle.live_range.specs.declared.places.Point.{Point}
+use Rattle.point_order.specs.DomModel.declared.Content.{Content}
+use Rattle.point_order.specs.DomModel.declared.Content.TheVariants.{Element}
+use Rattle.point_order.specs.DomModel.Editing.{is_host, is_true_state, is_false_state}
+use Rattle.point_order.specs.DomModel.Contents.{name_of, is_break}
+use Rattle.point_order.specs.DomModel.Forest.{Forest, tree_of, IsWithin}
+use Rattle.point_order.specs.LiveRange.declared.places.Pair.{Pair}
+use Rattle.point_order.specs.LiveRange.declared.places.Point.{Point}
 use Rattle.edit_model.specs.State.{State, IsPastCap}
 use Rattle.edit_model.specs.Kept.{has_no_kept_leaves, is_thing}
 use Rattle.edit_model.specs.Confined.{is_own}

@@ -16,3 +16,8 @@ pub mod Valid
 pub mod Outside
 pub mod Laws
 pub mod Heights
+pub use Rattle.point_order.specs.DomModel
+pub use Rattle.html_names.specs as HtmlNames
+pub use Rattle.point_order.specs.LiveRange
+pub use Rattle.point_order.specs.NodeArena
+pub use Rattle.point_order.specs as PointOrder

@@ -1,7 +1,7 @@
 -- Insertions and moves by name, and loops of moves: the nodes of a list come to stand in its order
 -- where they go.
 use Rattle.std.specs.Prelude.{ℕ, List, [], Some, None, reverse, codes}
-use Rattle.dom_model.specs.Forest.{parent_of, next_of, first_of, children_of}
+use Rattle.point_order.specs.DomModel.Forest.{parent_of, next_of, first_of, children_of}
 use Rattle.edit_model.specs.Run.{Run, ◌>>◌, done, look, given, for_each, insert, move, remove, make_element}
 
 -- n comes just before o, or just after it

@@ -1,12 +1,12 @@
 -- What lies outside the affected host: the document with the host's children left out.
 use Rattle.std.specs.Prelude.{◌≡◌, ℕ, ◌<◌, Bool, false, not, ◌&&◌, ◌||◌, Option, Some, None, if◌then◌else◌, ◌==◌}
 use Rattle.std.specs.Option.{option_map_or}
-use Rattle.dom_model.specs.declared.Content.{Content}
-use Rattle.dom_model.specs.Editing.{is_editable}
-use Rattle.dom_model.specs.Forest.{Forest, tree_of, count_of, is_label, parent_of}
-use Rattle.dom_model.specs.Forest.Forest.{Nil, Tree}
+use Rattle.point_order.specs.DomModel.declared.Content.{Content}
+use Rattle.point_order.specs.DomModel.Editing.{is_editable}
+use Rattle.point_order.specs.DomModel.Forest.{Forest, tree_of, count_of, is_label, parent_of}
+use Rattle.point_order.specs.DomModel.Forest.Forest.{Nil, Tree}
 use Rattle.edit_model.specs.State.{State}
-use Rattle.dom_model.specs.Contents.{is_break}
+use Rattle.point_order.specs.DomModel.Contents.{is_break}
 
 -- the forest without the children of a label
 unfoldable pub hollowed : Forest Content → ℕ → Forest Content

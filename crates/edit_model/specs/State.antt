@@ -1,9 +1,9 @@
 -- The state of a document under edits.
 use Rattle.std.specs.Prelude.{ℕ, ◌<◌, Bool, List, Option}
-use Rattle.dom_model.specs.declared.Content.{Content}
-use Rattle.dom_model.specs.Change.{Change}
-use Rattle.dom_model.specs.Forest.{Forest}
-use Rattle.live_range.specs.LivePoints.{LivePoints}
+use Rattle.point_order.specs.DomModel.declared.Content.{Content}
+use Rattle.point_order.specs.DomModel.Change.{Change}
+use Rattle.point_order.specs.DomModel.Forest.{Forest}
+use Rattle.point_order.specs.LiveRange.LivePoints.{LivePoints}
 use Rattle.edit_model.specs.declared.settings.Setting.{Setting}
 use Rattle.edit_model.specs.declared.settings.Flags.{Flags}
 

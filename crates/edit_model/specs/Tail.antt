@@ -2,13 +2,13 @@
 -- and the elements in which the point stands are copied.
 use Rattle.std.specs.Prelude.{ℕ, zero, suc, ◌+◌, List, [], ◌∷◌, ◌++◌, drop, None, if◌then◌else◌, ◌==◌, unwrap_or, codes}
 use Rattle.std.specs.Option.{option_map_or}
-use Rattle.dom_model.specs.declared.Content.{Content}
-use Rattle.dom_model.specs.declared.Content.TheVariants.{Element}
-use Rattle.dom_model.specs.AttributeList.{unset_in}
-use Rattle.dom_model.specs.Contents.{name_of, attributes_of}
-use Rattle.dom_model.specs.Forest.{Forest, total, tree_of, children_of}
-use Rattle.dom_model.specs.Places.{place_in}
-use Rattle.live_range.specs.declared.places.Point.{Point}
+use Rattle.point_order.specs.DomModel.declared.Content.{Content}
+use Rattle.point_order.specs.DomModel.declared.Content.TheVariants.{Element}
+use Rattle.point_order.specs.DomModel.AttributeList.{unset_in}
+use Rattle.point_order.specs.DomModel.Contents.{name_of, attributes_of}
+use Rattle.point_order.specs.DomModel.Forest.{Forest, total, tree_of, children_of}
+use Rattle.point_order.specs.DomModel.Places.{place_in}
+use Rattle.point_order.specs.LiveRange.declared.places.Point.{Point}
 use Rattle.point_order.specs.PointOrder.{child_toward}
 use Rattle.edit_model.specs.Edit.{Edit, Insert, Remove}
 

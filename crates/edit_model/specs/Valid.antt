@@ -1,11 +1,11 @@
 -- What holds of every state that a document under edits comes into.
 use Rattle.std.specs.Prelude.{◌≡◌, ℕ, ◌<◌, ◌≤◌, true, Some, None, IfSome, length}
 use Rattle.std.specs.List.{All}
-use Rattle.dom_model.specs.declared.Content.{Content}
-use Rattle.dom_model.specs.Contents.{IsNode}
-use Rattle.dom_model.specs.Forest.{Forest, Seen, seek, count_of, IsDistinct, RisesFrom, parent_of}
-use Rattle.live_range.specs.declared.places.Pair.{Pair}
-use Rattle.live_range.specs.LivePoints.{LivePoints}
+use Rattle.point_order.specs.DomModel.declared.Content.{Content}
+use Rattle.point_order.specs.DomModel.Contents.{IsNode}
+use Rattle.point_order.specs.DomModel.Forest.{Forest, Seen, seek, count_of, IsDistinct, RisesFrom, parent_of}
+use Rattle.point_order.specs.LiveRange.declared.places.Pair.{Pair}
+use Rattle.point_order.specs.LiveRange.LivePoints.{LivePoints}
 use Rattle.point_order.specs.PointOrder.{is_placed}
 use Rattle.edit_model.specs.State.{State}
 use Rattle.edit_model.specs.History.{View}

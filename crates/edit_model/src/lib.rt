@@ -13,9 +13,12 @@ ghost use Rattle.std.specs.Prelude.{◌≡◌};
 mod laws;
 mod settings;
 
+pub use html_names as element_names;
 pub use laws::{
     cap_stays_passed, commands_are_confined, edits_are_listed, edits_follow, islands_leave,
     islands_stay, kept_stays, labels_rise, marks_stay, nodes_are_listed, outside_stays,
     tails_are_possible, tails_end, tails_stay, things_stay, valid_stays,
 };
+pub use point_order as boundary;
+pub use point_order::{arena, dom, dom_ranges, stepping};
 pub use settings::{EditFault, Flags, Setting};

@@ -2,7 +2,7 @@
 
 ghost use Rattle.std.specs.Prelude.{◌≡◌};
 
-use dom_model::Chars;
+use point_order::dom::Chars;
 use std::alloc::AllocError;
 use thiserror::Error;
 

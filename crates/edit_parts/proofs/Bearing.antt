@@ -1,14 +1,14 @@
 -- Whether nodes bear something that commands keep, as a sum over them.
 use Rattle.std.proofs.Common.{◌≡◌, ◌⊎◌, ℕ, ◌+◌, ◌<◌, ◌≤◌, Bool, true, false, not, ◌&&◌, List, [], ◌∷◌, ◌++◌, filter, Some, cond, refl, sym, ap, ◌∙◌, inl, inr, arith}
 use Rattle.std.specs.Prelude.{if◌then◌else◌}
-use Rattle.dom_model.specs.declared.Content.{Content}
-use Rattle.dom_model.specs.ArenaState.{ArenaState, IsValid}
-use Rattle.dom_model.specs.Forest.{Forest, total, tree_of, content_of, count_of}
-use Rattle.dom_model.specs.Forest.Forest.{Nil, Tree}
-use Rattle.dom_model.specs.TreeOrder.{total_from, total_after}
+use Rattle.edit_model.specs.DomModel.declared.Content.{Content}
+use Rattle.edit_model.specs.DomModel.ArenaState.{ArenaState, IsValid}
+use Rattle.edit_model.specs.DomModel.Forest.{Forest, total, tree_of, content_of, count_of}
+use Rattle.edit_model.specs.DomModel.Forest.Forest.{Nil, Tree}
+use Rattle.edit_model.specs.DomModel.TreeOrder.{total_from, total_after}
 use Rattle.edit_model.specs.Kept.{Leaf, has_no_kept_leaves, borne_by, is_empty, is_kept, kept_leaves, leaves}
-use Rattle.node_arena.specs.declared.NodeRef.{NodeRef}
-use Rattle.node_arena.specs.Held.{Holds}
+use Rattle.edit_model.specs.NodeArena.declared.NodeRef.{NodeRef}
+use Rattle.edit_model.specs.NodeArena.Held.{Holds}
 use Rattle.edit_parts.specs.declared.trees.Place.{Place}
 use Rattle.edit_parts.specs.Walk.{IsIn, Goes, Stops}
 use Rattle.edit_parts.proofs.Below.{content, own_share, tree_total, within_after, top_in}

@@ -2,22 +2,22 @@
 use Rattle.std.proofs.Common.{◌≡◌, ◌≢◌, ℕ, zero, suc, ◌+◌, ◌-◌, ◌<◌, ◌≤◌, ◌^◌, ◌⊎◌, max, cond, Option, Some, None, refl, sym, ap, subst, ◌∙◌, inl, inr, arith, eqb, true, false, []}
 use Rattle.std.proofs.lemmas.Bool.Decides.{eqb_tells}
 use Rattle.std.specs.Option.{option_map, option_map_or}
-use Rattle.dom_model.specs.declared.Content.{Content}
-use Rattle.dom_model.specs.declared.Content.TheVariants.{Document, Element, Words, Remark}
-use Rattle.dom_model.specs.Contents.{words_length, char_length}
-use Rattle.dom_model.specs.ArenaState.{ArenaState, IsValid}
-use Rattle.dom_model.specs.Forest.{Forest, Seen, IsDistinct, total, count_of, parent_of, first_of, next_of, children_of, content_of, depth_of, tree_of, IsWithin, join, first_in, tops, times}
-use Rattle.dom_model.specs.Forest.Forest.{Nil, Tree}
-use Rattle.dom_model.specs.Places.{levels}
-use Rattle.dom_model.specs.TreeOrder.{total_from, total_after}
-use Rattle.dom_model.proofs.Links.{seen, parent_count, child_of_parent, tree_of_absent}
-use Rattle.dom_model.proofs.Within.{within_self, within_parent, within_child, within_step, within_root, depth_of-parent, depth_of_low}
-use Rattle.dom_model.proofs.Neighbours.{parent_of-first, parent_of-next}
-use Rattle.dom_model.proofs.Parts.{Part, Part_count, Part-kids, Part-sibling, at_label, total_from_Part, total_after_Part}
-use Rattle.dom_model.proofs.Walks.{total_from-first, total_from-leaf, total_after-next, total_after-last, total_from_le}
-use Rattle.dom_model.proofs.Deepest.{total-bound, height_is}
-use Rattle.node_arena.specs.declared.NodeRef.{NodeRef}
-use Rattle.node_arena.specs.Held.{Holds}
+use Rattle.edit_model.specs.DomModel.declared.Content.{Content}
+use Rattle.edit_model.specs.DomModel.declared.Content.TheVariants.{Document, Element, Words, Remark}
+use Rattle.edit_model.specs.DomModel.Contents.{words_length, char_length}
+use Rattle.edit_model.specs.DomModel.ArenaState.{ArenaState, IsValid}
+use Rattle.edit_model.specs.DomModel.Forest.{Forest, Seen, IsDistinct, total, count_of, parent_of, first_of, next_of, children_of, content_of, depth_of, tree_of, IsWithin, join, first_in, tops, times}
+use Rattle.edit_model.specs.DomModel.Forest.Forest.{Nil, Tree}
+use Rattle.edit_model.specs.DomModel.Places.{levels}
+use Rattle.edit_model.specs.DomModel.TreeOrder.{total_from, total_after}
+use Rattle.edit_model.proofs.DomModel.Links.{seen, parent_count, child_of_parent, tree_of_absent}
+use Rattle.edit_model.proofs.DomModel.Within.{within_self, within_parent, within_child, within_step, within_root, depth_of-parent, depth_of_low}
+use Rattle.edit_model.proofs.DomModel.Neighbours.{parent_of-first, parent_of-next}
+use Rattle.edit_model.proofs.DomModel.Parts.{Part, Part_count, Part-kids, Part-sibling, at_label, total_from_Part, total_after_Part}
+use Rattle.edit_model.proofs.DomModel.Walks.{total_from-first, total_from-leaf, total_after-next, total_after-last, total_from_le}
+use Rattle.edit_model.proofs.DomModel.Deepest.{total-bound, height_is}
+use Rattle.edit_model.specs.NodeArena.declared.NodeRef.{NodeRef}
+use Rattle.edit_model.specs.NodeArena.Held.{Holds}
 use Rattle.edit_parts.specs.declared.trees.Place.{Place}
 use Rattle.edit_parts.specs.Walk.{IsIn, Goes, Stops}
 

@@ -6,3 +6,4 @@ pub mod Points
 pub mod Moves
 pub mod Ranges
 pub mod Splices
+pub use Rattle.edit_model.proofs as EditModel

@@ -5,10 +5,10 @@ use Rattle.std.specs.Option.{option_map}
 use Rattle.std.proofs.lemmas.Bool.{le-ltb}
 use Rattle.std.proofs.lemmas.Bool.Decides.{eqb_tells}
 use Rattle.std.proofs.lemmas.List.Elements.{All-tail}
-use Rattle.live_range.specs.declared.places.Point.{Point}
-use Rattle.live_range.specs.declared.places.Pair.{Pair}
-use Rattle.live_range.specs.PointsEdit.{PointsEdit, Remove, Move, adjusted, adjusted_pair}
-use Rattle.live_range.specs.LivePoints.{LivePoints, at_pair, mapped}
+use Rattle.edit_model.specs.LiveRange.declared.places.Point.{Point}
+use Rattle.edit_model.specs.LiveRange.declared.places.Pair.{Pair}
+use Rattle.edit_model.specs.LiveRange.PointsEdit.{PointsEdit, Remove, Move, adjusted, adjusted_pair}
+use Rattle.edit_model.specs.LiveRange.LivePoints.{LivePoints, at_pair, mapped}
 use Rattle.edit_parts.specs.Following.{AreApart, AreUpTo, IsUpTo, IsPairUpTo, is_touched, is_pair_touched}
 
 first_off : (a b : Bool) → (a || b) ≡ false → a ≡ false

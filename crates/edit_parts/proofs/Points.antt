@@ -3,13 +3,13 @@ use Rattle.std.proofs.Common.{◌≡◌, ◌≢◌, ◌⊎◌, ℕ, Bool, true, 
 use Rattle.std.specs.List.{list_any, flat_map}
 use Rattle.std.specs.Option.{option_map}
 use Rattle.std.proofs.lemmas.Bool.Decides.{eqb_tells}
-use Rattle.live_range.specs.declared.places.Point.{Point}
-use Rattle.live_range.specs.declared.places.Pair.{Pair}
-use Rattle.live_range.specs.PointsEdit.{PointsEdit, Insert, Remove, Grown, adjusted, adjusted_pair, has_label}
-use Rattle.live_range.specs.LivePoints.{LivePoints, at_pair, labels_of, mapped, option_labels, pair_labels}
-use Rattle.dom_model.specs.declared.Content.{Content}
-use Rattle.dom_model.specs.Forest.{Forest, preorder, tree_of}
-use Rattle.dom_model.specs.Places.{index_of}
+use Rattle.edit_model.specs.LiveRange.declared.places.Point.{Point}
+use Rattle.edit_model.specs.LiveRange.declared.places.Pair.{Pair}
+use Rattle.edit_model.specs.LiveRange.PointsEdit.{PointsEdit, Insert, Remove, Grown, adjusted, adjusted_pair, has_label}
+use Rattle.edit_model.specs.LiveRange.LivePoints.{LivePoints, at_pair, labels_of, mapped, option_labels, pair_labels}
+use Rattle.edit_model.specs.DomModel.declared.Content.{Content}
+use Rattle.edit_model.specs.DomModel.Forest.{Forest, preorder, tree_of}
+use Rattle.edit_model.specs.DomModel.Places.{index_of}
 use Rattle.edit_parts.specs.declared.following.Removal.{Removal}
 use Rattle.edit_parts.specs.Following.{IsRemoval}
 use Rattle.edit_parts.proofs.Standing.{has_label-append}

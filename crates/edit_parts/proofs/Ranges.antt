@@ -2,15 +2,15 @@
 use Rattle.std.proofs.Common.{◌≡◌, ◌≢◌, ◌⊎◌, ℕ, Bool, true, false, not, ◌&&◌, ◌<◌, List, Option, Some, None, IfSome, refl, sym, ap, subst, ◌∙◌, inl, inr, eqb, cond, arith}
 use Rattle.std.proofs.lemmas.Bool.Decides.{eqb_tells}
 use Rattle.std.proofs.lemmas.Bool.{ltb-true}
-use Rattle.dom_model.specs.declared.Content.{Content}
-use Rattle.dom_model.specs.Forest.{Forest, count_of, tree_of}
-use Rattle.dom_model.specs.Contents.{length_of}
-use Rattle.dom_model.proofs.Totals.{total-without}
-use Rattle.live_range.specs.declared.places.Pair.{Pair}
-use Rattle.live_range.specs.declared.places.Point.{Point}
-use Rattle.live_range.specs.LivePoints.{LivePoints}
-use Rattle.live_range.specs.ActiveRange.{range_start, range_end, range_changed, same_point}
-use Rattle.point_order.specs.PointOrder.{is_before, is_in_document, is_placed}
+use Rattle.edit_model.specs.DomModel.declared.Content.{Content}
+use Rattle.edit_model.specs.DomModel.Forest.{Forest, count_of, tree_of}
+use Rattle.edit_model.specs.DomModel.Contents.{length_of}
+use Rattle.edit_model.proofs.DomModel.Totals.{total-without}
+use Rattle.edit_model.specs.LiveRange.declared.places.Pair.{Pair}
+use Rattle.edit_model.specs.LiveRange.declared.places.Point.{Point}
+use Rattle.edit_model.specs.LiveRange.LivePoints.{LivePoints}
+use Rattle.edit_model.specs.LiveRange.ActiveRange.{range_start, range_end, range_changed, same_point}
+use Rattle.edit_model.specs.PointOrder.PointOrder.{is_before, is_in_document, is_placed}
 use Rattle.edit_model.specs.declared.settings.Setting.{Setting}
 use Rattle.edit_model.specs.Overrides.{no_overrides}
 use Rattle.edit_parts.specs.declared.overrides.ActiveRange.{ActiveRange}

@@ -4,7 +4,7 @@ use Rattle.std.specs.Prelude.{bytes_eq}
 use Rattle.std.proofs.lemmas.List.{append_cancel_left, append_cancel_right, drop-drop, length-take, take-append-drop}
 use Rattle.std.proofs.lemmas.Bool.{le-leb, lt-ltb}
 use Rattle.std.proofs.lemmas.Slice.Eq.{bytes_eq-Decides}
-use Rattle.dom_model.specs.declared.Content.TheVariants.{Words}
+use Rattle.edit_model.specs.DomModel.declared.Content.TheVariants.{Words}
 use Rattle.edit_model.specs.Confined.{may_change, spliced}
 
 -- characters that are put where they stand

@@ -5,13 +5,13 @@ use Rattle.std.proofs.lemmas.List.{take_more, take_more_set}
 use Rattle.std.proofs.lemmas.List.Folds.{list_any-append}
 use Rattle.std.proofs.lemmas.Bool.{le-ltb, ltb_from_iff}
 use Rattle.std.proofs.lemmas.Bool.Decides.{eqb_tells}
-use Rattle.dom_model.specs.declared.Content.{Content}
-use Rattle.dom_model.specs.Forest.{Forest, count_of, preorder, tree_of, IsWithin}
-use Rattle.dom_model.proofs.Totals.{total-without}
+use Rattle.edit_model.specs.DomModel.declared.Content.{Content}
+use Rattle.edit_model.specs.DomModel.Forest.{Forest, count_of, preorder, tree_of, IsWithin}
+use Rattle.edit_model.proofs.DomModel.Totals.{total-without}
 use Rattle.edit_model.proofs.Points.{has_label-preorder}
 use Rattle.indexmap.specs.IndexSet.{insert_key, insert_all}
-use Rattle.live_range.specs.PointsEdit.{has_label}
-use Rattle.live_range.specs.LivePoints.{LivePoints, labels_of, standing}
+use Rattle.edit_model.specs.LiveRange.PointsEdit.{has_label}
+use Rattle.edit_model.specs.LiveRange.LivePoints.{LivePoints, labels_of, standing}
 
 or_false : (b : Bool) → (b || false) ≡ b
 or_false true = refl

@@ -3,15 +3,15 @@
 use Rattle.std.specs.Prelude.{◌≡◌, ◌≢◌, ℕ, ◌+◌, ◌≤◌, Bool, ◌&&◌, ◌||◌, ◌==◌, true, false, List, slice_get, take, Option, Some, None, IfSome, if◌then◌else◌}
 use Rattle.std.specs.List.{All}
 use Rattle.std.specs.Option.{option_map}
-use Rattle.dom_model.specs.declared.Content.{Content}
-use Rattle.dom_model.specs.Forest.{Forest, is_label, tree_of, preorder}
-use Rattle.dom_model.specs.Places.{index_of}
-use Rattle.live_range.specs.declared.places.Pair.{Pair}
-use Rattle.live_range.specs.declared.places.Point.{Point}
-use Rattle.live_range.specs.PointsEdit.{has_label}
-use Rattle.live_range.specs.LivePoints.{LivePoints, TellsAlike, labels_of}
-use Rattle.live_range.specs.ActiveRange.{range_start, range_end, range_changed}
-use Rattle.point_order.specs.PointOrder.{is_before}
+use Rattle.edit_model.specs.DomModel.declared.Content.{Content}
+use Rattle.edit_model.specs.DomModel.Forest.{Forest, is_label, tree_of, preorder}
+use Rattle.edit_model.specs.DomModel.Places.{index_of}
+use Rattle.edit_model.specs.LiveRange.declared.places.Pair.{Pair}
+use Rattle.edit_model.specs.LiveRange.declared.places.Point.{Point}
+use Rattle.edit_model.specs.LiveRange.PointsEdit.{has_label}
+use Rattle.edit_model.specs.LiveRange.LivePoints.{LivePoints, TellsAlike, labels_of}
+use Rattle.edit_model.specs.LiveRange.ActiveRange.{range_start, range_end, range_changed}
+use Rattle.edit_model.specs.PointOrder.PointOrder.{is_before}
 use Rattle.edit_model.specs.declared.settings.Setting.{Setting}
 use Rattle.edit_model.specs.Overrides.{no_overrides}
 use Rattle.edit_parts.specs.declared.overrides.ActiveRange.{ActiveRange}

@@ -1,11 +1,11 @@
 -- A walk over the tree of a node in tree order. No public clause cites this module.
 use Rattle.std.specs.Prelude.{◌≡◌, ℕ, ◌+◌, Some, not, filter}
-use Rattle.dom_model.specs.declared.Content.{Content}
-use Rattle.dom_model.specs.Forest.{content_of, depth_of, IsWithin}
-use Rattle.dom_model.specs.TreeOrder.{total_from, total_after}
-use Rattle.dom_model.specs.ArenaState.{ArenaState}
-use Rattle.node_arena.specs.declared.NodeRef.{NodeRef}
-use Rattle.node_arena.specs.Held.{Holds}
+use Rattle.edit_model.specs.DomModel.declared.Content.{Content}
+use Rattle.edit_model.specs.DomModel.Forest.{content_of, depth_of, IsWithin}
+use Rattle.edit_model.specs.DomModel.TreeOrder.{total_from, total_after}
+use Rattle.edit_model.specs.DomModel.ArenaState.{ArenaState}
+use Rattle.edit_model.specs.NodeArena.declared.NodeRef.{NodeRef}
+use Rattle.edit_model.specs.NodeArena.Held.{Holds}
 use Rattle.edit_parts.specs.declared.trees.Place.{Place}
 
 -- a held node of the tree of top, and how deep it is below that

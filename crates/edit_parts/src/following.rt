@@ -2,17 +2,17 @@
 
 ghost use Rattle.std.specs.Prelude.{◌≡◌, ◌≢◌, ◌+◌, ◌-◌, ◌<◌, ◌≤◌, ◌^◌, ℕ, [], ◌∷◌, IsNone, IfSome, false, slice_get, take};
 ghost use Rattle.std.specs.Option.{option_map_or};
-ghost use Rattle.dom_model.specs.declared.Content.{Content};
-ghost use Rattle.dom_model.specs.Forest.{Forest, is_label, preorder, tree_of};
-ghost use Rattle.dom_model.specs.Places.{index_of};
+ghost use Rattle.edit_model.specs.DomModel.declared.Content.{Content};
+ghost use Rattle.edit_model.specs.DomModel.Forest.{Forest, is_label, preorder, tree_of};
+ghost use Rattle.edit_model.specs.DomModel.Places.{index_of};
 ghost use Rattle.edit_parts.specs.Following.{IsRemoval, IsFrom, AreApart, AreUpTo, is_touched, is_pair_touched};
-ghost use Rattle.live_range.specs.PointsEdit.{Insert, Move, Remove, has_label};
-ghost use Rattle.live_range.specs.LivePoints.{Fits, LivePoints, TellsAlike, labels_of, mapped};
-ghost use Rattle.node_arena.specs.Held.{Holds};
+ghost use Rattle.edit_model.specs.LiveRange.PointsEdit.{Insert, Move, Remove, has_label};
+ghost use Rattle.edit_model.specs.LiveRange.LivePoints.{Fits, LivePoints, TellsAlike, labels_of, mapped};
+ghost use Rattle.edit_model.specs.NodeArena.Held.{Holds};
 
 use crate::Counts;
-use live_range::{Pair, Point, Points};
-use node_arena::{Arena, NodeRef};
+use edit_model::arena::{Arena, NodeRef};
+use edit_model::dom_ranges::{Pair, Point, Points};
 
 // The selection's two points, the scratch pair's, and those of 16 marks.
 const MOST_POINTS: usize = 36;

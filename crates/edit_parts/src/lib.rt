@@ -8,6 +8,8 @@ mod overrides;
 mod texts;
 mod trees;
 
+pub use edit_model as model;
+pub use edit_model::boundary;
 pub use following::{
     Removal, add_counts, adjust_inserted, adjust_moved, moving_from, removal_of, stands_at,
     take_counts,

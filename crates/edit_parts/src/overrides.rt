@@ -1,18 +1,18 @@
 //! The overrides of commands, which are unset where the active range changes.
 
 ghost use Rattle.std.specs.Prelude.{◌≡◌, ℕ, ◌<◌, false, length, IfOk, IfSome};
-ghost use Rattle.dom_model.specs.declared.Content.{Content};
-ghost use Rattle.dom_model.specs.Forest.{Forest};
+ghost use Rattle.edit_model.specs.DomModel.declared.Content.{Content};
+ghost use Rattle.edit_model.specs.DomModel.Forest.{Forest};
 ghost use Rattle.edit_model.specs.Valid.{IsPlacedPair};
 ghost use Rattle.edit_model.specs.Overrides.{no_overrides, place_of};
 ghost use Rattle.edit_parts.specs.Following.{Watches, range_in, unset_if_range_changed};
-ghost use Rattle.live_range.specs.LivePoints.{LivePoints};
+ghost use Rattle.edit_model.specs.LiveRange.LivePoints.{LivePoints};
 
 use edit_model::Setting;
-use html_names::Command;
-use live_range::{Point, Points};
-use node_arena::Arena;
-use point_order::comes_before;
+use edit_model::arena::Arena;
+use edit_model::boundary::comes_before;
+use edit_model::dom_ranges::{Point, Points};
+use edit_model::element_names::Command;
 use std::alloc::{AllocError, Global};
 
 const COMMANDS: usize = 32;

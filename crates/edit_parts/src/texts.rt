@@ -1,11 +1,11 @@
 //! What edits replace of contents.
 
 ghost use Rattle.std.specs.Prelude.{◌≡◌, ◌<◌, ◌+◌, ◌-◌, ◌^◌, [], length, take, drop, Some, IfOk, IfSome, is_some, unwrap_or};
-ghost use Rattle.dom_model.specs.Contents.{chars_in};
+ghost use Rattle.edit_model.specs.DomModel.Contents.{chars_in};
 ghost use Rattle.edit_model.specs.Confined.{has_value, may_change};
 
 use edit_model::EditFault;
-use node_arena::{Attributes, Chars, Content, MakeFault, Name};
+use edit_model::arena::{Attributes, Chars, Content, MakeFault, Name};
 use std::alloc::{AllocError, Global};
 
 const MOST_CHARS: usize = 4_294_967_295;

@@ -2,18 +2,18 @@
 
 ghost use Rattle.std.specs.Prelude.{◌≡◌, ◌+◌, ℕ, not, None, filter, IfSome};
 ghost use Rattle.std.specs.List.{list_all};
-ghost use Rattle.dom_model.specs.declared.Content.{Content};
-ghost use Rattle.dom_model.specs.Contents.{words_length};
-ghost use Rattle.dom_model.specs.Forest.{total, tree_of, parent_of, IsWithin};
-ghost use Rattle.dom_model.specs.Places.{levels};
-ghost use Rattle.dom_model.specs.TreeOrder.{total_from, total_after};
+ghost use Rattle.edit_model.specs.DomModel.declared.Content.{Content};
+ghost use Rattle.edit_model.specs.DomModel.Contents.{words_length};
+ghost use Rattle.edit_model.specs.DomModel.Forest.{total, tree_of, parent_of, IsWithin};
+ghost use Rattle.edit_model.specs.DomModel.Places.{levels};
+ghost use Rattle.edit_model.specs.DomModel.TreeOrder.{total_from, total_after};
 ghost use Rattle.edit_model.specs.Kept.{has_no_kept_leaves, borne_by, is_blank, is_empty, is_kept, is_thing};
 ghost use Rattle.edit_parts.specs.Walk.{IsIn, Goes, Stops};
-ghost use Rattle.node_arena.specs.Held.{Holds};
-ghost use Rattle.point_order.specs.PointOrder.{is_in_document};
+ghost use Rattle.edit_model.specs.NodeArena.Held.{Holds};
+ghost use Rattle.edit_model.specs.PointOrder.PointOrder.{is_in_document};
 
 use crate::Counts;
-use node_arena::{Arena, Content, NodeRef};
+use edit_model::arena::{Arena, Content, NodeRef};
 
 // A node of the tree of another, and how deep it is below that.
 #[derive(Clone, Copy)]

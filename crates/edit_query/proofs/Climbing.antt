@@ -3,13 +3,13 @@ use Rattle.std.proofs.Common.{◌≡◌, ℕ, ◌<◌, Bool, true, false, not, �
 use Rattle.std.proofs.lemmas.Bool.{and_parts}
 use Rattle.std.specs.List.{find}
 use Rattle.std.specs.Option.{option_map}
-use Rattle.dom_model.specs.declared.Content.{Content}
-use Rattle.dom_model.specs.Editing.{is_editable}
-use Rattle.dom_model.specs.Forest.{Forest, count_of, parent_of, IsDistinct}
-use Rattle.dom_model.proofs.Parts.{at_label}
-use Rattle.node_styles.specs.Lineage.{Ancestor}
-use Rattle.node_styles.proofs.Lineages.{lineage-child, lineage-root}
-use Rattle.node_styles.specs.NameClasses.{is_formattable_block}
+use Rattle.edit_model.specs.DomModel.declared.Content.{Content}
+use Rattle.edit_model.specs.DomModel.Editing.{is_editable}
+use Rattle.edit_model.specs.DomModel.Forest.{Forest, count_of, parent_of, IsDistinct}
+use Rattle.edit_model.proofs.DomModel.Parts.{at_label}
+use Rattle.command_value.specs.NodeStyles.Lineage.{Ancestor}
+use Rattle.command_value.proofs.NodeStyles.Lineages.{lineage-child, lineage-root}
+use Rattle.command_value.specs.NodeStyles.NameClasses.{is_formattable_block}
 use Rattle.edit_query.specs.BlockTypes.{goes_up, block_at}
 
 module _ (f : Forest Content) (host : ℕ) (once : IsDistinct f) (l : ℕ) (here : 0 < count_of f l) where

@@ -2,14 +2,14 @@
 use Rattle.std.proofs.Common.{◌≡◌, ℕ, Bool, true, false, not, ◌||◌, cond, eqb, Option, Some, None, IfSome, refl, sym, ap, ◌∙◌, inl, inr, true≢false}
 use Rattle.std.proofs.lemmas.Bool.{cases_Bool, eqb-true, eq-eqb}
 use Rattle.std.specs.Option.{option_map_or}
-use Rattle.dom_model.specs.declared.Content.{Content}
-use Rattle.dom_model.specs.Contents.{is_element}
-use Rattle.dom_model.specs.Editing.{is_true_state, is_false_state, editing_host, is_editable}
-use Rattle.dom_model.specs.Forest.{Forest, is_label, IsDistinct, parent_of}
-use Rattle.dom_model.proofs.Hosts.{editing_host-child}
-use Rattle.dom_model.proofs.Links.{parent_count}
-use Rattle.dom_model.proofs.Parts.{at_label}
-use Rattle.node_arena.specs.declared.NodeRef.{NodeRef}
+use Rattle.edit_model.specs.DomModel.declared.Content.{Content}
+use Rattle.edit_model.specs.DomModel.Contents.{is_element}
+use Rattle.edit_model.specs.DomModel.Editing.{is_true_state, is_false_state, editing_host, is_editable}
+use Rattle.edit_model.specs.DomModel.Forest.{Forest, is_label, IsDistinct, parent_of}
+use Rattle.edit_model.proofs.DomModel.Hosts.{editing_host-child}
+use Rattle.edit_model.proofs.DomModel.Links.{parent_count}
+use Rattle.edit_model.proofs.DomModel.Parts.{at_label}
+use Rattle.edit_model.specs.NodeArena.declared.NodeRef.{NodeRef}
 use Rattle.edit_model.specs.State.{State}
 use Rattle.edit_model.specs.Confined.{is_editable_for, is_inside}
 use Rattle.edit_model.specs.Gives.{label_of}

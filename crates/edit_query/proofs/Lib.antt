@@ -4,3 +4,5 @@ pub mod Throughout
 pub mod Hosting
 pub mod Climbing
 pub mod Typing
+pub use Rattle.block_extend.proofs.NodePaths
+pub mod Below

@@ -4,11 +4,11 @@ use Rattle.std.proofs.Math.Seq.{take-length}
 use Rattle.std.specs.Prelude.{map, filter}
 use Rattle.std.specs.List.{All}
 use Rattle.std.proofs.lemmas.List.Elements.{All-from_get_or, All-get_or}
-use Rattle.node_arena.specs.declared.NodeRef.{NodeRef}
-use Rattle.node_tests.specs.Listing.{only_if}
+use Rattle.edit_model.specs.NodeArena.declared.NodeRef.{NodeRef}
+use Rattle.block_extend.specs.NodeTests.Listing.{only_if}
 use Rattle.edit_model.specs.Gives.{labels_of}
-use Rattle.edit_doc.specs.Whole.{Whole}
-use Rattle.edit_doc.specs.Held.{Holds, EachHeld}
+use Rattle.edit_actions.specs.EditDoc.Whole.{Whole}
+use Rattle.edit_actions.specs.EditDoc.Held.{Holds, EachHeld}
 
 pub labels_mapped : (xs : List NodeRef) → map (λ r. r.label) xs ≡ labels_of xs
 labels_mapped [] = refl

@@ -1,7 +1,7 @@
 -- Of subscript and superscript, values that are alike are equal texts.
 use Rattle.std.proofs.Common.{◌≡◌, ℕ, Bool, true, false, ◌||◌, List, Option, Some, None, refl, bytes_eq, codes}
 use Rattle.std.specs.Option.{option_map_or}
-use Rattle.html_names.specs.declared.commands.Command.TheVariants as command
+use Rattle.edit_model.specs.HtmlNames.declared.commands.Command.TheVariants as command
 use Rattle.command_value.specs.Equivalence.{are_equivalent, are_alike, alike}
 
 no_more : (b : Bool) → (((b || false) || false) || false) ≡ b

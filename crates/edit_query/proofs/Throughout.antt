@@ -1,7 +1,7 @@
 -- A command at all nodes of a list, or at the range's start, by the first of the list.
 use Rattle.std.proofs.Common.{◌≡◌, ℕ, List, [], ◌∷◌, Some, None, refl}
 use Rattle.std.specs.List.{list_all}
-use Rattle.html_names.specs.declared.commands.Command.{Command}
+use Rattle.edit_model.specs.HtmlNames.declared.commands.Command.{Command}
 use Rattle.command_value.specs.EffectiveValues.{is_activated}
 use Rattle.edit_model.specs.State.{State}
 use Rattle.edit_query.specs.Formattable.{first_in}

@@ -1,8 +1,8 @@
 -- The types of the nodes of a list.
 use Rattle.std.proofs.Common.{◌≡◌, ℕ, Bool, true, false, not, ◌||◌, List, ◌∷◌, Some, refl, bytes_eq}
 use Rattle.std.proofs.lemmas.Slice.Eq.{bytes_eq-Decides}
-use Rattle.dom_model.specs.declared.Content.{Content}
-use Rattle.dom_model.specs.Forest.{Forest}
+use Rattle.edit_model.specs.DomModel.declared.Content.{Content}
+use Rattle.edit_model.specs.DomModel.Forest.{Forest}
 use Rattle.edit_query.specs.BlockTypes.{block_at, type_in, type_of, has_other_type}
 
 pub same_text : (xs ys : List ℕ) → xs ≡ ys → bytes_eq xs ys ≡ true

@@ -3,11 +3,11 @@
 use Rattle.std.specs.Prelude.{ℕ, Bool, false, not, ◌&&◌, List, [], ◌∷◌, Option, bytes_eq, if◌then◌else◌}
 use Rattle.std.specs.List.{find, list_any}
 use Rattle.std.specs.Option.{option_map, option_map_or}
-use Rattle.dom_model.specs.declared.Content.{Content}
-use Rattle.dom_model.specs.Editing.{is_editable}
-use Rattle.dom_model.specs.Forest.{Forest, parent_of}
-use Rattle.node_styles.specs.Lineage.{lineage}
-use Rattle.node_styles.specs.NameClasses.{is_formattable_block}
+use Rattle.edit_model.specs.DomModel.declared.Content.{Content}
+use Rattle.edit_model.specs.DomModel.Editing.{is_editable}
+use Rattle.edit_model.specs.DomModel.Forest.{Forest, parent_of}
+use Rattle.command_value.specs.NodeStyles.Lineage.{lineage}
+use Rattle.command_value.specs.NodeStyles.NameClasses.{is_formattable_block}
 use Rattle.block_extend.specs.Prohibited.{is_above_prohibited}
 use Rattle.edit_model.specs.Compositions.{tag_of}
 

@@ -1,6 +1,6 @@
 -- Whether the selection is a caret.
 use Rattle.std.specs.Prelude.{Bool, false, ◌==◌, ◌&&◌, Option, Some, None}
-use Rattle.live_range.specs.declared.places.Pair.{Pair}
+use Rattle.edit_model.specs.LiveRange.declared.places.Pair.{Pair}
 use Rattle.edit_model.specs.State.{State}
 
 -- both points are at one place

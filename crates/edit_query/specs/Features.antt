@@ -1,7 +1,7 @@
 -- What a question looks for at each node of a list. No public clause cites this module.
 use Rattle.std.specs.Prelude.{ℕ, Bool}
-use Rattle.dom_model.specs.declared.Content.{Content}
-use Rattle.dom_model.specs.Forest.{Forest}
+use Rattle.edit_model.specs.DomModel.declared.Content.{Content}
+use Rattle.edit_model.specs.DomModel.Forest.{Forest}
 use Rattle.command_value.specs.EffectiveValues.{is_activated}
 use Rattle.edit_query.specs.declared.listed.Feature.{Feature}
 use Rattle.edit_query.specs.declared.listed.Feature.TheVariants.{On, Aligned}

@@ -1,9 +1,9 @@
 -- The nodes of the block-extended active range that a command on blocks goes over.
 use Rattle.std.specs.Prelude.{ℕ, Bool, List, [], Option, Some, None}
-use Rattle.dom_model.specs.declared.Content.{Content}
-use Rattle.dom_model.specs.Forest.{Forest}
-use Rattle.live_range.specs.declared.places.Pair.{Pair}
-use Rattle.live_range.specs.declared.places.Point.{Point}
+use Rattle.edit_model.specs.DomModel.declared.Content.{Content}
+use Rattle.edit_model.specs.DomModel.Forest.{Forest}
+use Rattle.edit_model.specs.LiveRange.declared.places.Pair.{Pair}
+use Rattle.edit_model.specs.LiveRange.declared.places.Point.{Point}
 use Rattle.edit_model.specs.State.{State}
 use Rattle.edit_actions.specs.ActiveRange.{start_of, end_of}
 use Rattle.block_extend.specs.BlockExtend.{block_extend}

@@ -3,13 +3,13 @@
 -- "block-extend", "visible").
 use Rattle.std.specs.Prelude.{ℕ, Bool, ◌&&◌, List, [], Option, Some, None, is_none}
 use Rattle.std.specs.List.{filter}
-use Rattle.dom_model.specs.declared.Content.{Content}
-use Rattle.dom_model.specs.Editing.{is_editable}
-use Rattle.dom_model.specs.Forest.{Forest, first_of}
-use Rattle.live_range.specs.declared.places.Pair.{Pair}
-use Rattle.live_range.specs.declared.places.Point.{Point}
-use Rattle.node_tests.specs.Ranges.{contained_nodes}
-use Rattle.node_tests.specs.Visible.{is_visible}
+use Rattle.edit_model.specs.DomModel.declared.Content.{Content}
+use Rattle.edit_model.specs.DomModel.Editing.{is_editable}
+use Rattle.edit_model.specs.DomModel.Forest.{Forest, first_of}
+use Rattle.edit_model.specs.LiveRange.declared.places.Pair.{Pair}
+use Rattle.edit_model.specs.LiveRange.declared.places.Point.{Point}
+use Rattle.block_extend.specs.NodeTests.Ranges.{contained_nodes}
+use Rattle.block_extend.specs.NodeTests.Visible.{is_visible}
 use Rattle.block_extend.specs.BlockExtend.{block_extend}
 use Rattle.edit_model.specs.State.{State}
 use Rattle.edit_actions.specs.ActiveRange.{start_of, end_of}

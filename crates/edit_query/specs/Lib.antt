@@ -11,3 +11,6 @@ pub mod Gathered
 pub mod Rows
 pub mod Queries
 pub mod Replies
+pub use Rattle.block_extend.specs as BlockExtend
+pub use Rattle.block_extend.specs.NodePaths
+pub mod Below

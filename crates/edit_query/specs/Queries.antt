@@ -2,11 +2,11 @@
 -- like), as a running command asks them: with its host, and whether the command asked for is
 -- supported or enabled isn't looked at.
 use Rattle.std.specs.Prelude.{ℕ, Bool, true, false, List, Option}
-use Rattle.html_names.specs.declared.commands.Command.{Command}
-use Rattle.html_names.specs.declared.commands.Command.TheVariants as command
-use Rattle.html_names.specs.declared.query.QueryKind.{QueryKind}
-use Rattle.html_names.specs.declared.query.QueryKind.TheVariants.{Enabled, Indeterm, State, Supported}
-use Rattle.html_names.specs.declared.query.QueryKind.TheVariants as kind
+use Rattle.edit_model.specs.HtmlNames.declared.commands.Command.{Command}
+use Rattle.edit_model.specs.HtmlNames.declared.commands.Command.TheVariants as command
+use Rattle.edit_model.specs.HtmlNames.declared.query.QueryKind.{QueryKind}
+use Rattle.edit_model.specs.HtmlNames.declared.query.QueryKind.TheVariants.{Enabled, Indeterm, State, Supported}
+use Rattle.edit_model.specs.HtmlNames.declared.query.QueryKind.TheVariants as kind
 use Rattle.edit_model.specs.declared.settings.Setting.{Setting}
 use Rattle.edit_model.specs.declared.settings.Setting.TheVariants.{On, Off, Text, Absent}
 use Rattle.edit_model.specs.Overrides.{setting_of}

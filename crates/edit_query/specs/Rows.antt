@@ -3,11 +3,11 @@
 use Rattle.std.specs.Prelude.{ℕ, ◌+◌, Bool, true, false, ◌||◌, List, [], ◌∷◌, Option, Some, None, codes, if◌then◌else◌}
 use Rattle.std.specs.List.{list_all}
 use Rattle.std.specs.Option.{option_map_or, option_and_then, option_or, unwrap_or}
-use Rattle.css_value.specs.declared.values.TextAlign.TheVariants as text_align
-use Rattle.css_value.specs.Numbers.{legacy_size}
-use Rattle.css_value.specs.Values.{font_size_of}
-use Rattle.html_names.specs.declared.commands.Command.{Command}
-use Rattle.html_names.specs.declared.commands.Command.TheVariants as command
+use Rattle.command_value.specs.CssValue.declared.values.TextAlign.TheVariants as text_align
+use Rattle.command_value.specs.CssValue.Numbers.{legacy_size}
+use Rattle.command_value.specs.CssValue.Values.{font_size_of}
+use Rattle.edit_model.specs.HtmlNames.declared.commands.Command.{Command}
+use Rattle.edit_model.specs.HtmlNames.declared.commands.Command.TheVariants as command
 use Rattle.command_value.specs.Alignment.{alignment_value}
 use Rattle.command_value.specs.EffectiveValues.{effective, is_activated}
 use Rattle.edit_model.specs.State.{State}

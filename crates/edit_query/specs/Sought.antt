@@ -1,8 +1,8 @@
 -- Which nodes of a list a question is about. No public clause cites this module.
 use Rattle.std.specs.Prelude.{ℕ, Bool}
-use Rattle.dom_model.specs.declared.Content.{Content}
-use Rattle.dom_model.specs.Forest.{Forest}
-use Rattle.node_tests.specs.Visible.{is_formattable}
+use Rattle.edit_model.specs.DomModel.declared.Content.{Content}
+use Rattle.edit_model.specs.DomModel.Forest.{Forest}
+use Rattle.block_extend.specs.NodeTests.Visible.{is_formattable}
 use Rattle.edit_query.specs.declared.sought.Sought.{Sought}
 use Rattle.edit_query.specs.declared.sought.Sought.TheVariants as sought
 use Rattle.edit_query.specs.Leaves.{is_leaf}

@@ -1,18 +1,18 @@
 //! The types of nodes: the names of the blocks that they stand in.
 
 ghost use Rattle.std.specs.Prelude.{◌≡◌, true, not, Some, bytes_eq};
-ghost use Rattle.dom_model.specs.Forest.{parent_of};
+ghost use Rattle.edit_model.specs.DomModel.Forest.{parent_of};
 ghost use Rattle.edit_model.specs.Compositions.{tag_of};
 ghost use Rattle.edit_model.specs.Gives.{labels_of};
-ghost use Rattle.edit_doc.specs.Held.{Holds, EachHeld};
+ghost use Rattle.edit_actions.specs.EditDoc.Held.{Holds, EachHeld};
 ghost use Rattle.edit_query.specs.Inside.{is_in_host};
 ghost use Rattle.edit_query.specs.BlockTypes.{goes_up, block_at, is_typed, type_in, type_of, has_other_type, have_other_types};
 
 use crate::inside::is_editable_within;
 use block_extend::is_above_prohibited;
-use dom_model::Content;
-use edit_doc::{Doc, NodeRef};
-use node_tests::{is_editable, is_formattable_block};
+use block_extend::questions::{is_editable, is_formattable_block};
+use edit_actions::doc::{Doc, NodeRef};
+use edit_model::dom::Content;
 
 // Whether the parent of a node is editable, and the node is no element with a formattable block
 // name.

@@ -3,7 +3,7 @@
 ghost use Rattle.std.specs.Prelude.{◌≡◌};
 ghost use Rattle.edit_query.specs.Carets.{is_caret};
 
-use edit_doc::Doc;
+use edit_actions::doc::Doc;
 
 /// Whether the selection is a caret: both its points are at one place.
 #[tactic(auto, unfolding(crate::specs::Carets::is_caret))]

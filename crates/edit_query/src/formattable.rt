@@ -3,16 +3,16 @@
 ghost use Rattle.std.specs.Prelude.{◌≡◌, IfOk};
 ghost use Rattle.edit_model.specs.Gives.{label_of, labels_of};
 ghost use Rattle.edit_model.specs.Valid.{IsPlacedPair};
-ghost use Rattle.edit_doc.specs.Held.{Holds, IfHeld, EachHeld, Finds};
-ghost use Rattle.node_tests.specs.Ranges.{effective_nodes};
+ghost use Rattle.edit_actions.specs.EditDoc.Held.{Holds, IfHeld, EachHeld, Finds};
+ghost use Rattle.block_extend.specs.NodeTests.Ranges.{effective_nodes};
 ghost use Rattle.edit_actions.specs.ActiveRange.{start_of, end_of};
 ghost use Rattle.edit_query.specs.Formattable.{first_in, formattable_between, formattable_nodes, first_formattable, start_node};
 
 use crate::sought::{Sought, first_sought, sought_of};
+use block_extend::questions::effective_nodes;
+use edit_actions::doc::{Doc, NodeList, NodeRef, Pair};
 use edit_actions::ends_of;
-use edit_doc::{Doc, NodeList, NodeRef, Pair};
-use node_tests::effective_nodes;
-use point_order::node_of;
+use edit_model::boundary::node_of;
 use std::alloc::{AllocError, Global};
 
 /// The nodes that the range of a pair of points effectively contains.

@@ -1,15 +1,15 @@
 //! The nodes of the block-extended active range that a command on blocks goes over.
 
 ghost use Rattle.std.specs.Prelude.{◌≡◌, ◌<◌, IfOk};
-ghost use Rattle.dom_model.specs.Forest.{count_of};
+ghost use Rattle.edit_model.specs.DomModel.Forest.{count_of};
 ghost use Rattle.edit_model.specs.Gives.{labels_of};
 ghost use Rattle.edit_model.specs.Valid.{IsPlacedPair};
-ghost use Rattle.edit_doc.specs.Held.{EachHeld};
+ghost use Rattle.edit_actions.specs.EditDoc.Held.{EachHeld};
 ghost use Rattle.edit_query.specs.Gathered as gathered;
 
 use block_extend::{Choice, block_extend, gather_in};
+use edit_actions::doc::{Doc, NodeList, Pair, Point};
 use edit_actions::ends_of;
-use edit_doc::{Doc, NodeList, Pair, Point};
 use std::alloc::{AllocError, Global};
 
 /// The ends of the range of two points, block-extended.

@@ -1,13 +1,13 @@
 //! Whether a node is editable, asked of one after the other on the way up.
 
 ghost use Rattle.std.specs.Prelude.{◌≡◌, true};
-ghost use Rattle.dom_model.specs.Editing.{is_editable};
+ghost use Rattle.edit_model.specs.DomModel.Editing.{is_editable};
 ghost use Rattle.edit_model.specs.Confined.{is_editable_for, is_inside};
-ghost use Rattle.edit_doc.specs.Held.{Holds};
+ghost use Rattle.edit_actions.specs.EditDoc.Held.{Holds};
 ghost use Rattle.edit_query.specs.Inside.{is_in_host};
 
-use edit_doc::{Doc, NodeRef};
-use node_tests::is_editable;
+use block_extend::questions::is_editable;
+use edit_actions::doc::{Doc, NodeRef};
 
 /// Whether a node is editable with a host, for one who may know that it is that host or editable
 /// with it: then the way up to the host isn't gone.

@@ -1,18 +1,18 @@
 //! The leaves of the block-extended active range: its visible editable nodes without children.
 
 ghost use Rattle.std.specs.Prelude.{◌≡◌, ◌<◌, IfOk};
-ghost use Rattle.dom_model.specs.Forest.{count_of};
+ghost use Rattle.edit_model.specs.DomModel.Forest.{count_of};
 ghost use Rattle.edit_model.specs.Gives.{label_of, labels_of};
 ghost use Rattle.edit_model.specs.Valid.{IsPlacedPair};
-ghost use Rattle.edit_doc.specs.Held.{Holds, IfHeld, EachHeld, Finds};
+ghost use Rattle.edit_actions.specs.EditDoc.Held.{Holds, IfHeld, EachHeld, Finds};
 ghost use Rattle.edit_query.specs.Formattable.{first_in};
 ghost use Rattle.edit_query.specs.Leaves.{is_leaf, nodes_in, extended_nodes, leaves_between, leaves, first_leaf};
 
 use crate::sought::{Sought, first_sought, sought_of};
 use block_extend::block_extend;
+use block_extend::questions::{contained_nodes, is_editable, is_visible};
+use edit_actions::doc::{Doc, NodeList, NodeRef, Pair, Point};
 use edit_actions::ends_of;
-use edit_doc::{Doc, NodeList, NodeRef, Pair, Point};
-use node_tests::{contained_nodes, is_editable, is_visible};
 use std::alloc::{AllocError, Global};
 
 /// Whether a node is editable with this host, has no children and is visible. Of a node with

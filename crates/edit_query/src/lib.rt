@@ -22,6 +22,8 @@ mod reply;
 mod rows;
 mod sought;
 
+pub use block_extend as extend;
+pub use block_extend::node_place;
 pub use carets::is_caret;
 pub use formattable::{first_formattable, formattable_nodes};
 pub use gathered::{extended, outermost};

@@ -3,19 +3,19 @@
 ghost use Rattle.std.specs.Prelude.{◌≡◌, ◌<◌, ◌||◌, Bool, Some, IfOk, codes, not, true};
 ghost use Rattle.std.specs.List.{list_all, list_any};
 ghost use Rattle.std.specs.Option.{option_map_or};
-ghost use Rattle.dom_model.specs.Editing.{is_editable};
-ghost use Rattle.dom_model.specs.Forest.{parent_of, count_of};
-ghost use Rattle.node_styles.specs.Allowed.{allowed_in_name};
+ghost use Rattle.edit_model.specs.DomModel.Editing.{is_editable};
+ghost use Rattle.edit_model.specs.DomModel.Forest.{parent_of, count_of};
+ghost use Rattle.command_value.specs.NodeStyles.Allowed.{allowed_in_name};
 ghost use Rattle.edit_model.specs.Gives.{label_of, labels_of};
 ghost use Rattle.edit_model.specs.Valid.{IsPlacedPair};
-ghost use Rattle.edit_doc.specs.Held.{Holds, IfHeld, EachHeld};
+ghost use Rattle.edit_actions.specs.EditDoc.Held.{Holds, IfHeld, EachHeld};
 ghost use Rattle.edit_query.specs.ListStates as lists;
 
+use block_extend::questions::{editing_host, has_name, is_indentation};
 use block_extend::{Choice, allowed_in_item, block_extend, gather_in, has_descendant};
+use edit_actions::doc::{Doc, NodeList, NodeRef, Pair, Point};
 use edit_actions::ends_of;
-use edit_doc::{Doc, NodeList, NodeRef, Pair, Point};
-use node_arena::Nodes;
-use node_tests::{editing_host, has_name, is_indentation};
+use edit_model::arena::Nodes;
 use std::alloc::{AllocError, Global};
 
 /// Which kind of list the lines of a range stand in (HTML Editing APIs, "selection's list state").

@@ -5,18 +5,18 @@ ghost use Rattle.std.specs.List.{filter, list_all, list_any};
 ghost use Rattle.std.specs.Option.{option_map_or, option_copied};
 ghost use Rattle.command_value.specs.EffectiveValues as values;
 ghost use Rattle.command_value.specs.ValueTexts.{value_text};
-ghost use Rattle.node_tests.specs.Visible.{is_formattable};
+ghost use Rattle.block_extend.specs.NodeTests.Visible.{is_formattable};
 ghost use Rattle.edit_model.specs.Gives.{labels_of};
-ghost use Rattle.edit_doc.specs.Held.{Holds, EachHeld};
+ghost use Rattle.edit_actions.specs.EditDoc.Held.{Holds, EachHeld};
 ghost use Rattle.edit_query.specs.Features.{has_feature};
 ghost use Rattle.edit_query.specs.Listed.{is_partly, is_mixed, has_mixed, is_same_value, has_other_value, have_other_values};
 
+use block_extend::questions::is_formattable;
+use command_value::css::{TextAlign, has_codes, is_decimal, is_pixels};
 use command_value::{Value, alignment, effective, effective_value, has_alike_value, is_activated};
-use css_value::{TextAlign, has_codes, is_decimal, is_pixels};
-use dom_model::Chars;
-use edit_doc::{Doc, NodeRef};
-use html_names::Command;
-use node_tests::is_formattable;
+use edit_actions::doc::{Doc, NodeRef};
+use edit_model::dom::Chars;
+use edit_model::element_names::Command;
 use std::alloc::{AllocError, Global};
 
 /// What is looked for at each node of a list.

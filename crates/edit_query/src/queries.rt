@@ -2,14 +2,14 @@
 
 ghost use Rattle.std.specs.Prelude.{◌≡◌, IfOk};
 ghost use Rattle.edit_model.specs.Gives.{label_of};
-ghost use Rattle.edit_doc.specs.Held.{IfHeld};
+ghost use Rattle.edit_actions.specs.EditDoc.Held.{IfHeld};
 ghost use Rattle.edit_query.specs.Queries.{shown_override, state_of, value_of, query_in};
 
 use crate::reply::{Reply, no_reply};
 use crate::rows::{legacy_text, own_indeterm, own_state, own_value};
-use dom_model::Chars;
-use edit_doc::{Doc, NodeRef, Setting};
-use html_names::{Command, QueryKind};
+use edit_actions::doc::{Doc, NodeRef, Setting};
+use edit_model::dom::Chars;
+use edit_model::element_names::{Command, QueryKind};
 use std::alloc::{AllocError, Global};
 
 /// The state of a command (HTML Editing APIs, "state"): its state override, or else whether it is

@@ -3,8 +3,8 @@
 ghost use Rattle.std.specs.Prelude.{◌≡◌};
 ghost use Rattle.edit_query.specs.Replies.{no_reply};
 
-use dom_model::Chars;
-use html_names::QueryKind;
+use edit_model::dom::Chars;
+use edit_model::element_names::QueryKind;
 use std::alloc::Global;
 
 /// What a question about a command is answered (HTML Editing APIs, "methods to query and execute

@@ -2,11 +2,11 @@
 
 ghost use Rattle.std.specs.Prelude.{◌≡◌, ◌+◌, Bool, IfOk, []};
 ghost use Rattle.std.specs.Option.{option_map_or, option_copied, unwrap_or, option_or};
-ghost use Rattle.css_value.specs.Numbers as sizes;
+ghost use Rattle.command_value.specs.CssValue.Numbers as sizes;
 ghost use Rattle.command_value.specs.EffectiveValues as values;
 ghost use Rattle.edit_model.specs.Gives.{label_of};
 ghost use Rattle.edit_model.specs.Valid.{IsPlacedPair};
-ghost use Rattle.edit_doc.specs.Held.{Holds, IfHeld, Finds};
+ghost use Rattle.edit_actions.specs.EditDoc.Held.{Holds, IfHeld, Finds};
 ghost use Rattle.edit_query.specs.Formattable.{formattable_between, first_formattable, start_node};
 ghost use Rattle.edit_query.specs.Leaves.{leaves};
 ghost use Rattle.edit_query.specs.Listed.{is_partly_aligned, are_aligned};
@@ -20,11 +20,11 @@ use crate::listed::{
     Feature, has_mixed, have_other_values, is_at_all, is_on_at_formattable, is_partly,
 };
 use crate::sought::{Sought, first_sought};
+use command_value::css::{TextAlign, legacy_size, read_font_size};
 use command_value::{alignment, effective, is_activated};
-use css_value::{TextAlign, legacy_size, read_font_size};
-use dom_model::Chars;
-use edit_doc::{Doc, NodeRef, Pair};
-use html_names::Command;
+use edit_actions::doc::{Doc, NodeRef, Pair};
+use edit_model::dom::Chars;
+use edit_model::element_names::Command;
 use std::alloc::{AllocError, Global};
 
 // Whether two leaves have different types.
@@ -266,7 +266,7 @@ fn or_empty(alloc: Global, value: Option<Chars>) -> Result<Chars, AllocError>
 }
 
 // The digit of the legacy size of a size in pixels.
-#[tactic(auto, unfolding(css_value::specs::Numbers::legacy_size))]
+#[tactic(auto, unfolding(crate::specs::Below::legacy_size))]
 fn size_digit(px: u32) -> char
     ensures { result ≡ 48 + sizes.legacy_size px }
 {

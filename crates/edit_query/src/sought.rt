@@ -2,15 +2,15 @@
 
 ghost use Rattle.std.specs.Prelude.{◌≡◌, ◌++◌, IfOk, OnOk};
 ghost use Rattle.std.specs.List.{filter};
-ghost use Rattle.node_tests.specs.Listing.{only_if};
+ghost use Rattle.block_extend.specs.NodeTests.Listing.{only_if};
 ghost use Rattle.edit_model.specs.Gives.{labels_of};
-ghost use Rattle.edit_doc.specs.Held.{Holds, EachHeld, Finds};
+ghost use Rattle.edit_actions.specs.EditDoc.Held.{Holds, EachHeld, Finds};
 ghost use Rattle.edit_query.specs.Formattable.{first_in};
 ghost use Rattle.edit_query.specs.Sought.{is_sought};
 
 use crate::leaves::is_leaf;
-use edit_doc::{Doc, NodeRef};
-use node_tests::is_formattable;
+use block_extend::questions::is_formattable;
+use edit_actions::doc::{Doc, NodeRef};
 use std::alloc::{AllocError, Global};
 
 /// Which nodes a question is about.
@@ -35,7 +35,7 @@ pub(crate) fn is_sought(doc: &Doc, host: NodeRef, sought: Sought, node: NodeRef)
 }
 
 // Puts a node behind those found before, where it is such a one.
-#[tactic(auto, using(edit_model::proofs::Steps::labels_of_push_end, edit_doc::proofs::Children::pushed_held))]
+#[tactic(auto, using(edit_model::proofs::Steps::labels_of_push_end, crate::proofs::Below::pushed_held))]
 fn push_sought(
     doc: &Doc,
     host: NodeRef,

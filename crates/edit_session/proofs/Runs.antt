@@ -6,20 +6,20 @@ use Rattle.edit_io.specs.Faults.{Rose}
 use Rattle.edit_io.specs.Told.{with_end, TakesPrefix}
 use Rattle.edit_io.proofs.Told.{takes_whole, with_end-nil, with_end-with_end, takes_longer, takes_after}
 use Rattle.edit_io.proofs.Faults.{Rose-after}
-use Rattle.dom_model.specs.declared.Content.{Content}
-use Rattle.dom_model.specs.Forest.{Forest}
-use Rattle.dom_model.specs.ArenaState.{ArenaState}
-use Rattle.page_grammar.specs.Page.{Siblings}
-use Rattle.page_grammar.specs.Kind.{Kind}
-use Rattle.page_grammar.specs.Nodes.{document_of}
-use Rattle.page_grammar.specs.Reading.{Reading, Children, Refused, page_reading}
+use Rattle.page_read.specs.DomModel.declared.Content.{Content}
+use Rattle.page_read.specs.DomModel.Forest.{Forest}
+use Rattle.page_read.specs.DomModel.ArenaState.{ArenaState}
+use Rattle.page_read.specs.PageGrammar.Page.{Siblings}
+use Rattle.page_read.specs.PageGrammar.Kind.{Kind}
+use Rattle.page_read.specs.PageGrammar.Nodes.{document_of}
+use Rattle.page_read.specs.PageGrammar.Reading.{Reading, Children, Refused, page_reading}
 use Rattle.page_read.specs.Answer.{IsFaultAnswer}
 use Rattle.page_read.specs.declared.faults.PageFault.{PageFault}
 use Rattle.edit_session.specs.Block.{Block, NoOpening, NoClosing, Whole, lines_of, block_of}
-use Rattle.edit_doc.specs.Whole.{first_state}
+use Rattle.edit_engine.specs.EditDoc.Whole.{first_state}
 use Rattle.edit_engine.specs.Editing.{Editing, new_editing}
-use Rattle.page_grammar.specs.Page.{size}
-use Rattle.dom_model.specs.Forest.{tops}
+use Rattle.page_read.specs.PageGrammar.Page.{size}
+use Rattle.page_read.specs.DomModel.Forest.{tops}
 use Rattle.page_read.specs.Answer.{IsDocument}
 use Rattle.edit_session.specs.Replies.{line_reply, replies_to}
 use Rattle.edit_session.specs.Transcript.{Transcript, transcript_of, page_editing, page_document, checked, acted, run_block, step_refused, replay_ended, replayed_on, replay_block, gives}
@@ -30,9 +30,9 @@ use Rattle.edit_session.specs.Bulk.{bulk_text}
 use Rattle.edit_session.specs.Words.{Limits, Order, Run, Check, Replay, Bulk, usual_limits}
 use Rattle.edit_session.specs.Replay.{Replayed, replay, IsFault}
 use Rattle.edit_session.specs.declared.replay.Refusal.{Refusal}
-use Rattle.step_text.specs.Applying.{labelled}
-use Rattle.step_text.specs.declared.line.StepFault.{StepFault}
-use Rattle.step_text.specs.declared.line.StepFault.TheVariants as faults
+use Rattle.edit_engine.specs.StepText.Applying.{labelled}
+use Rattle.edit_engine.specs.StepText.declared.line.StepFault.{StepFault}
+use Rattle.edit_engine.specs.StepText.declared.line.StepFault.TheVariants as faults
 
 -- ---- statuses that no transcript gives
 

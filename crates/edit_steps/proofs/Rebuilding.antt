@@ -1,7 +1,7 @@
 -- A text built from the part before a splice, what it puts, and the part behind.
 use Rattle.std.proofs.Common.{◌≡◌, ℕ, ◌+◌, ◌≤◌, List, ◌++◌, length, take, drop, arith, length-append}
-use Rattle.dom_model.specs.Room.{room_of, spliced}
-use Rattle.dom_model.proofs.Rooms.{fits}
+use Rattle.forest_changes.specs.DomModel.Room.{room_of, spliced}
+use Rattle.forest_changes.proofs.DomModel.Rooms.{fits}
 
 -- the parts together have room
 pub parts_fit : (words put : List ℕ) (at gone room : ℕ) → room_of (length (spliced words at gone put)) ≤ room

@@ -1,11 +1,11 @@
 -- Steps one after another, over an arena and over its forest.
 use Rattle.std.proofs.Common.{◌≡◌, List, [], ◌∷◌, map, Option, Some, None, refl, sym, ap, subst, ◌∙◌}
-use Rattle.dom_model.specs.declared.Content.{Content}
-use Rattle.dom_model.specs.Forest.{Forest}
-use Rattle.dom_model.specs.ArenaState.{ArenaState, IsSlotted}
+use Rattle.forest_changes.specs.DomModel.declared.Content.{Content}
+use Rattle.forest_changes.specs.DomModel.Forest.{Forest}
+use Rattle.forest_changes.specs.DomModel.ArenaState.{ArenaState, IsSlotted}
 use Rattle.node_arena.specs.declared.NodeRef.{NodeRef}
 use Rattle.node_arena.specs.Held.{Holds, label}
-use Rattle.undo_log.specs.Turning.{back, forth, inverses_back, inverses_forth, FitsBack, FitsForth}
+use Rattle.forest_changes.specs.UndoLog.Turning.{back, forth, inverses_back, inverses_forth, FitsBack, FitsForth}
 use Rattle.forest_changes.specs.Change.{Fits, applied, inverse}
 use Rattle.forest_changes.specs.Named.{named, listed, Each}
 use Rattle.forest_changes.proofs.ChangeLists.{each_join, each_first, each_rest}

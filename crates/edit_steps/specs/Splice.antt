@@ -1,6 +1,6 @@
 -- What a step is that replaces characters of a node in place.
 use Rattle.std.specs.Prelude.{◌≡◌, ◌⊎◌, ℕ, ◌+◌, ◌≤◌, List, [], ◌∷◌, length, vec_capacity}
-use Rattle.dom_model.specs.Room.{room_of}
+use Rattle.forest_changes.specs.DomModel.Room.{room_of}
 use Rattle.node_arena.specs.declared.NodeRef.{NodeRef}
 use Rattle.edit_steps.specs.declared.splice.Exchange.{Exchange}
 use Rattle.edit_steps.specs.declared.splice.Texts.{Texts}

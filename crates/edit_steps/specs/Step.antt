@@ -1,12 +1,12 @@
 -- What a step of the log does to an arena.
 use Rattle.std.specs.Prelude.{◌≡◌, ℕ, List, [], ◌∷◌, ◌++◌, unwrap_or, map}
 use Rattle.std.specs.Option.{option_map}
-use Rattle.dom_model.specs.Contents.{chars_of, attributes_of}
-use Rattle.dom_model.specs.Forest.{parent_of, next_of}
-use Rattle.dom_model.specs.ArenaState.{ArenaState, IsSlotted, slot_of}
+use Rattle.forest_changes.specs.DomModel.Contents.{chars_of, attributes_of}
+use Rattle.forest_changes.specs.DomModel.Forest.{parent_of, next_of}
+use Rattle.forest_changes.specs.DomModel.ArenaState.{ArenaState, IsSlotted, slot_of}
 use Rattle.node_arena.specs.declared.NodeRef.{NodeRef}
 use Rattle.node_arena.specs.Held.{Holds, label}
-use Rattle.undo_log.specs.Turning.{back, forth, inverses_back, inverses_forth, FitsBack, FitsForth}
+use Rattle.forest_changes.specs.UndoLog.Turning.{back, forth, inverses_back, inverses_forth, FitsBack, FitsForth}
 use Rattle.forest_changes.specs.Change.{Change, Remove, Insert, Move, SetText, Splice, SetAttributes, Fits, applied, inverse}
 use Rattle.forest_changes.specs.Named.{listed, Each}
 use Rattle.edit_steps.specs.declared.step.Step.{Step}

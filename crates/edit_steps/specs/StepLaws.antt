@@ -1,12 +1,12 @@
 -- A step applied twice leaves the arena and the step as they were.
 use Rattle.std.proofs.Common.{◌≡◌, ℕ, ◌<◌, List, [], ◌∷◌, Option, Some, None, IfSome, unwrap_or, refl, sym, ap, ◌∙◌}
 use Rattle.std.specs.Option.{option_map}
-use Rattle.dom_model.specs.declared.attributes.Attribute.{Attribute}
-use Rattle.dom_model.specs.Forest.{count_of, parent_of, next_of}
-use Rattle.dom_model.proofs.Links.{parent_count, next_here}
+use Rattle.forest_changes.specs.DomModel.declared.attributes.Attribute.{Attribute}
+use Rattle.forest_changes.specs.DomModel.Forest.{count_of, parent_of, next_of}
+use Rattle.forest_changes.proofs.DomModel.Links.{parent_count, next_here}
 use Rattle.node_arena.specs.declared.NodeRef.{NodeRef}
 use Rattle.node_arena.specs.Held.{Holds, label}
-use Rattle.dom_model.specs.ArenaState.{ArenaState, IsSlotted}
+use Rattle.forest_changes.specs.DomModel.ArenaState.{ArenaState, IsSlotted}
 use Rattle.forest_changes.specs.Change.{Insert, Move, SetText, SetAttributes, applied, inverse}
 use Rattle.forest_changes.proofs.Twice.{turns, given_parent, count_of-applied}
 use Rattle.edit_steps.specs.declared.step.Step.{Step}

@@ -2,10 +2,10 @@
 //! changes do). Each law is the contract of a function that does nothing.
 
 ghost use Rattle.std.specs.Prelude.{◌≡◌, ℕ, List, map};
-ghost use Rattle.dom_model.specs.ArenaState.{ArenaState, IsSlotted};
+ghost use Rattle.forest_changes.specs.DomModel.ArenaState.{ArenaState, IsSlotted};
 ghost use Rattle.node_arena.specs.declared.NodeRef.{NodeRef};
 ghost use Rattle.node_arena.specs.Held.{Holds};
-ghost use Rattle.undo_log.specs.Turning.{FitsBack, FitsForth};
+ghost use Rattle.forest_changes.specs.UndoLog.Turning.{FitsBack, FitsForth};
 ghost use Rattle.forest_changes.specs.Change.{Fits, applied, inverse};
 ghost use Rattle.forest_changes.specs.Named.{named, Each};
 ghost use Rattle.edit_steps.specs.Step.{change_of, changes_of, step_applied, step_inverse, nodes_of, nodes_in, StepFits, GoBack, GoForth};

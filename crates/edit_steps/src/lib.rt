@@ -9,5 +9,7 @@ pub mod laws;
 mod splice;
 mod step;
 
+pub use forest_changes::history;
+pub use node_arena as arena;
 pub use splice::Splice;
 pub use step::Step;

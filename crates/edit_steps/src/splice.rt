@@ -1,16 +1,16 @@
 //! Steps that replace characters of a node in place.
 
 ghost use Rattle.std.specs.Prelude.{◌≡◌, ◌<◌, ◌+◌, ◌^◌, ◌≤◌, [], true, unwrap_or, length, vec_capacity, IfOk};
-ghost use Rattle.dom_model.specs.Contents.{chars_of, has_chars_at, with_chars};
-ghost use Rattle.dom_model.specs.Revised.{revised};
-ghost use Rattle.dom_model.specs.Room.{room_of};
+ghost use Rattle.forest_changes.specs.DomModel.Contents.{chars_of, has_chars_at, with_chars};
+ghost use Rattle.forest_changes.specs.DomModel.Revised.{revised};
+ghost use Rattle.forest_changes.specs.DomModel.Room.{room_of};
 ghost use Rattle.node_arena.specs.Held.{Holds};
 ghost use Rattle.forest_changes.specs.Change.{spliced_at};
 ghost use Rattle.edit_steps.specs.Splice.{HasExchangeRoom, splice_of};
 ghost use Rattle.edit_steps.specs.Step.{StepFits, step_applied, step_inverse};
 ghost use Rattle.edit_steps.specs.declared.step.Step.TheVariants as step;
 
-use dom_model::room;
+use forest_changes::dom::room;
 use node_arena::{Arena, Chars, NodeRef};
 use std::alloc::{AllocError, Global};
 use std::marker::Model;

@@ -4,11 +4,11 @@ ghost use Rattle.std.specs.Prelude.{◌≡◌, ◌<◌};
 ghost use Rattle.edit_steps.specs.Step.{StepFits, step_applied, step_inverse};
 
 use crate::splice::Splice;
+use forest_changes::history::Invertible;
+use node_arena::stepping::Steps;
 use node_arena::{Arena, Attributes, Chars, NodeRef};
 use std::marker::Brand;
 use std::sync::ledger::{Blank, Ledger};
-use step_count::Steps;
-use undo_log::Invertible;
 
 /// An edit of an arena that takes another one back. Remove becomes Insert and the reverse; Move
 /// exchanges the place of the node with the one that it has, SetText and SetAttributes exchange the

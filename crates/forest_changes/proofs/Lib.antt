@@ -8,3 +8,5 @@ pub mod DownChange
 pub mod ChangeLists
 pub mod ManyLeaves
 pub mod Wholes
+pub use Rattle.dom_model.proofs as DomModel
+pub use Rattle.undo_log.proofs as UndoLog

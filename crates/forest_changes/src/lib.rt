@@ -126,3 +126,6 @@ pub fn have_made()
         → EachMade cs
         → HasMade l cs f }
 {}
+
+pub use dom_model as dom;
+pub use undo_log as history;

@@ -3,14 +3,14 @@
 use Rattle.std.proofs.Common.{ℕ, List, [], length, Option, Some, None, IfSome, refl}
 use Rattle.std.specs.Prelude.{unwrap_or}
 use Rattle.std.specs.Option.{option_and_then}
-use Rattle.dom_model.specs.declared.attributes.Attribute.{Attribute}
-use Rattle.dom_model.specs.declared.Content.{Content}
-use Rattle.dom_model.specs.declared.Content.TheVariants.{Document, Element, Words, Remark}
-use Rattle.dom_model.specs.Change.{Change}
-use Rattle.dom_model.specs.Contents.{chars_in, with_chars, with_attributes}
-use Rattle.dom_model.specs.Forest.{Forest, content_of}
-use Rattle.forest_changes.specs.Change as forest
-use Rattle.edit_model.specs.Compositions.{characters_of}
+use Rattle.edit_commands.specs.DomModel.declared.attributes.Attribute.{Attribute}
+use Rattle.edit_commands.specs.DomModel.declared.Content.{Content}
+use Rattle.edit_commands.specs.DomModel.declared.Content.TheVariants.{Document, Element, Words, Remark}
+use Rattle.edit_commands.specs.DomModel.Change.{Change}
+use Rattle.edit_commands.specs.DomModel.Contents.{chars_in, with_chars, with_attributes}
+use Rattle.edit_commands.specs.DomModel.Forest.{Forest, content_of}
+use Rattle.edit_commands.specs.ForestChanges.Change as forest
+use Rattle.edit_commands.specs.EditModel.Compositions.{characters_of}
 use Rattle.step_text.specs.StepLine.{IsTag}
 use Rattle.grammar_laws.specs.Proper.{AllNodes, IsText, IsList, IsProper, IsProperChange}
 use Rattle.grammar_laws.proofs.Nodes.{node_at, nodes_also, nodes_linked, nodes_unlinked, nodes_revised}

@@ -4,18 +4,18 @@
 -- of a name.
 use Rattle.std.specs.Prelude.{◌≡◌, ℕ, List, true, false}
 use Rattle.std.specs.Str.{all_scalars}
-use Rattle.dom_model.specs.declared.attributes.Attribute.{Attribute}
-use Rattle.dom_model.specs.declared.Content.{Content}
-use Rattle.dom_model.specs.declared.Content.TheVariants.{Document, Element, Words, Remark}
-use Rattle.dom_model.specs.AttributeList.{IsDistinctNames}
-use Rattle.dom_model.specs.Change.{Change, SetText, Splice, SetAttributes}
-use Rattle.dom_model.specs.Forest.{Forest}
-use Rattle.dom_model.specs.Forest.Forest.{Nil, Tree}
-use Rattle.forest_changes.specs.Named.{Each}
-use Rattle.edit_model.specs.State.{State}
-use Rattle.edit_model.specs.declared.settings.Setting.{Setting}
-use Rattle.edit_model.specs.declared.settings.Setting.TheVariants.{Text}
-use Rattle.page_grammar.specs.Names.{is_refused}
+use Rattle.edit_commands.specs.DomModel.declared.attributes.Attribute.{Attribute}
+use Rattle.edit_commands.specs.DomModel.declared.Content.{Content}
+use Rattle.edit_commands.specs.DomModel.declared.Content.TheVariants.{Document, Element, Words, Remark}
+use Rattle.edit_commands.specs.DomModel.AttributeList.{IsDistinctNames}
+use Rattle.edit_commands.specs.DomModel.Change.{Change, SetText, Splice, SetAttributes}
+use Rattle.edit_commands.specs.DomModel.Forest.{Forest}
+use Rattle.edit_commands.specs.DomModel.Forest.Forest.{Nil, Tree}
+use Rattle.edit_commands.specs.ForestChanges.Named.{Each}
+use Rattle.edit_commands.specs.EditModel.State.{State}
+use Rattle.edit_commands.specs.EditModel.declared.settings.Setting.{Setting}
+use Rattle.edit_commands.specs.EditModel.declared.settings.Setting.TheVariants.{Text}
+use Rattle.step_text.specs.PageGrammar.Names.{is_refused}
 use Rattle.page_laws.specs.Writable.{HasNoClose}
 use Rattle.step_text.specs.StepLine.{AreAttributes, IsTag}
 

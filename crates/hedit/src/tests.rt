@@ -12,7 +12,7 @@ mod replay;
 mod typing;
 mod words;
 
-use edit_io::{MemorySink, MemorySource, SliceSource, SureSink};
+use edit_session::streams::{MemorySink, MemorySource, SliceSource, SureSink};
 use edit_session::{Status, run_session};
 use std::alloc::{AllocError, Global};
 use std::process::Abort;

@@ -1,9 +1,9 @@
 -- What a run comes to whose source and sink never fail.
 use Rattle.std.proofs.Common.{◌≡◌, ◌≢◌, ◌⊎◌, inl, inr, ℕ, List, [], refl, ap, ◌∙◌, arith}
 use Rattle.std.specs.Prelude.{Some}
-use Rattle.edit_io.specs.Faults.{Rose}
-use Rattle.edit_io.specs.Told.{with_end}
-use Rattle.edit_io.proofs.Told.{with_end-some}
+use Rattle.edit_session.specs.EditIo.Faults.{Rose}
+use Rattle.edit_session.specs.EditIo.Told.{with_end}
+use Rattle.edit_session.proofs.EditIo.Told.{with_end-some}
 use Rattle.edit_session.specs.Following.{RunFollows, ReadFailed, WriteFailed}
 use Rattle.edit_session.specs.Transcript.{Transcript, transcript_of}
 use Rattle.edit_session.specs.declared.session.Status.{Status}

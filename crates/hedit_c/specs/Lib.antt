@@ -5,3 +5,4 @@ pub mod Calls
 pub mod Following
 pub mod Nodes
 pub mod Subtrees
+pub mod Below

@@ -1,11 +1,11 @@
 -- The links among the ancestors of a node, by its parent.
 use Rattle.std.proofs.Common.{◌≡◌, ℕ, ◌<◌, List, [], reverse, map, Some, None, refl}
 use Rattle.std.specs.Prelude.{filter}
-use Rattle.dom_model.specs.declared.Content.{Content}
-use Rattle.dom_model.specs.Forest.{Forest, count_of, parent_of, IsDistinct}
-use Rattle.dom_model.proofs.Parts.{at_label}
-use Rattle.node_styles.specs.Lineage.{lineage}
-use Rattle.node_styles.proofs.Lineages.{lineage-root, lineage-child}
+use Rattle.edit_model.specs.DomModel.declared.Content.{Content}
+use Rattle.edit_model.specs.DomModel.Forest.{Forest, count_of, parent_of, IsDistinct}
+use Rattle.edit_model.proofs.DomModel.Parts.{at_label}
+use Rattle.inline_value.specs.NodeStyles.Lineage.{lineage}
+use Rattle.inline_value.proofs.NodeStyles.Lineages.{lineage-root, lineage-child}
 use Rattle.inline_value.specs.Forcing.{ancestors}
 use Rattle.inline_commands.specs.Merging.{links_above}
 use Rattle.inline_commands.specs.Unlink.{is_link}

@@ -5,16 +5,16 @@ use Rattle.std.specs.Option.{unwrap_or}
 use Rattle.std.proofs.lemmas.Bool.Decides.{eqb_tells, nat_tests}
 use Rattle.std.proofs.lemmas.List.{append-nil, reverse-append}
 use Rattle.std.proofs.lemmas.List.Elements.{filter-append}
-use Rattle.dom_model.specs.declared.Content.{Content}
-use Rattle.dom_model.specs.Forest.{Forest, count_of, tree_of, parent_of, preorder, IsDistinct, IsWithin}
-use Rattle.dom_model.specs.Forest.Forest.{Nil, Tree}
-use Rattle.dom_model.proofs.Links.{join-Nil, tree_of_absent, eqb_refl_true}
-use Rattle.dom_model.proofs.Move.{parent_apart}
-use Rattle.dom_model.proofs.Walks.{document_first}
-use Rattle.dom_model.proofs.Within.{within_step, within_child, within_root}
-use Rattle.point_order.specs.PointOrder.{is_within, is_ancestor}
-use Rattle.node_styles.specs.Lineage.{Ancestor, lineage_from, lineage}
-use Rattle.node_styles.proofs.Lineages.{ancestor, lineage_absent}
+use Rattle.edit_model.specs.DomModel.declared.Content.{Content}
+use Rattle.edit_model.specs.DomModel.Forest.{Forest, count_of, tree_of, parent_of, preorder, IsDistinct, IsWithin}
+use Rattle.edit_model.specs.DomModel.Forest.Forest.{Nil, Tree}
+use Rattle.edit_model.proofs.DomModel.Links.{join-Nil, tree_of_absent, eqb_refl_true}
+use Rattle.edit_model.proofs.DomModel.Move.{parent_apart}
+use Rattle.edit_model.proofs.DomModel.Walks.{document_first}
+use Rattle.edit_model.proofs.DomModel.Within.{within_step, within_child, within_root}
+use Rattle.edit_model.specs.PointOrder.PointOrder.{is_within, is_ancestor}
+use Rattle.inline_value.specs.NodeStyles.Lineage.{Ancestor, lineage_from, lineage}
+use Rattle.inline_value.proofs.NodeStyles.Lineages.{ancestor, lineage_absent}
 use Rattle.edit_model.specs.Valid.{IsForest}
 use Rattle.inline_commands.specs.Merging.{links_above}
 use Rattle.inline_commands.specs.Unlink.{is_link}

@@ -4,19 +4,19 @@ use Rattle.std.specs.Prelude.{IfSome, filter}
 use Rattle.std.specs.List.{list_any}
 use Rattle.std.proofs.lemmas.Bool.{and_parts}
 use Rattle.std.proofs.lemmas.Bool.Decides.{eqb_tells}
-use Rattle.dom_model.specs.declared.Content.{Content}
-use Rattle.dom_model.specs.Forest.{Forest, count_of, times, IsWithin, tree_of, parent_of, preorder}
-use Rattle.dom_model.specs.Places.{index_of}
-use Rattle.dom_model.proofs.Totals.{total-without}
-use Rattle.dom_model.proofs.Within.{within_self}
-use Rattle.live_range.specs.declared.places.Pair.{Pair}
-use Rattle.point_order.specs.PointOrder.{is_ancestor, is_before, is_placed}
-use Rattle.node_tests.specs.Ranges.{is_effectively_contained}
+use Rattle.edit_model.specs.DomModel.declared.Content.{Content}
+use Rattle.edit_model.specs.DomModel.Forest.{Forest, count_of, times, IsWithin, tree_of, parent_of, preorder}
+use Rattle.edit_model.specs.DomModel.Places.{index_of}
+use Rattle.edit_model.proofs.DomModel.Totals.{total-without}
+use Rattle.edit_model.proofs.DomModel.Within.{within_self}
+use Rattle.edit_model.specs.LiveRange.declared.places.Pair.{Pair}
+use Rattle.edit_model.specs.PointOrder.PointOrder.{is_ancestor, is_before, is_placed}
+use Rattle.inline_value.specs.NodeTests.Ranges.{is_effectively_contained}
 use Rattle.edit_model.specs.State.{State}
 use Rattle.edit_model.specs.Valid.{IsForest, IsPlacedPair, IsValid}
 use Rattle.edit_model.proofs.Trees.{within_trans}
-use Rattle.edit_actions.specs.ActiveRange.{start_of, end_of}
-use Rattle.edit_actions.proofs.Placed.{placed_inside}
+use Rattle.inline_value.specs.EditActions.ActiveRange.{start_of, end_of}
+use Rattle.inline_value.proofs.EditActions.Placed.{placed_inside}
 use Rattle.inline_value.specs.Selections.{nodes_by, nodes_in_range}
 use Rattle.inline_commands.specs.Linking.{is_around, links_around}
 use Rattle.inline_commands.specs.Merging.{links_above, links_over, merged}

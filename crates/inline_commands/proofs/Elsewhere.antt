@@ -5,19 +5,19 @@ use Rattle.std.specs.List.{find}
 use Rattle.std.specs.Option.{option_map_or}
 use Rattle.std.proofs.lemmas.Bool.{and_from, and_parts, and_right, false_from_ne_true, le-ltb, lt-ltb}
 use Rattle.std.proofs.lemmas.Bool.Decides.{eqb_tells, nat_tests}
-use Rattle.dom_model.specs.declared.Content.{Content}
-use Rattle.dom_model.specs.Contents.{length_of}
-use Rattle.dom_model.specs.Forest.{Forest, Seen, seek, count_of, times, tree_of, parent_of, children_of, preorder, IsDistinct, IsWithin}
-use Rattle.dom_model.specs.Forest.Forest.{Nil, Tree}
-use Rattle.dom_model.specs.Places.{first_of_two, index_of}
-use Rattle.dom_model.proofs.Links.{found_stands, parent_of_child}
-use Rattle.dom_model.proofs.Totals.{total-without}
-use Rattle.dom_model.proofs.Walks.{document_first}
-use Rattle.dom_model.proofs.Within.{within_self, within_up}
-use Rattle.live_range.specs.declared.places.Point.{Point}
-use Rattle.point_order.specs.PointOrder.{child_toward, is_before, is_before_below, is_within}
-use Rattle.node_tests.specs.CollapsedWhitespace.{is_words}
-use Rattle.node_tests.specs.Ranges.{is_contained, is_partial, is_cut, is_touched, has_trees, all_effective, is_effectively_contained, contained_nodes, effective_nodes}
+use Rattle.edit_model.specs.DomModel.declared.Content.{Content}
+use Rattle.edit_model.specs.DomModel.Contents.{length_of}
+use Rattle.edit_model.specs.DomModel.Forest.{Forest, Seen, seek, count_of, times, tree_of, parent_of, children_of, preorder, IsDistinct, IsWithin}
+use Rattle.edit_model.specs.DomModel.Forest.Forest.{Nil, Tree}
+use Rattle.edit_model.specs.DomModel.Places.{first_of_two, index_of}
+use Rattle.edit_model.proofs.DomModel.Links.{found_stands, parent_of_child}
+use Rattle.edit_model.proofs.DomModel.Totals.{total-without}
+use Rattle.edit_model.proofs.DomModel.Walks.{document_first}
+use Rattle.edit_model.proofs.DomModel.Within.{within_self, within_up}
+use Rattle.edit_model.specs.LiveRange.declared.places.Point.{Point}
+use Rattle.edit_model.specs.PointOrder.PointOrder.{child_toward, is_before, is_before_below, is_within}
+use Rattle.inline_value.specs.NodeTests.CollapsedWhitespace.{is_words}
+use Rattle.inline_value.specs.NodeTests.Ranges.{is_contained, is_partial, is_cut, is_touched, has_trees, all_effective, is_effectively_contained, contained_nodes, effective_nodes}
 use Rattle.edit_model.specs.Valid.{IsForest}
 use Rattle.edit_model.proofs.Trees.{within_trans}
 use Rattle.inline_commands.proofs.Ancestors.{parts, tree_after}

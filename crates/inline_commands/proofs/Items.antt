@@ -1,8 +1,8 @@
 -- A turn of a loop over a list of any items, and its end.
 use Rattle.std.proofs.Common.{◌≡◌, ℕ, ◌+◌, ◌<◌, ◌≤◌, List, length, drop, get_or, sym, ap, ◌∙◌, subst, add-one, drop-cons, arith}
 use Rattle.std.proofs.Math.ListN.{drop_of_length-le}
-use Rattle.html_names.specs.declared.commands.Command.{Command}
-use Rattle.html_names.specs.declared.commands.Command.TheVariants.{Bold}
+use Rattle.edit_model.specs.HtmlNames.declared.commands.Command.{Command}
+use Rattle.edit_model.specs.HtmlNames.declared.commands.Command.TheVariants.{Bold}
 use Rattle.edit_model.specs.declared.settings.EditFault.{EditFault}
 use Rattle.edit_model.specs.State.{State}
 use Rattle.edit_model.specs.Gives.{Fails}

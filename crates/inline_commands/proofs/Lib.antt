@@ -8,3 +8,4 @@ pub mod Order
 pub mod Pairs
 pub mod Touched
 pub mod TreeOrder
+pub mod Below

@@ -3,14 +3,14 @@ use Rattle.std.proofs.Common.{◌≡◌, ℕ, ◌+◌, ◌<◌, ◌≤◌, Bool,
 use Rattle.std.specs.Prelude.{filter}
 use Rattle.std.specs.List.{All}
 use Rattle.std.proofs.lemmas.List.Elements.{All-append, All-drop, All-from_get_or, All-get_or}
-use Rattle.dom_model.specs.declared.Content.{Content}
-use Rattle.dom_model.specs.Forest.{Forest, times}
-use Rattle.node_arena.specs.declared.NodeRef.{NodeRef}
-use Rattle.point_order.specs.PointOrder.{is_ancestor}
+use Rattle.edit_model.specs.DomModel.declared.Content.{Content}
+use Rattle.edit_model.specs.DomModel.Forest.{Forest, times}
+use Rattle.edit_model.specs.NodeArena.declared.NodeRef.{NodeRef}
+use Rattle.edit_model.specs.PointOrder.PointOrder.{is_ancestor}
 use Rattle.edit_model.specs.Gives.{labels_of}
 use Rattle.edit_model.proofs.Steps.{labels_of_drop, labels_of_end, labels_of_push, labels_of-append}
-use Rattle.edit_doc.specs.Whole.{Whole}
-use Rattle.edit_doc.specs.Held.{Holds, EachHeld}
+use Rattle.inline_value.specs.EditDoc.Whole.{Whole}
+use Rattle.inline_value.specs.EditDoc.Held.{Holds, EachHeld}
 use Rattle.inline_commands.specs.Merging.{around, beyond, links_above, links_over, merged}
 use Rattle.inline_commands.proofs.Pairs.{Pairs, found, head_in}
 

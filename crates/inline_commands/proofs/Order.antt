@@ -2,15 +2,15 @@
 use Rattle.std.proofs.Common.{◌≡◌, ◌≢◌, ℕ, zero, suc, ◌<◌, true, false, not, refl, sym, ap, subst, ◌∙◌, inl, inr, arith, eqb, nat_lt, Some}
 use Rattle.std.proofs.lemmas.Bool.{and_parts, le-ltb}
 use Rattle.std.proofs.lemmas.Bool.Decides.{eqb_tells, nat_tests}
-use Rattle.dom_model.specs.declared.Content.{Content}
-use Rattle.dom_model.specs.Forest.{Forest, count_of, IsDistinct, IsWithin, tree_of, parent_of}
-use Rattle.dom_model.specs.Places.{index_of}
-use Rattle.dom_model.proofs.Earlier.{first_of_two-within, first_of_two-swap}
-use Rattle.dom_model.proofs.Links.{tree_of_absent, eqb_refl_true}
-use Rattle.live_range.specs.declared.places.Point.{Point}
-use Rattle.point_order.specs.PointOrder.{is_ancestor, is_before, is_within}
-use Rattle.node_tests.specs.Listing.{LiesAfter, LiesBefore}
-use Rattle.node_tests.proofs.Reaching.{after_it, before_it, child_with}
+use Rattle.edit_model.specs.DomModel.declared.Content.{Content}
+use Rattle.edit_model.specs.DomModel.Forest.{Forest, count_of, IsDistinct, IsWithin, tree_of, parent_of}
+use Rattle.edit_model.specs.DomModel.Places.{index_of}
+use Rattle.edit_model.proofs.DomModel.Earlier.{first_of_two-within, first_of_two-swap}
+use Rattle.edit_model.proofs.DomModel.Links.{tree_of_absent, eqb_refl_true}
+use Rattle.edit_model.specs.LiveRange.declared.places.Point.{Point}
+use Rattle.edit_model.specs.PointOrder.PointOrder.{is_ancestor, is_before, is_within}
+use Rattle.inline_value.specs.NodeTests.Listing.{LiesAfter, LiesBefore}
+use Rattle.inline_value.proofs.NodeTests.Reaching.{after_it, before_it, child_with}
 use Rattle.edit_model.proofs.Trees.{within_trans}
 use Rattle.inline_commands.proofs.Ancestors.{and_false, none_told}
 

@@ -3,20 +3,20 @@ use Rattle.std.proofs.Common.{◌≡◌, ◌≢◌, ◌⊎◌, ℕ, zero, suc, �
 use Rattle.std.specs.Prelude.{filter}
 use Rattle.std.specs.Option.{option_map_or, option_and_then}
 use Rattle.std.proofs.lemmas.Bool.Decides.{eqb_tells}
-use Rattle.dom_model.specs.declared.Content.{Content}
-use Rattle.dom_model.specs.Forest.{Forest, count_of, IsDistinct, IsWithin, times, tree_of, parent_of, children_of, first_of, next_of, first_in, after_in, preorder_onto, preorder}
-use Rattle.dom_model.specs.Forest.Forest.{Nil, Tree}
-use Rattle.dom_model.specs.Places.{index_of, place_in}
-use Rattle.dom_model.proofs.Links.{parent_count, times-children_of, eqb_refl_true}
-use Rattle.dom_model.proofs.Lists.{times-append}
-use Rattle.dom_model.proofs.Move.{parent_apart}
-use Rattle.dom_model.proofs.Parts.{at_label}
-use Rattle.dom_model.proofs.Walks.{document_first}
-use Rattle.dom_model.proofs.Within.{within_self, within_up}
+use Rattle.edit_model.specs.DomModel.declared.Content.{Content}
+use Rattle.edit_model.specs.DomModel.Forest.{Forest, count_of, IsDistinct, IsWithin, times, tree_of, parent_of, children_of, first_of, next_of, first_in, after_in, preorder_onto, preorder}
+use Rattle.edit_model.specs.DomModel.Forest.Forest.{Nil, Tree}
+use Rattle.edit_model.specs.DomModel.Places.{index_of, place_in}
+use Rattle.edit_model.proofs.DomModel.Links.{parent_count, times-children_of, eqb_refl_true}
+use Rattle.edit_model.proofs.DomModel.Lists.{times-append}
+use Rattle.edit_model.proofs.DomModel.Move.{parent_apart}
+use Rattle.edit_model.proofs.DomModel.Parts.{at_label}
+use Rattle.edit_model.proofs.DomModel.Walks.{document_first}
+use Rattle.edit_model.proofs.DomModel.Within.{within_self, within_up}
 use Rattle.edit_model.specs.Valid.{IsForest}
-use Rattle.node_paths.specs.Onward.{onward_at}
-use Rattle.node_paths.proofs.Onward.{first_inner, next_inner, first_leads}
-use Rattle.node_paths.proofs.Visiting.{Visit, visit, size_from}
+use Rattle.inline_value.specs.NodePaths.Onward.{onward_at}
+use Rattle.inline_value.proofs.NodePaths.Onward.{first_inner, next_inner, first_leads}
+use Rattle.inline_value.proofs.NodePaths.Visiting.{Visit, visit, size_from}
 use Rattle.inline_commands.proofs.TreeOrder.{preorder_tree}
 
 -- ---- lists

@@ -2,19 +2,19 @@
 use Rattle.std.proofs.Common.{◌≡◌, ◌≢◌, ◌⊎◌, inl, inr, ℕ, ◌+◌, ◌<◌, ◌≤◌, Bool, true, false, cond, not, ◌&&◌, ◌||◌, List, [], ◌∷◌, ◌++◌, Option, Some, None, refl, sym, ap, ◌∙◌, arith}
 use Rattle.std.specs.Prelude.{filter}
 use Rattle.std.proofs.lemmas.Bool.{and_parts}
-use Rattle.dom_model.specs.declared.Content.{Content}
-use Rattle.dom_model.specs.Contents.{length_of}
-use Rattle.dom_model.specs.Forest.{Forest, count_of, IsWithin, tree_of, parent_of, preorder}
-use Rattle.dom_model.specs.Places.{index_of}
-use Rattle.live_range.specs.declared.places.Pair.{Pair}
-use Rattle.live_range.specs.declared.places.Point.{Point}
-use Rattle.point_order.specs.PointOrder.{is_ancestor, is_before}
-use Rattle.node_tests.specs.Ranges.{is_contained, contained_nodes}
-use Rattle.node_tests.proofs.Reaching.{before_it}
+use Rattle.edit_model.specs.DomModel.declared.Content.{Content}
+use Rattle.edit_model.specs.DomModel.Contents.{length_of}
+use Rattle.edit_model.specs.DomModel.Forest.{Forest, count_of, IsWithin, tree_of, parent_of, preorder}
+use Rattle.edit_model.specs.DomModel.Places.{index_of}
+use Rattle.edit_model.specs.LiveRange.declared.places.Pair.{Pair}
+use Rattle.edit_model.specs.LiveRange.declared.places.Point.{Point}
+use Rattle.edit_model.specs.PointOrder.PointOrder.{is_ancestor, is_before}
+use Rattle.inline_value.specs.NodeTests.Ranges.{is_contained, contained_nodes}
+use Rattle.inline_value.proofs.NodeTests.Reaching.{before_it}
 use Rattle.edit_model.specs.Valid.{IsForest}
 use Rattle.edit_model.proofs.Documents.{index_below}
 use Rattle.edit_model.proofs.Trees.{within_trans}
-use Rattle.edit_actions.specs.ActiveRange.{start_of, end_of}
+use Rattle.inline_value.specs.EditActions.ActiveRange.{start_of, end_of}
 use Rattle.inline_commands.specs.Merging.{links_above, links_inside, merged}
 use Rattle.inline_commands.specs.Unlink.{is_link, is_touched, links_in}
 use Rattle.inline_commands.proofs.Ancestors.{filter_by, filter_both, filter_none, and_false, found_above}

@@ -1,8 +1,8 @@
 -- The nodes of a forest in tree order, by its first tree.
 use Rattle.std.proofs.Common.{◌≡◌, ℕ, List, [], ◌∷◌, ◌++◌, refl, sym, ap, ◌∙◌, append_assoc}
-use Rattle.dom_model.specs.declared.Content.{Content}
-use Rattle.dom_model.specs.Forest.{Forest, preorder_onto, preorder}
-use Rattle.dom_model.specs.Forest.Forest.{Nil, Tree}
+use Rattle.edit_model.specs.DomModel.declared.Content.{Content}
+use Rattle.edit_model.specs.DomModel.Forest.{Forest, preorder_onto, preorder}
+use Rattle.edit_model.specs.DomModel.Forest.Forest.{Nil, Tree}
 
 preorder_split : (f : Forest Content) (ls : List ℕ) → preorder_onto f ls ≡ preorder f ++ ls
 preorder_split Nil ls = refl

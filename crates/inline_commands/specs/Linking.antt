@@ -2,9 +2,9 @@
 -- docs/ALGORITHMS.md.
 use Rattle.std.specs.Prelude.{ℕ, Bool, true, false, ◌&&◌, List, [], ◌∷◌, codes, filter, Some, if◌then◌else◌}
 use Rattle.std.specs.List.{list_any}
-use Rattle.dom_model.specs.Forest.{preorder, tree_of}
-use Rattle.html_names.specs.declared.commands.Command.TheVariants as command
-use Rattle.point_order.specs.PointOrder.{is_ancestor}
+use Rattle.edit_model.specs.DomModel.Forest.{preorder, tree_of}
+use Rattle.edit_model.specs.HtmlNames.declared.commands.Command.TheVariants as command
+use Rattle.edit_model.specs.PointOrder.PointOrder.{is_ancestor}
 use Rattle.edit_model.specs.State.{State}
 use Rattle.edit_model.specs.Confined.{is_editable_for}
 use Rattle.edit_model.specs.Run.{Run, ◌>>=◌, ◌>>◌, answer, done, look, for_each, set_attribute}

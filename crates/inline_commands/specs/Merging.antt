@@ -1,11 +1,11 @@
 -- The lists of the links that a range touches, and of those around what it contains, made from
 -- their parts. No public clause cites this module.
 use Rattle.std.specs.Prelude.{ℕ, not, List, [], ◌∷◌, ◌++◌, filter, reverse, if◌then◌else◌}
-use Rattle.dom_model.specs.declared.Content.{Content}
-use Rattle.dom_model.specs.Forest.{Forest}
-use Rattle.live_range.specs.declared.places.Point.{Point}
-use Rattle.point_order.specs.PointOrder.{is_ancestor, is_before}
-use Rattle.node_tests.specs.Ranges.{contained_nodes}
+use Rattle.edit_model.specs.DomModel.declared.Content.{Content}
+use Rattle.edit_model.specs.DomModel.Forest.{Forest}
+use Rattle.edit_model.specs.LiveRange.declared.places.Point.{Point}
+use Rattle.edit_model.specs.PointOrder.PointOrder.{is_ancestor, is_before}
+use Rattle.inline_value.specs.NodeTests.Ranges.{contained_nodes}
 use Rattle.inline_value.specs.Forcing.{ancestors}
 use Rattle.inline_commands.specs.Unlink.{is_link}
 

@@ -2,14 +2,14 @@
 -- docs/ALGORITHMS.md.
 use Rattle.std.specs.Prelude.{ℕ, Bool, true, false, List, filter, None}
 use Rattle.std.specs.Option.{option_map_or}
-use Rattle.dom_model.specs.Forest.{parent_of}
-use Rattle.html_names.specs.declared.commands.Command.{Command}
-use Rattle.node_styles.specs.NameClasses.{is_format_candidate}
+use Rattle.edit_model.specs.DomModel.Forest.{parent_of}
+use Rattle.edit_model.specs.HtmlNames.declared.commands.Command.{Command}
+use Rattle.inline_value.specs.NodeStyles.NameClasses.{is_format_candidate}
 use Rattle.edit_model.specs.State.{State}
 use Rattle.edit_model.specs.Moves.{unwrap}
 use Rattle.edit_model.specs.Run.{Run, ◌>>=◌, ◌>>◌, answer, done, look, for_each, while_at_most}
-use Rattle.wrap_split.specs.Split.{split_around}
-use Rattle.wrap_split.specs.Walks.{turn_bound}
+use Rattle.inline_value.specs.WrapSplit.Split.{split_around}
+use Rattle.inline_value.specs.WrapSplit.Walks.{turn_bound}
 use Rattle.inline_value.specs.Recording.{recorded_commands}
 use Rattle.inline_value.specs.Selections.{nodes_in_range, editable_in_range, split_ends, set_value}
 

@@ -2,17 +2,17 @@
 -- are those of docs/ALGORITHMS.md.
 use Rattle.std.specs.Prelude.{ℕ, Bool, false, not, List, bytes_eq, Option, Some, None, is_none, if◌then◌else◌}
 use Rattle.std.specs.Option.{option_map_or}
-use Rattle.html_names.specs.declared.commands.Command.{Command}
-use Rattle.html_names.specs.declared.commands.Command.TheVariants as command
-use Rattle.command_value.specs.Equivalence.{equivalent}
+use Rattle.edit_model.specs.HtmlNames.declared.commands.Command.{Command}
+use Rattle.edit_model.specs.HtmlNames.declared.commands.Command.TheVariants as command
+use Rattle.inline_value.specs.CommandValue.Equivalence.{equivalent}
 use Rattle.edit_model.specs.Overrides.{setting_of}
 use Rattle.edit_model.specs.declared.settings.Setting.{Setting}
 use Rattle.edit_model.specs.declared.settings.Setting.TheVariants.{On, Off, Text, Absent}
 use Rattle.edit_model.specs.State.{State}
 use Rattle.edit_model.specs.Run.{Run, ◌>>=◌, ◌>>◌, done, look, for_each, set_setting}
-use Rattle.edit_query.specs.Formattable.{first_formattable}
-use Rattle.edit_query.specs.Queries.{state_of, value_of}
-use Rattle.edit_query.specs.Rows.{legacy_text}
+use Rattle.inline_value.specs.EditQuery.Formattable.{first_formattable}
+use Rattle.inline_value.specs.EditQuery.Queries.{state_of, value_of}
+use Rattle.inline_value.specs.EditQuery.Rows.{legacy_text}
 use Rattle.inline_value.specs.Forcing.{has_alike}
 use Rattle.inline_value.specs.declared.overrides.Override.{Override}
 use Rattle.inline_commands.specs.Toggling.{toggle_style, toggle_script}

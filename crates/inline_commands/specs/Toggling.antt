@@ -2,10 +2,10 @@
 -- "the italic command", "the underline command", "the strikethrough command", "the subscript
 -- command", "the superscript command"). The steps are those of docs/ALGORITHMS.md.
 use Rattle.std.specs.Prelude.{ℕ, Bool, true, false, List, codes, Option, Some, None, if◌then◌else◌}
-use Rattle.html_names.specs.declared.commands.Command.{Command}
-use Rattle.html_names.specs.declared.commands.Command.TheVariants as command
+use Rattle.edit_model.specs.HtmlNames.declared.commands.Command.{Command}
+use Rattle.edit_model.specs.HtmlNames.declared.commands.Command.TheVariants as command
 use Rattle.edit_model.specs.Run.{Run, ◌>>=◌, ◌>>◌, answer, done, look, given}
-use Rattle.edit_query.specs.Queries.{state_of}
+use Rattle.inline_value.specs.EditQuery.Queries.{state_of}
 use Rattle.inline_value.specs.Selections.{set_value}
 
 -- ---- bold, italic, underline and strikethrough

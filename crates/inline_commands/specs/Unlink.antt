@@ -2,17 +2,17 @@
 -- around its ends, lose their href. The steps are those of docs/ALGORITHMS.md.
 use Rattle.std.specs.Prelude.{ℕ, Bool, true, false, ◌||◌, ◌&&◌, List, [], Option, Some, None, filter}
 use Rattle.std.specs.Option.{option_map_or}
-use Rattle.dom_model.specs.declared.Content.{Content}
-use Rattle.dom_model.specs.Forest.{Forest, content_of, preorder, tree_of}
-use Rattle.html_names.specs.declared.commands.Command.TheVariants as command
-use Rattle.live_range.specs.declared.places.Pair.{Pair}
-use Rattle.live_range.specs.declared.places.Point.{Point}
-use Rattle.point_order.specs.PointOrder.{is_before, is_ancestor}
-use Rattle.node_tests.specs.Ranges.{is_contained}
-use Rattle.command_value.specs.EffectiveValues as content
+use Rattle.edit_model.specs.DomModel.declared.Content.{Content}
+use Rattle.edit_model.specs.DomModel.Forest.{Forest, content_of, preorder, tree_of}
+use Rattle.edit_model.specs.HtmlNames.declared.commands.Command.TheVariants as command
+use Rattle.edit_model.specs.LiveRange.declared.places.Pair.{Pair}
+use Rattle.edit_model.specs.LiveRange.declared.places.Point.{Point}
+use Rattle.edit_model.specs.PointOrder.PointOrder.{is_before, is_ancestor}
+use Rattle.inline_value.specs.NodeTests.Ranges.{is_contained}
+use Rattle.inline_value.specs.CommandValue.EffectiveValues as content
 use Rattle.edit_model.specs.State.{State}
 use Rattle.edit_model.specs.Run.{Run, ◌>>◌, answer, look, for_each}
-use Rattle.edit_actions.specs.ActiveRange.{start_of, end_of}
+use Rattle.inline_value.specs.EditActions.ActiveRange.{start_of, end_of}
 use Rattle.inline_value.specs.Selections.{clear_one}
 
 -- an a with the attribute href

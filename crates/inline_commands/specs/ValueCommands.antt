@@ -3,11 +3,11 @@
 -- backColor command", "the hiliteColor command"). The steps are those of docs/ALGORITHMS.md.
 use Rattle.std.specs.Prelude.{ℕ, Bool, true, false, List, ◌∷◌, Option, Some, None, is_some, if◌then◌else◌}
 use Rattle.std.specs.Option.{option_map, option_or}
-use Rattle.css_value.specs.Colours.{colour_of}
-use Rattle.css_value.specs.SizeKeywords.{size_keyword}
-use Rattle.html_names.specs.declared.commands.Command.{Command}
-use Rattle.html_names.specs.declared.commands.Command.TheVariants as command
-use Rattle.node_styles.specs.LegacySizes.{legacy_size_of}
+use Rattle.inline_value.specs.CssValue.Colours.{colour_of}
+use Rattle.inline_value.specs.CssValue.SizeKeywords.{size_keyword}
+use Rattle.edit_model.specs.HtmlNames.declared.commands.Command.{Command}
+use Rattle.edit_model.specs.HtmlNames.declared.commands.Command.TheVariants as command
+use Rattle.inline_value.specs.NodeStyles.LegacySizes.{legacy_size_of}
 use Rattle.edit_model.specs.Run.{Run, ◌>>◌, answer, given}
 use Rattle.inline_value.specs.Selections.{set_value}
 

@@ -1,17 +1,17 @@
 //! The command unlink. The steps are those of docs/ALGORITHMS.md.
 
 ghost use Rattle.std.specs.Prelude.{◌≡◌, IfOk};
-ghost use Rattle.html_names.specs.declared.commands.Command.TheVariants.{Unlink};
+ghost use Rattle.edit_model.specs.HtmlNames.declared.commands.Command.TheVariants.{Unlink};
 ghost use Rattle.edit_model.specs.Gives.{Gives, labels_of};
-ghost use Rattle.edit_doc.specs.Held.{Holds, EachHeld, Keeps};
-ghost use Rattle.edit_doc.specs.Whole.{IsOpen};
+ghost use Rattle.inline_value.specs.EditDoc.Held.{Holds, EachHeld, Keeps};
+ghost use Rattle.inline_value.specs.EditDoc.Whole.{IsOpen};
 ghost use Rattle.inline_value.specs.Selections.{clear_one};
 ghost use Rattle.inline_commands.specs.Unlink.{clear_links, links_touched, unlink};
 
 use crate::links::links_of;
-use edit_doc::{Doc, EditFault, NodeRef};
-use html_names::Command;
+use edit_model::element_names::Command;
 use inline_value::clear_value;
+use inline_value::doc::{Doc, EditFault, NodeRef};
 use std::alloc::{AllocError, Global};
 
 // Unlink, step 2: of one link.

@@ -4,18 +4,18 @@ ghost use Rattle.std.specs.Prelude.{◌≡◌};
 ghost use Rattle.edit_model.specs.Gives.{Gives, labels_of};
 ghost use Rattle.edit_model.specs.Moves.{unwrap};
 ghost use Rattle.edit_model.specs.Run.{for_each};
-ghost use Rattle.edit_doc.specs.Held.{Holds, EachHeld, Keeps};
-ghost use Rattle.edit_doc.specs.Whole.{IsOpen};
+ghost use Rattle.inline_value.specs.EditDoc.Held.{Holds, EachHeld, Keeps};
+ghost use Rattle.inline_value.specs.EditDoc.Whole.{IsOpen};
 ghost use Rattle.inline_value.specs.Recording.{recorded_commands};
 ghost use Rattle.inline_commands.specs.RemovingFormat.{unwrap_candidates, is_formatted, part_from_format, part_nodes, clear_command, clear_commands, remove_format};
 
 use crate::ranges::{candidates_in_range, is_candidate};
-use edit_actions::unwrap;
-use edit_doc::{Doc, EditFault, NodeRef};
-use html_names::Command;
+use edit_model::element_names::Command;
+use inline_value::actions::unwrap;
+use inline_value::doc::{Doc, EditFault, NodeRef};
+use inline_value::wrap::{split_around, turn_bound};
 use inline_value::{editable_in_range, set_value, split_ends};
 use std::alloc::Global;
-use wrap_split::{split_around, turn_bound};
 
 // Remove the format, step 1: of each node of a list.
 #[tactic(auto, using(edit_model::proofs::Steps::eachs, edit_model::proofs::Steps::exits))]

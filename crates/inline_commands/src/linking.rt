@@ -3,14 +3,14 @@
 ghost use Rattle.std.specs.Prelude.{◌≡◌, ◌<◌, length};
 ghost use Rattle.edit_model.specs.Gives.{Gives, labels_of};
 ghost use Rattle.edit_model.specs.Run.{for_each};
-ghost use Rattle.edit_doc.specs.Held.{Holds, EachHeld, Keeps};
-ghost use Rattle.edit_doc.specs.Whole.{IsOpen};
+ghost use Rattle.inline_value.specs.EditDoc.Held.{Holds, EachHeld, Keeps};
+ghost use Rattle.inline_value.specs.EditDoc.Whole.{IsOpen};
 ghost use Rattle.inline_commands.specs.Linking.{relink, relink_range, link_range, create_link};
 
 use crate::links::links_around;
-use dom_model::Name;
-use edit_doc::{Chars, Doc, EditFault, NodeRef};
-use html_names::Command;
+use edit_model::dom::Name;
+use edit_model::element_names::Command;
+use inline_value::doc::{Chars, Doc, EditFault, NodeRef};
 use inline_value::set_value;
 use std::alloc::Global;
 

@@ -1,22 +1,22 @@
 //! The links that createLink and unlink are for.
 
 ghost use Rattle.std.specs.Prelude.{◌≡◌, ◌++◌, ◌∷◌, ◌<◌, ◌≤◌, [], OnOk, IfOk, drop, filter, length, map, not, reverse};
-ghost use Rattle.dom_model.specs.Forest.{count_of};
-ghost use Rattle.point_order.specs.PointOrder.{is_ancestor};
+ghost use Rattle.edit_model.specs.DomModel.Forest.{count_of};
+ghost use Rattle.edit_model.specs.PointOrder.PointOrder.{is_ancestor};
 ghost use Rattle.edit_model.specs.Valid.{IsPlacedPair};
 ghost use Rattle.edit_model.specs.Gives.{labels_of};
-ghost use Rattle.edit_doc.specs.Held.{Holds, EachHeld};
-ghost use Rattle.node_styles.specs.Lineage.{lineage};
+ghost use Rattle.inline_value.specs.EditDoc.Held.{Holds, EachHeld};
+ghost use Rattle.inline_value.specs.NodeStyles.Lineage.{lineage};
 ghost use Rattle.inline_commands.specs.Linking.{links_around};
 ghost use Rattle.inline_commands.specs.Merging.{around, beyond, links_above, links_inside, links_over, merged};
 ghost use Rattle.inline_commands.specs.Unlink.{is_link, links_of_pair};
 
 use crate::ranges::nodes_in_range;
-use command_value::is_link as is_link_content;
-use edit_actions::ends_of;
-use edit_doc::{Doc, NodeRef, Pair, Point};
-use node_tests::contained_nodes;
-use point_order::{comes_before, is_ancestor, node_of};
+use edit_model::boundary::{comes_before, is_ancestor, node_of};
+use inline_value::actions::ends_of;
+use inline_value::doc::{Doc, NodeRef, Pair, Point};
+use inline_value::questions::contained_nodes;
+use inline_value::values::is_link as is_link_content;
 use std::alloc::{AllocError, Global};
 
 // Whether a node is an a with the attribute href.
@@ -208,7 +208,7 @@ fn push_merged(
 /// The links that unlink is for, in tree order: those around the start of the range, and with those
 /// that it contains those around its end alone. It looks at the nodes from the start to the end and
 /// those above them.
-#[tactic(auto, using(edit_actions::proofs::Placed::placed_here))]
+#[tactic(auto, using(crate::proofs::Below::placed_here))]
 pub(crate) fn links_of(alloc: Global, doc: &Doc, pair: Pair) -> Result<Vec<NodeRef>, AllocError>
     requires { IsPlacedPair doc.now.state.trees pair }
     ensures held { IfOk result (λ list. EachHeld doc.now list.items) }

@@ -3,17 +3,17 @@
 ghost use Rattle.std.specs.Prelude.{◌≡◌, IfOk};
 ghost use Rattle.std.specs.List.{filter};
 ghost use Rattle.edit_model.specs.Gives.{labels_of};
-ghost use Rattle.edit_doc.specs.Held.{Holds, EachHeld};
+ghost use Rattle.inline_value.specs.EditDoc.Held.{Holds, EachHeld};
 ghost use Rattle.inline_value.specs.Selections.{nodes_in_range};
 ghost use Rattle.inline_commands.specs.RemovingFormat.{is_candidate, candidates_in_range};
 
-use edit_actions::ends_of;
-use edit_doc::{Doc, NodeList, NodeRef};
-use node_tests::{effective_nodes, is_format_candidate};
+use inline_value::actions::ends_of;
+use inline_value::doc::{Doc, NodeList, NodeRef};
+use inline_value::questions::{effective_nodes, is_format_candidate};
 use std::alloc::{AllocError, Global};
 
 /// All of them.
-#[tactic(auto, using(edit_actions::proofs::Placed::placed_here), unfolding(inline_value::specs::Selections::nodes_in_range))]
+#[tactic(auto, using(crate::proofs::Below::placed_here), unfolding(inline_value::specs::Selections::nodes_in_range))]
 pub(crate) fn nodes_in_range(alloc: Global, doc: &Doc) -> Result<NodeList, AllocError>
     ensures held { IfOk result (λ list. EachHeld doc.now list) }
     ensures nodes { IfOk result (λ list. labels_of list ≡ nodes_in_range doc.now.state) }

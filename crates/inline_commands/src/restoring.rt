@@ -3,18 +3,18 @@
 ghost use Rattle.std.specs.Prelude.{◌≡◌, ◌+◌, IfOk};
 ghost use Rattle.edit_model.specs.Gives.{Gives};
 ghost use Rattle.edit_model.specs.Run.{for_each};
-ghost use Rattle.edit_doc.specs.Held.{Keeps};
-ghost use Rattle.edit_doc.specs.Whole.{IsOpen};
-ghost use Rattle.edit_query.specs.Formattable as formattable;
+ghost use Rattle.inline_value.specs.EditDoc.Held.{Keeps};
+ghost use Rattle.inline_value.specs.EditDoc.Whole.{IsOpen};
+ghost use Rattle.inline_value.specs.EditQuery.Formattable as formattable;
 ghost use Rattle.inline_commands.specs.RestoringStates.{set_override, toggle_state, restore_on, restore_off, restore_shown, differs_at, is_other_value, restore_link, restore_size, restore_text, restore_entry, restore_states};
 
 use crate::linking::create_link;
 use crate::toggling::{toggle_script, toggle_style};
 use crate::values::apply_value;
-use command_value::{equivalent, has_alike_value};
-use edit_doc::{Chars, Doc, EditFault, Setting};
-use edit_query::{first_formattable, legacy_text, query_state, query_value};
-use html_names::Command;
+use edit_model::element_names::Command;
+use inline_value::doc::{Chars, Doc, EditFault, Setting};
+use inline_value::query::{first_formattable, legacy_text, query_state, query_value};
+use inline_value::values::{equivalent, has_alike_value};
 use inline_value::{Override, Overrides};
 use std::alloc::{AllocError, Global};
 

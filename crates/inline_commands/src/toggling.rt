@@ -4,13 +4,13 @@
 ghost use Rattle.std.specs.Prelude.{◌≡◌};
 ghost use Rattle.std.specs.Option.{option_copied};
 ghost use Rattle.edit_model.specs.Gives.{Gives};
-ghost use Rattle.edit_doc.specs.Held.{Keeps};
-ghost use Rattle.edit_doc.specs.Whole.{IsOpen};
+ghost use Rattle.inline_value.specs.EditDoc.Held.{Keeps};
+ghost use Rattle.inline_value.specs.EditDoc.Whole.{IsOpen};
 ghost use Rattle.inline_commands.specs.Toggling.{style_on, style_off, script_on, toggle_style, toggle_script};
 
-use edit_doc::{Doc, EditFault};
-use edit_query::query_state;
-use html_names::Command;
+use edit_model::element_names::Command;
+use inline_value::doc::{Doc, EditFault};
+use inline_value::query::query_state;
 use inline_value::set_value;
 use std::alloc::Global;
 

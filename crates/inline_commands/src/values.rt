@@ -3,15 +3,15 @@
 ghost use Rattle.std.specs.Prelude.{◌≡◌, ◌∷◌, IfOk};
 ghost use Rattle.std.specs.Option.{option_copied};
 ghost use Rattle.edit_model.specs.Gives.{Gives};
-ghost use Rattle.edit_doc.specs.Held.{Keeps};
-ghost use Rattle.edit_doc.specs.Whole.{IsOpen};
+ghost use Rattle.inline_value.specs.EditDoc.Held.{Keeps};
+ghost use Rattle.inline_value.specs.EditDoc.Whole.{IsOpen};
 ghost use Rattle.inline_commands.specs.ValueCommands.{size_value, colour_value, set_taken, take, apply_value};
 
-use css_value::{Colour, size_keyword};
-use edit_doc::{Doc, EditFault};
-use html_names::Command;
+use edit_model::element_names::Command;
+use inline_value::css::{Colour, size_keyword};
+use inline_value::doc::{Doc, EditFault};
 use inline_value::set_value;
-use node_styles::read_legacy_size;
+use inline_value::styles::read_legacy_size;
 use std::alloc::{AllocError, Global};
 
 // Apply a value, step 4.

@@ -1,13 +1,13 @@
 -- The ancestors of a node, from one of them on.
 use Rattle.std.proofs.Common.{◌≡◌, ℕ, suc, ◌+◌, ◌<◌, Bool, true, false, List, [], ◌∷◌, ◌++◌, map, Option, Some, None, refl, sym, ap, ◌∙◌, arith}
 use Rattle.std.specs.List.{list_any}
-use Rattle.dom_model.specs.declared.Content.{Content}
-use Rattle.dom_model.specs.Forest.{Forest, count_of, parent_of, depth_of, IsDistinct}
-use Rattle.dom_model.proofs.Parts.{at_label}
-use Rattle.dom_model.proofs.Within.{depth_of-parent}
-use Rattle.node_styles.specs.Lineage.{Ancestor, lineage}
-use Rattle.node_styles.proofs.Lineages.{ancestor, lineage-child, lineage-root}
-use Rattle.node_arena.specs.declared.NodeRef.{NodeRef}
+use Rattle.edit_model.specs.DomModel.declared.Content.{Content}
+use Rattle.edit_model.specs.DomModel.Forest.{Forest, count_of, parent_of, depth_of, IsDistinct}
+use Rattle.edit_model.proofs.DomModel.Parts.{at_label}
+use Rattle.edit_model.proofs.DomModel.Within.{depth_of-parent}
+use Rattle.wrap_split.specs.NodeStyles.Lineage.{Ancestor, lineage}
+use Rattle.wrap_split.proofs.NodeStyles.Lineages.{ancestor, lineage-child, lineage-root}
+use Rattle.edit_model.specs.NodeArena.declared.NodeRef.{NodeRef}
 use Rattle.edit_model.specs.Gives.{label_of, labels_of}
 use Rattle.edit_model.proofs.Steps.{labels_of_push}
 use Rattle.inline_value.specs.Forcing.{ancestors}

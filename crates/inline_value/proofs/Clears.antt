@@ -2,13 +2,13 @@
 use Rattle.std.proofs.Common.{◌≡◌, ℕ, true, false, List, Option, Some, None, Result, Ok, Err, is_some, refl, sym, subst}
 use Rattle.std.specs.Option.{option_map_or, option_and_then}
 use Rattle.std.specs.Result.{IsErrAnd}
-use Rattle.dom_model.specs.declared.Content.{Content}
-use Rattle.dom_model.specs.declared.Content.TheVariants.{Document, Element, Words, Remark}
-use Rattle.dom_model.specs.Contents.{is_element, is_element_at}
-use Rattle.dom_model.specs.Forest.{Forest, content_of}
-use Rattle.html_names.specs.declared.commands.Command.{Command}
-use Rattle.command_value.specs.SpecifiedValues.{specified, specified_in}
-use Rattle.node_arena.specs.declared.NodeRef.{NodeRef}
+use Rattle.edit_model.specs.DomModel.declared.Content.{Content}
+use Rattle.edit_model.specs.DomModel.declared.Content.TheVariants.{Document, Element, Words, Remark}
+use Rattle.edit_model.specs.DomModel.Contents.{is_element, is_element_at}
+use Rattle.edit_model.specs.DomModel.Forest.{Forest, content_of}
+use Rattle.edit_model.specs.HtmlNames.declared.commands.Command.{Command}
+use Rattle.wrap_split.specs.CommandValue.SpecifiedValues.{specified, specified_in}
+use Rattle.edit_model.specs.NodeArena.declared.NodeRef.{NodeRef}
 use Rattle.edit_model.specs.declared.settings.EditFault.{EditFault}
 use Rattle.edit_model.specs.State.{State}
 use Rattle.edit_model.specs.Run.{Run, final}

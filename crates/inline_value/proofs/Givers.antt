@@ -2,14 +2,14 @@
 use Rattle.std.proofs.Common.{◌≡◌, ℕ, ◌<◌, Bool, true, false, List, [], ◌∷◌, map, Option, Some, None, refl, sym, ap, ◌∙◌}
 use Rattle.std.specs.Prelude.{is_some}
 use Rattle.std.specs.Option.{option_and_then}
-use Rattle.dom_model.specs.declared.Content.{Content}
-use Rattle.dom_model.specs.Forest.{Forest, count_of, parent_of, content_of, IsDistinct}
-use Rattle.dom_model.proofs.Links.{parent_count}
-use Rattle.dom_model.proofs.Parts.{at_label}
-use Rattle.html_names.specs.declared.commands.Command.{Command}
-use Rattle.node_styles.specs.Lineage.{Ancestor, lineage}
-use Rattle.node_styles.proofs.Lineages.{nearest-here, nearest-root, nearest-parent, lineage-child, lineage-root}
-use Rattle.command_value.specs.SpecifiedValues.{specified, specified_in}
+use Rattle.edit_model.specs.DomModel.declared.Content.{Content}
+use Rattle.edit_model.specs.DomModel.Forest.{Forest, count_of, parent_of, content_of, IsDistinct}
+use Rattle.edit_model.proofs.DomModel.Links.{parent_count}
+use Rattle.edit_model.proofs.DomModel.Parts.{at_label}
+use Rattle.edit_model.specs.HtmlNames.declared.commands.Command.{Command}
+use Rattle.wrap_split.specs.NodeStyles.Lineage.{Ancestor, lineage}
+use Rattle.wrap_split.proofs.NodeStyles.Lineages.{nearest-here, nearest-root, nearest-parent, lineage-child, lineage-root}
+use Rattle.wrap_split.specs.CommandValue.SpecifiedValues.{specified, specified_in}
 use Rattle.inline_value.specs.Forcing.{above, ancestors}
 use Rattle.inline_value.specs.Recording.{giver, given_value}
 

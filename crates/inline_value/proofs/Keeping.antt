@@ -3,9 +3,9 @@ use Rattle.std.proofs.Common.{◌≡◌, ℕ, Bool, true, false, ◌||◌, ◌&&
 use Rattle.std.specs.Prelude.{is_some, is_none, reverse}
 use Rattle.std.specs.List.{list_any}
 use Rattle.std.proofs.lemmas.List.Sorted.{list_any-IsPermutation, IsPermutation-reverse}
-use Rattle.dom_model.specs.Forest.{children_of, first_in, last_in, last_or}
-use Rattle.html_names.specs.declared.commands.Command.{Command}
-use Rattle.command_value.specs.SpecifiedValues.{specified}
+use Rattle.edit_model.specs.DomModel.Forest.{children_of, first_in, last_in, last_or}
+use Rattle.edit_model.specs.HtmlNames.declared.commands.Command.{Command}
+use Rattle.wrap_split.specs.CommandValue.SpecifiedValues.{specified}
 use Rattle.edit_model.specs.State.{State}
 use Rattle.edit_model.specs.Run.{final, done, given, for_each, ◌>>◌}
 use Rattle.edit_model.proofs.Steps.{final-bind, final-look, final-answer}

@@ -1,10 +1,10 @@
 -- The last of the first members of a list, and the levels on which a value is pushed down.
 use Rattle.std.proofs.Common.{◌≡◌, ℕ, zero, suc, ◌+◌, ◌-◌, ◌<◌, ◌≤◌, List, [], ◌∷◌, Option, Some, None, length, take, reverse, get_or, refl, sym, ap, ◌∙◌, add-one, arith}
 use Rattle.std.proofs.lemmas.List.{take_more, reverse-append}
-use Rattle.dom_model.specs.Forest.{first_in}
-use Rattle.html_names.specs.declared.commands.Command.{Command}
-use Rattle.command_value.specs.SpecifiedValues.{specified}
-use Rattle.node_arena.specs.declared.NodeRef.{NodeRef}
+use Rattle.edit_model.specs.DomModel.Forest.{first_in}
+use Rattle.edit_model.specs.HtmlNames.declared.commands.Command.{Command}
+use Rattle.wrap_split.specs.CommandValue.SpecifiedValues.{specified}
+use Rattle.edit_model.specs.NodeArena.declared.NodeRef.{NodeRef}
 use Rattle.edit_model.specs.Gives.{labels_of}
 use Rattle.edit_model.specs.Run.{look, answer, ◌>>=◌}
 use Rattle.edit_model.proofs.Steps.{labels_of-append}

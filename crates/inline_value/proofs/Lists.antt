@@ -1,15 +1,15 @@
 -- Lists of recorded values, a member at a time.
 use Rattle.std.proofs.Common.{◌≡◌, ℕ, zero, suc, ◌+◌, ◌<◌, ◌≤◌, List, [], ◌∷◌, ◌++◌, length, map, drop, get_or, refl, sym, ap, ◌∙◌, subst, append_assoc, add-one, drop-cons, arith}
 use Rattle.std.proofs.Math.ListN.{drop_of_length-le}
-use Rattle.node_arena.specs.declared.NodeRef.{NodeRef}
+use Rattle.edit_model.specs.NodeArena.declared.NodeRef.{NodeRef}
 use Rattle.edit_model.specs.Gives.{labels_of, Fails}
 use Rattle.edit_model.specs.State.{State}
 use Rattle.edit_model.proofs.Steps.{labels_of_drop, labels_of_end}
 use Rattle.edit_model.specs.Run.{Run, ◌>>=◌, answer, for_each, final}
 use Rattle.edit_model.proofs.Steps.{for_each-cons, for_each-nil, final-bind, fails-bind}
 use Rattle.edit_model.specs.declared.settings.EditFault.{EditFault}
-use Rattle.edit_doc.specs.Whole.{Whole}
-use Rattle.edit_doc.specs.Held.{Holds, EachHeld}
+use Rattle.wrap_split.specs.EditDoc.Whole.{Whole}
+use Rattle.wrap_split.specs.EditDoc.Held.{Holds, EachHeld}
 use Rattle.inline_value.specs.declared.recording.Value.{Value}
 use Rattle.inline_value.specs.Recording.{Recorded, values_at, values_of}
 use Rattle.inline_value.specs.Records.{entry_of, entries_of, nodes_of}

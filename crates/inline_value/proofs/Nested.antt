@@ -1,6 +1,6 @@
 -- How forcing a value is nested.
 use Rattle.std.proofs.Common.{◌≡◌, ℕ, zero, suc, ◌-◌, ◌<◌, Bool, true, false, List, refl, arith}
-use Rattle.html_names.specs.declared.commands.Command.{Command}
+use Rattle.edit_model.specs.HtmlNames.declared.commands.Command.{Command}
 use Rattle.edit_model.specs.Run.{Run, look, answer, for_each, ◌>>=◌}
 use Rattle.inline_value.specs.Forcing.{forced, force_self, force_heirs, force_child, heirs}
 

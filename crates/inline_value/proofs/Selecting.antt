@@ -1,18 +1,18 @@
 -- What an editing call keeps is kept where a step selects, keeps a pair of points, or sets an override.
 use Rattle.std.proofs.Common.{◌≡◌, ◌<◌, ◌&&◌, Option, Some, None, refl, sym, subst}
-use Rattle.dom_model.specs.Forest.{count_of}
-use Rattle.html_names.specs.declared.commands.Command.{Command}
-use Rattle.live_range.specs.declared.places.Pair.{Pair}
-use Rattle.live_range.specs.declared.places.Point.{Point}
+use Rattle.edit_model.specs.DomModel.Forest.{count_of}
+use Rattle.edit_model.specs.HtmlNames.declared.commands.Command.{Command}
+use Rattle.edit_model.specs.LiveRange.declared.places.Pair.{Pair}
+use Rattle.edit_model.specs.LiveRange.declared.places.Point.{Point}
 use Rattle.edit_model.specs.declared.settings.Setting.{Setting}
 use Rattle.edit_model.specs.Action.{Select, Extend, Scratch, Override, selected, extended_from, extended, scratched, acted}
 use Rattle.edit_model.specs.Confined.{may_select}
 use Rattle.edit_model.specs.Edit.{changed}
 use Rattle.edit_model.specs.State.{State}
 use Rattle.edit_model.proofs.Steps.{either_way}
-use Rattle.edit_doc.specs.Whole.{Whole, with_state}
-use Rattle.edit_doc.specs.Held.{Keeps}
-use Rattle.edit_doc.proofs.Chosen.{Stays}
+use Rattle.wrap_split.specs.EditDoc.Whole.{Whole, with_state}
+use Rattle.wrap_split.specs.EditDoc.Held.{Keeps}
+use Rattle.wrap_split.proofs.EditDoc.Chosen.{Stays}
 
 keeps_by : (d new : Whole) (s : State) → Stays d.state s → new ≡ with_state d s → Keeps d new
 keeps_by d new s stays is = subst (Keeps d) (sym is) (record {

@@ -3,9 +3,9 @@
 use Rattle.std.specs.Prelude.{ℕ, Bool, true, false, ◌||◌, ◌&&◌, not, [], ◌∷◌, codes, if◌then◌else◌}
 use Rattle.std.specs.List.{list_any}
 use Rattle.std.specs.Option.{option_map_or}
-use Rattle.dom_model.specs.Contents.{has_name}
-use Rattle.dom_model.specs.Forest.{parent_of, children_of}
-use Rattle.node_styles.specs.Allowed.{allowed_in, name_allowed_in}
+use Rattle.edit_model.specs.DomModel.Contents.{has_name}
+use Rattle.edit_model.specs.DomModel.Forest.{parent_of, children_of}
+use Rattle.wrap_split.specs.NodeStyles.Allowed.{allowed_in, name_allowed_in}
 use Rattle.edit_model.specs.State.{State}
 use Rattle.edit_model.specs.Confined.{is_editable_for, is_inside}
 use Rattle.edit_model.specs.Compositions.{set_tag_name}
@@ -16,7 +16,7 @@ use Rattle.wrap_split.specs.declared.rule.Recipe.TheVariants.{Make}
 use Rattle.wrap_split.specs.Split.{split_parent, split_around}
 use Rattle.wrap_split.specs.Walks.{turn_bound}
 use Rattle.wrap_split.specs.Wrap.{wrap}
-use Rattle.block_extend.specs.Prohibited as prohibited
+use Rattle.edit_query.specs.BlockExtend.Prohibited as prohibited
 use Rattle.edit_query.specs.Rows.{container_name}
 use Rattle.inline_value.specs.Forcing.{ancestors}
 use Rattle.inline_value.specs.Recording.{record_values, restore_values}

@@ -1,19 +1,19 @@
 -- Clearing the value of an element (HTML Editing APIs, "clear the value"). The steps are those of
 -- docs/ALGORITHMS.md.
 use Rattle.std.specs.Prelude.{ℕ, ◌||◌, not, List, [], ◌∷◌, codes, Option, Some, None, is_none, if◌then◌else◌}
-use Rattle.dom_model.specs.Contents.{has_name}
-use Rattle.dom_model.specs.Forest.{children_of}
-use Rattle.css_value.specs.StyleText.{is_empty}
-use Rattle.css_value.specs.declared.decoration.DecorationLine.{DecorationLine}
-use Rattle.css_value.specs.TextDecoration.{without_line}
-use Rattle.html_names.specs.declared.commands.Command.{Command}
-use Rattle.style_table.specs.declared.Property.{Property}
-use Rattle.style_table.specs.declared.Property.TheVariants as property
-use Rattle.command_value.specs.Subjects.{subject, relevant}
-use Rattle.command_value.specs.declared.subject.Subject.{Subject}
-use Rattle.command_value.specs.declared.subject.Subject.TheVariants.{Link, Line, Family, Size, Foreground}
-use Rattle.command_value.specs.Modifiable.{is_simple_modifiable}
-use Rattle.command_value.specs.SpecifiedValues.{specified}
+use Rattle.edit_model.specs.DomModel.Contents.{has_name}
+use Rattle.edit_model.specs.DomModel.Forest.{children_of}
+use Rattle.wrap_split.specs.CssValue.StyleText.{is_empty}
+use Rattle.wrap_split.specs.CssValue.declared.decoration.DecorationLine.{DecorationLine}
+use Rattle.wrap_split.specs.CssValue.TextDecoration.{without_line}
+use Rattle.edit_model.specs.HtmlNames.declared.commands.Command.{Command}
+use Rattle.wrap_split.specs.StyleTable.declared.Property.{Property}
+use Rattle.wrap_split.specs.StyleTable.declared.Property.TheVariants as property
+use Rattle.wrap_split.specs.CommandValue.Subjects.{subject, relevant}
+use Rattle.wrap_split.specs.CommandValue.declared.subject.Subject.{Subject}
+use Rattle.wrap_split.specs.CommandValue.declared.subject.Subject.TheVariants.{Link, Line, Family, Size, Foreground}
+use Rattle.wrap_split.specs.CommandValue.Modifiable.{is_simple_modifiable}
+use Rattle.wrap_split.specs.CommandValue.SpecifiedValues.{specified}
 use Rattle.edit_model.specs.Confined.{is_editable_for}
 use Rattle.edit_model.specs.Compositions.{set_tag_name}
 use Rattle.edit_model.specs.Moves.{unwrap}

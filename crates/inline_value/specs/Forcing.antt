@@ -1,19 +1,19 @@
 -- Forcing a value on a node (HTML Editing APIs, "force the value"). The steps are those of
 -- docs/ALGORITHMS.md.
 use Rattle.std.specs.Prelude.{ℕ, zero, suc, Bool, true, false, ◌||◌, ◌&&◌, not, List, [], ◌∷◌, codes, map, Option, Some, is_none, if◌then◌else◌}
-use Rattle.dom_model.specs.declared.Content.{Content}
-use Rattle.dom_model.specs.Contents.{has_name, is_element_at}
-use Rattle.dom_model.specs.Document.{node_count}
-use Rattle.dom_model.specs.Forest.{Forest, parent_of, prev_of, next_of, children_of}
-use Rattle.html_names.specs.declared.commands.Command.{Command}
-use Rattle.node_styles.specs.Allowed.{allowed_in_name}
-use Rattle.node_styles.specs.Lineage.{Ancestor, lineage}
-use Rattle.command_value.specs.EffectiveValues.{effective}
-use Rattle.command_value.specs.Equivalence.{alike}
-use Rattle.command_value.specs.Modifiable.{specifies_other}
-use Rattle.command_value.specs.Subjects.{subject, relevant}
-use Rattle.command_value.specs.declared.subject.Subject.{Subject}
-use Rattle.command_value.specs.declared.subject.Subject.TheVariants.{Link, Line}
+use Rattle.edit_model.specs.DomModel.declared.Content.{Content}
+use Rattle.edit_model.specs.DomModel.Contents.{has_name, is_element_at}
+use Rattle.edit_model.specs.DomModel.Document.{node_count}
+use Rattle.edit_model.specs.DomModel.Forest.{Forest, parent_of, prev_of, next_of, children_of}
+use Rattle.edit_model.specs.HtmlNames.declared.commands.Command.{Command}
+use Rattle.wrap_split.specs.NodeStyles.Allowed.{allowed_in_name}
+use Rattle.wrap_split.specs.NodeStyles.Lineage.{Ancestor, lineage}
+use Rattle.wrap_split.specs.CommandValue.EffectiveValues.{effective}
+use Rattle.wrap_split.specs.CommandValue.Equivalence.{alike}
+use Rattle.wrap_split.specs.CommandValue.Modifiable.{specifies_other}
+use Rattle.wrap_split.specs.CommandValue.Subjects.{subject, relevant}
+use Rattle.wrap_split.specs.CommandValue.declared.subject.Subject.{Subject}
+use Rattle.wrap_split.specs.CommandValue.declared.subject.Subject.TheVariants.{Link, Line}
 use Rattle.edit_model.specs.State.{State}
 use Rattle.edit_model.specs.Confined.{is_editable_for}
 use Rattle.edit_model.specs.Compositions.{set_tag_name}

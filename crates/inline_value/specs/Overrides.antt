@@ -3,16 +3,16 @@
 -- those of docs/ALGORITHMS.md.
 use Rattle.std.specs.Prelude.{ℕ, Bool, true, false, List, [], ◌∷◌, Option, Some, None, if◌then◌else◌}
 use Rattle.std.specs.Option.{option_map_or}
-use Rattle.dom_model.specs.declared.Content.{Content}
-use Rattle.dom_model.specs.Forest.{Forest}
-use Rattle.html_names.specs.declared.commands.Command.{Command}
-use Rattle.html_names.specs.declared.commands.Command.TheVariants as command
+use Rattle.edit_model.specs.DomModel.declared.Content.{Content}
+use Rattle.edit_model.specs.DomModel.Forest.{Forest}
+use Rattle.edit_model.specs.HtmlNames.declared.commands.Command.{Command}
+use Rattle.edit_model.specs.HtmlNames.declared.commands.Command.TheVariants as command
 use Rattle.edit_model.specs.declared.settings.Setting.{Setting}
 use Rattle.edit_model.specs.declared.settings.Setting.TheVariants.{On, Off, Text, Absent}
 use Rattle.edit_model.specs.Overrides.{setting_of}
 use Rattle.edit_model.specs.State.{State}
 use Rattle.edit_model.specs.Run.{Run, look, answer}
-use Rattle.command_value.specs.EffectiveValues.{effective, is_activated}
+use Rattle.wrap_split.specs.CommandValue.EffectiveValues.{effective, is_activated}
 use Rattle.edit_query.specs.Formattable.{first_formattable}
 use Rattle.edit_query.specs.Queries.{value_of}
 use Rattle.inline_value.specs.declared.overrides.Override.{Override}

@@ -3,11 +3,11 @@
 use Rattle.std.specs.Prelude.{ℕ, Bool, false, ◌==◌, ◌||◌, ◌&&◌, not, List, [], ◌∷◌, Option, Some, None, is_some, is_none, reverse, if◌then◌else◌}
 use Rattle.std.specs.List.{list_any}
 use Rattle.std.specs.Option.{option_map_or}
-use Rattle.dom_model.specs.Contents.{is_element_at}
-use Rattle.dom_model.specs.Forest.{is_label, parent_of, children_of, first_in, last_in}
-use Rattle.html_names.specs.declared.commands.Command.{Command}
-use Rattle.command_value.specs.Modifiable.{specifies_other}
-use Rattle.command_value.specs.SpecifiedValues.{specified}
+use Rattle.edit_model.specs.DomModel.Contents.{is_element_at}
+use Rattle.edit_model.specs.DomModel.Forest.{is_label, parent_of, children_of, first_in, last_in}
+use Rattle.edit_model.specs.HtmlNames.declared.commands.Command.{Command}
+use Rattle.wrap_split.specs.CommandValue.Modifiable.{specifies_other}
+use Rattle.wrap_split.specs.CommandValue.SpecifiedValues.{specified}
 use Rattle.edit_model.specs.State.{State}
 use Rattle.edit_model.specs.Confined.{is_editable_for}
 use Rattle.edit_model.specs.Run.{Run, ◌>>◌, done, look, given, for_each}

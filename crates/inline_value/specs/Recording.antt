@@ -2,13 +2,13 @@
 -- values"). The steps are those of docs/ALGORITHMS.md.
 use Rattle.std.specs.Prelude.{ℕ, List, [], ◌∷◌, ◌++◌, map, Option, Some, None, is_some, if◌then◌else◌}
 use Rattle.std.specs.Option.{option_and_then}
-use Rattle.dom_model.specs.declared.Content.{Content}
-use Rattle.dom_model.specs.Forest.{Forest}
-use Rattle.html_names.specs.declared.commands.Command.{Command}
-use Rattle.html_names.specs.declared.commands.Command.TheVariants as command
-use Rattle.node_styles.specs.Lineage.{Ancestor, nearest}
-use Rattle.command_value.specs.Equivalence.{equivalent}
-use Rattle.command_value.specs.SpecifiedValues.{specified_in}
+use Rattle.edit_model.specs.DomModel.declared.Content.{Content}
+use Rattle.edit_model.specs.DomModel.Forest.{Forest}
+use Rattle.edit_model.specs.HtmlNames.declared.commands.Command.{Command}
+use Rattle.edit_model.specs.HtmlNames.declared.commands.Command.TheVariants as command
+use Rattle.wrap_split.specs.NodeStyles.Lineage.{Ancestor, nearest}
+use Rattle.wrap_split.specs.CommandValue.Equivalence.{equivalent}
+use Rattle.wrap_split.specs.CommandValue.SpecifiedValues.{specified_in}
 use Rattle.edit_model.specs.State.{State}
 use Rattle.edit_model.specs.Run.{Run, done, look, answer, for_each}
 use Rattle.inline_value.specs.Forcing.{force}

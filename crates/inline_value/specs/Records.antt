@@ -1,6 +1,6 @@
 -- What contracts see of a list of recorded values.
 use Rattle.std.specs.Prelude.{List, map}
-use Rattle.node_arena.specs.declared.NodeRef.{NodeRef}
+use Rattle.edit_model.specs.NodeArena.declared.NodeRef.{NodeRef}
 use Rattle.inline_value.specs.declared.recording.Value.{Value}
 use Rattle.inline_value.specs.Recording.{Recorded}
 

@@ -1,12 +1,12 @@
 -- Reordering modifiable descendants (HTML Editing APIs, "reorder modifiable descendants"). The
 -- steps are those of docs/ALGORITHMS.md.
 use Rattle.std.specs.Prelude.{ℕ, Bool, ◌==◌, ◌||◌, ◌&&◌, not, List, Option, Some, None, is_none, if◌then◌else◌}
-use Rattle.dom_model.specs.declared.Content.{Content}
-use Rattle.dom_model.specs.Forest.{Forest, next_of, first_of, children_of}
-use Rattle.html_names.specs.declared.commands.Command.{Command}
-use Rattle.command_value.specs.Modifiable.{is_modifiable, is_simple_modifiable, meets_value}
-use Rattle.command_value.specs.Equivalence.{equivalent}
-use Rattle.command_value.specs.SpecifiedValues.{specified}
+use Rattle.edit_model.specs.DomModel.declared.Content.{Content}
+use Rattle.edit_model.specs.DomModel.Forest.{Forest, next_of, first_of, children_of}
+use Rattle.edit_model.specs.HtmlNames.declared.commands.Command.{Command}
+use Rattle.wrap_split.specs.CommandValue.Modifiable.{is_modifiable, is_simple_modifiable, meets_value}
+use Rattle.wrap_split.specs.CommandValue.Equivalence.{equivalent}
+use Rattle.wrap_split.specs.CommandValue.SpecifiedValues.{specified}
 use Rattle.edit_model.specs.State.{State}
 use Rattle.edit_model.specs.Moves.{insert_after, move_all_before, move_last}
 use Rattle.edit_model.specs.Run.{Run, ◌>>◌, done, look, remove}

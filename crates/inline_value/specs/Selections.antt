@@ -2,25 +2,25 @@
 -- those of docs/ALGORITHMS.md.
 use Rattle.std.specs.Prelude.{ℕ, Bool, false, ◌==◌, ◌&&◌, not, List, [], filter, Option, Some, None, is_none, if◌then◌else◌}
 use Rattle.std.specs.Option.{option_map_or}
-use Rattle.dom_model.specs.declared.Content.{Content}
-use Rattle.dom_model.specs.Contents.{is_element_at, length_of}
-use Rattle.dom_model.specs.Forest.{Forest}
-use Rattle.html_names.specs.declared.commands.Command.{Command}
-use Rattle.html_names.specs.declared.commands.Command.TheVariants as command
-use Rattle.html_names.specs.ActivatedValues.{activated_values}
-use Rattle.html_names.specs.ElementNames.{is_one_of}
-use Rattle.live_range.specs.declared.places.Pair.{Pair}
-use Rattle.live_range.specs.declared.places.Point.{Point}
-use Rattle.point_order.specs.PointOrder.{is_before}
-use Rattle.node_tests.specs.CollapsedWhitespace.{is_words}
-use Rattle.node_tests.specs.Ranges.{effective_nodes}
+use Rattle.edit_model.specs.DomModel.declared.Content.{Content}
+use Rattle.edit_model.specs.DomModel.Contents.{is_element_at, length_of}
+use Rattle.edit_model.specs.DomModel.Forest.{Forest}
+use Rattle.edit_model.specs.HtmlNames.declared.commands.Command.{Command}
+use Rattle.edit_model.specs.HtmlNames.declared.commands.Command.TheVariants as command
+use Rattle.edit_model.specs.HtmlNames.ActivatedValues.{activated_values}
+use Rattle.edit_model.specs.HtmlNames.ElementNames.{is_one_of}
+use Rattle.edit_model.specs.LiveRange.declared.places.Pair.{Pair}
+use Rattle.edit_model.specs.LiveRange.declared.places.Point.{Point}
+use Rattle.edit_model.specs.PointOrder.PointOrder.{is_before}
+use Rattle.wrap_split.specs.NodeTests.CollapsedWhitespace.{is_words}
+use Rattle.wrap_split.specs.NodeTests.Ranges.{effective_nodes}
 use Rattle.edit_model.specs.State.{State}
 use Rattle.edit_model.specs.Confined.{is_editable_for}
 use Rattle.edit_model.specs.Compositions.{split_words}
 use Rattle.edit_model.specs.declared.settings.Setting.{Setting}
 use Rattle.edit_model.specs.declared.settings.Setting.TheVariants.{On, Off, Text, Absent}
 use Rattle.edit_model.specs.Run.{Run, ◌>>=◌, ◌>>◌, done, look, given, for_each, select, set_setting}
-use Rattle.edit_actions.specs.ActiveRange.{start_of, end_of}
+use Rattle.wrap_split.specs.EditActions.ActiveRange.{start_of, end_of}
 use Rattle.inline_value.specs.Clearing.{clear_value}
 use Rattle.inline_value.specs.Forcing.{is_phrase, force}
 use Rattle.inline_value.specs.Pushing.{push_down}

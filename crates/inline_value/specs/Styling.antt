@@ -2,10 +2,10 @@
 -- the CSS property"). Each reads the declarations, changes them and writes them back, and an
 -- attribute that then declares nothing goes.
 use Rattle.std.specs.Prelude.{ℕ, List, [], codes, Option, unwrap_or, if◌then◌else◌}
-use Rattle.dom_model.specs.AttributeList.{value_of}
-use Rattle.css_value.specs.StyleText.{Declaration, is_empty}
-use Rattle.css_value.specs.DeclarationList as declaration
-use Rattle.css_value.specs.DeclarationList.{declarations_in, set_property, unset_in, printed}
+use Rattle.edit_model.specs.DomModel.AttributeList.{value_of}
+use Rattle.wrap_split.specs.CssValue.StyleText.{Declaration, is_empty}
+use Rattle.wrap_split.specs.CssValue.DeclarationList as declaration
+use Rattle.wrap_split.specs.CssValue.DeclarationList.{declarations_in, set_property, unset_in, printed}
 use Rattle.edit_model.specs.State.{State}
 use Rattle.edit_model.specs.Compositions.{attribute_list_of}
 use Rattle.edit_model.specs.Run.{Run, ◌>>◌, done, look, set_attribute, unset_attribute}

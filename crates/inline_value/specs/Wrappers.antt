@@ -1,11 +1,11 @@
 -- The element that is made to give a node a value (HTML Editing APIs, "force the value").
 use Rattle.std.specs.Prelude.{ℕ, ◌+◌, ◌/◌, ◌%◌, ◌==◌, nat_lt, Bool, ◌||◌, not, List, [], ◌∷◌, ◌++◌, codes, bytes_eq, Option, Some, None, unwrap_or, if◌then◌else◌}
 use Rattle.std.specs.Option.{option_and_then}
-use Rattle.css_value.specs.declared.colours.Colour.{Colour}
-use Rattle.css_value.specs.Colours.{colour_of}
-use Rattle.css_value.specs.SizeKeywords.{smallest, larger, of_keyword}
-use Rattle.html_names.specs.declared.commands.Command.{Command}
-use Rattle.html_names.specs.declared.commands.Command.TheVariants as command
+use Rattle.wrap_split.specs.CssValue.declared.colours.Colour.{Colour}
+use Rattle.wrap_split.specs.CssValue.Colours.{colour_of}
+use Rattle.wrap_split.specs.CssValue.SizeKeywords.{smallest, larger, of_keyword}
+use Rattle.edit_model.specs.HtmlNames.declared.commands.Command.{Command}
+use Rattle.edit_model.specs.HtmlNames.declared.commands.Command.TheVariants as command
 use Rattle.wrap_split.specs.declared.rule.Blank.{Blank}
 
 -- a name alone, and a name with one attribute

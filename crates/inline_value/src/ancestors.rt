@@ -1,22 +1,22 @@
 //! Fixing disallowed ancestors. The steps are those of docs/ALGORITHMS.md.
 
 ghost use Rattle.std.specs.Prelude.{◌≡◌, ◌&&◌, IfOk, true};
-ghost use Rattle.dom_model.specs.Contents.{is_element_at};
-ghost use Rattle.node_styles.specs.Allowed as allowed;
+ghost use Rattle.edit_model.specs.DomModel.Contents.{is_element_at};
+ghost use Rattle.wrap_split.specs.NodeStyles.Allowed as allowed;
 ghost use Rattle.edit_model.specs.Gives.{Gives, labels_of};
 ghost use Rattle.edit_model.specs.Confined as confined;
 ghost use Rattle.edit_model.specs.Run.{for_each};
-ghost use Rattle.edit_doc.specs.Whole.{IsOpen};
-ghost use Rattle.edit_doc.specs.Held.{Holds, EachHeld, Keeps};
+ghost use Rattle.wrap_split.specs.EditDoc.Whole.{IsOpen};
+ghost use Rattle.wrap_split.specs.EditDoc.Held.{Holds, EachHeld, Keeps};
 ghost use Rattle.edit_query.specs.Rows.{container_name};
 ghost use Rattle.inline_value.specs.Ancestors.{is_prohibited, has_place, is_misplaced, lifted, lift, is_description, wrap_description, hosts_none, split_out, part_child, part_children, lift_renamed, rename, replace_misplaced, fix_ancestors};
 
 use crate::recording::{record_values, restore_values};
-use dom_model::{Attributes, Name};
-use edit_doc::{Doc, EditFault, NodeList, NodeRef};
+use edit_model::dom::{Attributes, Name};
 use edit_query::container_bytes;
-use node_tests::{allowed_in, has_name, name_allowed_in};
 use std::alloc::{AllocError, Global};
+use wrap_split::doc::{Doc, EditFault, NodeList, NodeRef};
+use wrap_split::questions::{allowed_in, has_name, name_allowed_in};
 use wrap_split::{
     Blank, CopyMade, NamedSibling, WrapRule, split_around, split_parent, turn_bound, wrap,
 };
@@ -27,7 +27,7 @@ pub fn is_prohibited(doc: &Doc, node: NodeRef) -> bool
     requires { Holds doc.now node }
     ensures { result ≡ is_prohibited doc.now.state node.label }
 {
-    block_extend::is_prohibited(doc, node)
+    edit_query::extend::is_prohibited(doc, node)
 }
 
 // Whether an ancestor is inside, and a node may stand in it.

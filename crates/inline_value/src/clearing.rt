@@ -3,23 +3,23 @@
 ghost use Rattle.std.specs.Prelude.{◌≡◌, IfOk};
 ghost use Rattle.std.specs.Option.{option_copied};
 ghost use Rattle.edit_model.specs.Gives.{Gives, GivesAs, labels_of};
-ghost use Rattle.edit_doc.specs.Whole.{IsOpen};
-ghost use Rattle.edit_doc.specs.Held.{Holds, EachHeld, Keeps};
-ghost use Rattle.command_value.specs.Subjects.{subject};
+ghost use Rattle.wrap_split.specs.EditDoc.Whole.{IsOpen};
+ghost use Rattle.wrap_split.specs.EditDoc.Held.{Holds, EachHeld, Keeps};
+ghost use Rattle.wrap_split.specs.CommandValue.Subjects.{subject};
 ghost use Rattle.inline_value.specs.Clearing as spec;
 
 use crate::styling::{decoration_of, set_style, unset_style};
-use command_value::{
+use edit_model::dom::Name;
+use edit_model::element_names::Command;
+use std::alloc::Global;
+use wrap_split::actions::unwrap;
+use wrap_split::css::{DecorationLine, without_line};
+use wrap_split::doc::{Doc, EditFault, NodeList, NodeRef};
+use wrap_split::properties::Property;
+use wrap_split::questions::has_name;
+use wrap_split::values::{
     Subject, is_simple_modifiable_element, relevant_property, specifies, subject_of,
 };
-use css_value::{DecorationLine, without_line};
-use dom_model::Name;
-use edit_actions::unwrap;
-use edit_doc::{Doc, EditFault, NodeList, NodeRef};
-use html_names::Command;
-use node_tests::has_name;
-use std::alloc::Global;
-use style_table::Property;
 
 // The name of a property.
 pub(crate) fn property_name(property: Property) -> &'static [u8]

@@ -2,11 +2,11 @@
 
 ghost use Rattle.std.specs.Prelude.{◌≡◌, IfOk, [], Some};
 ghost use Rattle.std.specs.Option.{option_copied};
-ghost use Rattle.command_value.specs.Subjects.{subject};
+ghost use Rattle.wrap_split.specs.CommandValue.Subjects.{subject};
 ghost use Rattle.edit_model.specs.Gives.{Gives, GivesNode, labels_of};
 ghost use Rattle.edit_model.specs.Run.{for_each};
-ghost use Rattle.edit_doc.specs.Whole.{IsOpen};
-ghost use Rattle.edit_doc.specs.Held.{Holds, EachHeld, Keeps};
+ghost use Rattle.wrap_split.specs.EditDoc.Whole.{IsOpen};
+ghost use Rattle.wrap_split.specs.EditDoc.Held.{Holds, EachHeld, Keeps};
 ghost use Rattle.inline_value.specs.Forcing as spec;
 
 use crate::clearing::property_name;
@@ -14,13 +14,15 @@ use crate::lineages::ancestors;
 use crate::reordering::reorder;
 use crate::styling::set_style;
 use crate::wrappers::wrapper_for;
-use command_value::{Subject, has_alike_value, relevant_property, specifies_other, subject_of};
-use dom_model::{Chars, Name};
-use edit_actions::{insert_before, move_before};
-use edit_doc::{Doc, EditFault, Kind, NodeList, NodeRef};
-use html_names::Command;
-use node_tests::{allowed_in_name, has_name, is_visible};
+use edit_model::dom::{Chars, Name};
+use edit_model::element_names::Command;
 use std::alloc::{AllocError, Global};
+use wrap_split::actions::{insert_before, move_before};
+use wrap_split::doc::{Doc, EditFault, Kind, NodeList, NodeRef};
+use wrap_split::questions::{allowed_in_name, has_name, is_visible};
+use wrap_split::values::{
+    Subject, has_alike_value, relevant_property, specifies_other, subject_of,
+};
 use wrap_split::{NothingMade, SameValueSibling, WrapRule, wrap};
 
 // Whether a node may stand in a span.
@@ -311,7 +313,7 @@ fn force_self(
 }
 
 // Force the value, steps 4 and 9: the children of an editable node.
-#[tactic(auto, using(edit_doc::proofs::Children::none_held), unfolding(crate::specs::Forcing::heirs))]
+#[tactic(auto, using(crate::proofs::Below::none_held), unfolding(crate::specs::Forcing::heirs))]
 fn heirs(alloc: Global, doc: &Doc, node: NodeRef) -> Result<Vec<NodeRef>, AllocError>
     requires { Holds doc.now node }
     ensures held { IfOk result (λ list. EachHeld doc.now list.items) }

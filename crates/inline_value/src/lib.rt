@@ -22,7 +22,8 @@ pub use ancestors::{
     container_name, fix_ancestors, has_place, is_description, is_prohibited, split_out,
 };
 pub use clearing::clear_value;
-pub use edit_doc::{Doc, EditFault, NodeList, NodeRef};
+pub use edit_query as query;
+pub use edit_query::{extend, node_place};
 pub use forcing::force;
 pub use overrides::{Override, Overrides, record_overrides, record_states};
 pub use pushing::push_down;
@@ -30,4 +31,7 @@ pub use recording::{Value, Values, record_values, restore_values};
 pub use reordering::reorder;
 pub use selections::{editable_in_range, set_value, split_ends};
 pub use styling::{set_style, unset_style};
+pub use wrap_split as wrap;
+pub use wrap_split::doc::{Doc, EditFault, NodeList, NodeRef};
+pub use wrap_split::{actions, css, doc, document, properties, questions, styles, values};
 pub use wrappers::bare;

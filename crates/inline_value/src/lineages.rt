@@ -2,11 +2,11 @@
 
 ghost use Rattle.std.specs.Prelude.{◌≡◌, IfOk};
 ghost use Rattle.edit_model.specs.Gives.{labels_of};
-ghost use Rattle.edit_doc.specs.Held.{Holds, EachHeld};
+ghost use Rattle.wrap_split.specs.EditDoc.Held.{Holds, EachHeld};
 ghost use Rattle.inline_value.specs.Forcing.{ancestors};
 
-use edit_doc::{Doc, NodeRef};
 use std::alloc::{AllocError, Global};
+use wrap_split::doc::{Doc, NodeRef};
 
 /// The ancestors of a node, the nearest first.
 pub(crate) fn ancestors(alloc: Global, doc: &Doc, node: NodeRef) -> Result<Vec<NodeRef>, AllocError>

@@ -2,16 +2,16 @@
 //! The steps are those of docs/ALGORITHMS.md.
 
 ghost use Rattle.std.specs.Prelude.{◌≡◌, ◌++◌, ◌∷◌, [], IfOk, OnOk, map};
-ghost use Rattle.edit_doc.specs.Held.{Holds};
+ghost use Rattle.wrap_split.specs.EditDoc.Held.{Holds};
 ghost use Rattle.inline_value.specs.Overrides.{override, is_set, overrides_among, overrides_of, text_setting, on_or_off, on_at, override_at, answered, states_at, states_of};
 
-use command_value::{effective, is_activated};
-use dom_model::Chars;
-use edit_doc::{Doc, NodeRef, Setting};
+use edit_model::dom::Chars;
+use edit_model::element_names::Command;
 use edit_query::{first_formattable, query_value};
-use html_names::Command;
 use std::alloc::{AllocError, Global};
 use std::marker::Model;
+use wrap_split::doc::{Doc, NodeRef, Setting};
+use wrap_split::values::{effective, is_activated};
 
 // The commands whose overrides are recorded, in order.
 static OVERRIDING_COMMANDS: [Command; 11] = [

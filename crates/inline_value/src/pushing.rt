@@ -2,22 +2,22 @@
 
 ghost use Rattle.std.specs.Prelude.{◌≡◌, ◌≤◌, ◌<◌, IfOk, Some, length, reverse, take};
 ghost use Rattle.std.specs.Option.{option_copied};
-ghost use Rattle.dom_model.specs.Forest.{first_in};
+ghost use Rattle.edit_model.specs.DomModel.Forest.{first_in};
 ghost use Rattle.edit_model.specs.Gives.{Gives, label_of, labels_of};
 ghost use Rattle.edit_model.specs.Run.{for_each};
-ghost use Rattle.edit_doc.specs.Whole.{IsOpen};
-ghost use Rattle.edit_doc.specs.Held.{Holds, EachHeld, IfHeld, Keeps};
+ghost use Rattle.wrap_split.specs.EditDoc.Whole.{IsOpen};
+ghost use Rattle.wrap_split.specs.EditDoc.Held.{Holds, EachHeld, IfHeld, Keeps};
 ghost use Rattle.inline_value.specs.Pushing as spec;
 
 use crate::clearing::clear_value;
 use crate::forcing::{force, has_alike};
 use crate::lineages::ancestors;
-use command_value::{specified, specifies, specifies_other};
-use dom_model::Chars;
-use edit_actions::is_same;
-use edit_doc::{Doc, EditFault, Kind, NodeRef};
-use html_names::Command;
+use edit_model::dom::Chars;
+use edit_model::element_names::Command;
 use std::alloc::{AllocError, Global};
+use wrap_split::actions::is_same;
+use wrap_split::doc::{Doc, EditFault, Kind, NodeRef};
+use wrap_split::values::{specified, specifies, specifies_other};
 
 // Whether a node is an editable element whose value isn't alike to the value.
 fn is_other(doc: &Doc, value: Option<&[char]>, node: NodeRef, command: Command) -> bool

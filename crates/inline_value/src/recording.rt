@@ -2,22 +2,22 @@
 
 ghost use Rattle.std.specs.Prelude.{◌≡◌, ◌++◌, ◌∷◌, [], Bool, IfOk, IfSome, OnOk, None, is_some, map};
 ghost use Rattle.std.specs.Option.{option_and_then, option_copied};
-ghost use Rattle.command_value.specs.Equivalence as equivalence;
-ghost use Rattle.command_value.specs.SpecifiedValues.{specified};
+ghost use Rattle.wrap_split.specs.CommandValue.Equivalence as equivalence;
+ghost use Rattle.wrap_split.specs.CommandValue.SpecifiedValues.{specified};
 ghost use Rattle.edit_model.specs.Gives.{Gives, label_of, labels_of};
-ghost use Rattle.edit_doc.specs.Whole.{IsOpen};
-ghost use Rattle.edit_doc.specs.Held.{Holds, IfHeld, EachHeld, Keeps};
+ghost use Rattle.wrap_split.specs.EditDoc.Whole.{IsOpen};
+ghost use Rattle.wrap_split.specs.EditDoc.Held.{Holds, IfHeld, EachHeld, Keeps};
 ghost use Rattle.inline_value.specs.Records.{entry_of, entries_of, nodes_of};
 ghost use Rattle.inline_value.specs.Recording.{given_value, value_at, values_at, values_of, restored_to, restore_value, restore_values};
 
 use crate::forcing::force;
 use crate::pushing::push_down;
-use command_value::{specified_value, specifies, specifies_other};
-use dom_model::Chars;
-use edit_doc::{Doc, EditFault, NodeRef};
-use html_names::Command;
+use edit_model::dom::Chars;
+use edit_model::element_names::Command;
 use std::alloc::{AllocError, Global};
 use std::marker::Model;
+use wrap_split::doc::{Doc, EditFault, NodeRef};
+use wrap_split::values::{specified_value, specifies, specifies_other};
 
 // The commands whose values are recorded, in order.
 static RECORDED_COMMANDS: [Command; 9] = [

@@ -1,24 +1,24 @@
 //! Reordering modifiable descendants. The steps are those of docs/ALGORITHMS.md.
 
 ghost use Rattle.std.specs.Prelude.{◌≡◌, Some};
-ghost use Rattle.command_value.specs.Equivalence.{equivalent};
-ghost use Rattle.command_value.specs.SpecifiedValues.{specified};
+ghost use Rattle.wrap_split.specs.CommandValue.Equivalence.{equivalent};
+ghost use Rattle.wrap_split.specs.CommandValue.SpecifiedValues.{specified};
 ghost use Rattle.edit_model.specs.Gives.{Gives};
-ghost use Rattle.edit_doc.specs.Whole.{IsOpen};
-ghost use Rattle.edit_doc.specs.Held.{Holds, Finds, Keeps};
+ghost use Rattle.wrap_split.specs.EditDoc.Whole.{IsOpen};
+ghost use Rattle.wrap_split.specs.EditDoc.Held.{Holds, Finds, Keeps};
 ghost use Rattle.inline_value.specs.Reordering as spec;
 
-use command_value::{
+use edit_model::element_names::Command;
+use std::alloc::Global;
+use wrap_split::actions::{insert_after, move_all_before};
+use wrap_split::doc::{Doc, EditFault, NodeRef};
+use wrap_split::turn_bound;
+use wrap_split::values::{
     is_modifiable_element, is_simple_modifiable_element, meets_value, specifies, specifies_other,
 };
-use edit_actions::{insert_after, move_all_before};
-use edit_doc::{Doc, EditFault, NodeRef};
-use html_names::Command;
-use std::alloc::Global;
-use wrap_split::turn_bound;
 
 // Whether the specified value of a node is equivalent to a text.
-#[tactic(auto, unfolding(command_value::specs::Modifiable::specifies_other, command_value::specs::Equivalence::equivalent))]
+#[tactic(auto, unfolding(crate::specs::Below::specifies_other, crate::specs::Below::equivalent))]
 fn has_equivalent(doc: &Doc, node: NodeRef, value: &[char], command: Command) -> bool
     requires { Holds doc.now node }
     ensures { result

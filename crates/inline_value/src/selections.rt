@@ -3,36 +3,36 @@
 ghost use Rattle.std.specs.Prelude.{◌≡◌, ◌<◌, IfOk, Some, bytes_eq, filter};
 ghost use Rattle.std.specs.List.{list_any};
 ghost use Rattle.std.specs.Option.{option_copied, option_map_or};
-ghost use Rattle.dom_model.specs.Contents.{is_element_at};
-ghost use Rattle.dom_model.specs.Forest.{count_of};
-ghost use Rattle.html_names.specs.ActivatedValues as activated;
-ghost use Rattle.html_names.specs.ElementNames.{is_one_of};
+ghost use Rattle.edit_model.specs.DomModel.Contents.{is_element_at};
+ghost use Rattle.edit_model.specs.DomModel.Forest.{count_of};
+ghost use Rattle.edit_model.specs.HtmlNames.ActivatedValues as activated;
+ghost use Rattle.edit_model.specs.HtmlNames.ElementNames.{is_one_of};
 ghost use Rattle.edit_model.specs.Confined.{is_editable_for};
 ghost use Rattle.edit_model.specs.Gives.{Gives, labels_of};
 ghost use Rattle.edit_model.specs.Valid.{IsPlacedPair};
 ghost use Rattle.edit_model.specs.Run.{done, for_each, given, set_setting};
-ghost use Rattle.edit_doc.specs.Whole.{IsOpen};
-ghost use Rattle.edit_doc.specs.Held.{Holds, EachHeld, Keeps};
+ghost use Rattle.wrap_split.specs.EditDoc.Whole.{IsOpen};
+ghost use Rattle.wrap_split.specs.EditDoc.Held.{Holds, EachHeld, Keeps};
 ghost use Rattle.inline_value.specs.Selections.{is_amid, at_least, with_start, set_start, start_text, split_at_start, split_at_end, split_start, split_end, split_ends, nodes_by, editable_in_range, elements_in_range, state_setting, value_setting, override_for, unset_rival, set_overrides, clear_one, clear_elements, force_phrase, give_node, give_nodes, give_range, set_value};
 
 use crate::clearing::clear_value;
 use crate::forcing::force;
 use crate::pushing::push_down;
-use block_extend::allowed_in_span;
-use css_value::has_codes;
-use dom_model::Chars;
-use edit_actions::ends_of;
-use edit_doc::{Doc, EditFault, Kind, NodeRef, Pair, Point, Setting};
+use edit_model::boundary::{comes_before, node_of};
+use edit_model::dom::Chars;
+use edit_model::element_names::{Command, activated_values};
+use edit_query::extend::allowed_in_span;
 use edit_query::first_formattable;
-use html_names::{Command, activated_values};
-use node_tests::{effective_nodes, is_element};
-use point_order::{comes_before, node_of};
 use std::alloc::{AllocError, Global};
+use wrap_split::actions::ends_of;
+use wrap_split::css::has_codes;
+use wrap_split::doc::{Doc, EditFault, Kind, NodeRef, Pair, Point, Setting};
+use wrap_split::questions::{effective_nodes, is_element};
 
 // ---- splitting the texts at the ends of the range
 
 // Whether a point lies amid the characters of an editable text.
-#[tactic(auto, unfolding(crate::specs::Selections::is_amid, node_tests::specs::CollapsedWhitespace::is_words))]
+#[tactic(auto, unfolding(crate::specs::Selections::is_amid, crate::specs::Below::is_words))]
 fn is_amid(doc: &Doc, at: Point) -> bool
     requires { 0 < count_of doc.now.state.trees at.label }
     ensures { result ≡ is_amid doc.now.state at }
@@ -128,7 +128,7 @@ fn split_at_end(doc: &mut Doc, at: Point) -> Result<(), EditFault>
 }
 
 // Split the ends, step 1.
-#[tactic(auto, using(edit_model::proofs::Steps::steps, edit_model::proofs::Steps::exits, edit_actions::proofs::Placed::placed_here), unfolding(crate::specs::Selections::split_start))]
+#[tactic(auto, using(edit_model::proofs::Steps::steps, edit_model::proofs::Steps::exits, crate::proofs::Below::placed_here), unfolding(crate::specs::Selections::split_start))]
 fn split_start(doc: &mut Doc) -> Result<(), EditFault>
     requires open { IsOpen doc.old }
     ensures gives { Gives result doc.old.state doc.new.state split_start }
@@ -145,7 +145,7 @@ fn split_start(doc: &mut Doc) -> Result<(), EditFault>
 }
 
 // Split the ends, step 2.
-#[tactic(auto, using(edit_model::proofs::Steps::steps, edit_model::proofs::Steps::exits, edit_actions::proofs::Placed::placed_here), unfolding(crate::specs::Selections::split_end))]
+#[tactic(auto, using(edit_model::proofs::Steps::steps, edit_model::proofs::Steps::exits, crate::proofs::Below::placed_here), unfolding(crate::specs::Selections::split_end))]
 fn split_end(doc: &mut Doc) -> Result<(), EditFault>
     requires open { IsOpen doc.old }
     ensures gives { Gives result doc.old.state doc.new.state split_end }
@@ -209,7 +209,7 @@ fn elements_of(alloc: Global, doc: &Doc, list: &[NodeRef]) -> Result<Vec<NodeRef
 }
 
 // The editable ones of the range of a pair of points.
-#[tactic(auto, using(edit_actions::proofs::Placed::placed_here, edit_query::proofs::Lists::labels_mapped, edit_query::proofs::Lists::each_held))]
+#[tactic(auto, using(crate::proofs::Below::placed_here, edit_query::proofs::Lists::labels_mapped, edit_query::proofs::Lists::each_held))]
 fn editable_between(alloc: Global, doc: &Doc, pair: Pair) -> Result<Vec<NodeRef>, AllocError>
     requires { IsPlacedPair doc.now.state.trees pair }
     ensures held { IfOk result (λ list. EachHeld doc.now list.items) }

@@ -2,16 +2,16 @@
 
 ghost use Rattle.std.specs.Prelude.{◌≡◌, IfOk};
 ghost use Rattle.std.specs.Option.{option_copied};
-ghost use Rattle.css_value.specs.DeclarationList.{printed};
+ghost use Rattle.wrap_split.specs.CssValue.DeclarationList.{printed};
 ghost use Rattle.edit_model.specs.Gives.{Gives};
-ghost use Rattle.edit_doc.specs.Whole.{IsOpen};
-ghost use Rattle.edit_doc.specs.Held.{Holds, Keeps};
+ghost use Rattle.wrap_split.specs.EditDoc.Whole.{IsOpen};
+ghost use Rattle.wrap_split.specs.EditDoc.Held.{Holds, Keeps};
 ghost use Rattle.inline_value.specs.Styling.{style_of, declarations_of, decoration_of, write_text, write_style, set_style, unset_style};
 
-use css_value::{Declarations, find};
-use dom_model::{Chars, Content, Name};
-use edit_doc::{Doc, EditFault, NodeRef};
+use edit_model::dom::{Chars, Content, Name};
 use std::alloc::{AllocError, Global};
+use wrap_split::css::{Declarations, find};
+use wrap_split::doc::{Doc, EditFault, NodeRef};
 
 // The text of the style attribute, empty where there is none.
 #[tactic(auto, unfolding(crate::specs::Styling::style_of))]

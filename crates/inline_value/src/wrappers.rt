@@ -1,14 +1,14 @@
 //! The element that is made to give a node a value. The steps are those of docs/ALGORITHMS.md.
 
 ghost use Rattle.std.specs.Prelude.{◌≡◌, ◌<◌, ◌++◌, IfOk, OnOk};
-ghost use Rattle.css_value.specs.Colours.{colour_of};
+ghost use Rattle.wrap_split.specs.CssValue.Colours.{colour_of};
 ghost use Rattle.inline_value.specs.Wrappers as spec;
 
-use css_value::{Colour, has_codes};
-use dom_model::{Attributes, Chars, Name};
-use html_names::Command;
+use edit_model::dom::{Attributes, Chars, Name};
+use edit_model::element_names::Command;
 use std::alloc::{AllocError, Global};
 use wrap_split::Blank;
+use wrap_split::css::{Colour, has_codes};
 
 /// An element of a name without attributes.
 pub fn bare(alloc: Global, name: &[u8]) -> Result<Blank, AllocError>

@@ -1,13 +1,13 @@
 -- The insertImage command (HTML Editing APIs, "the insertImage command"). The steps are those of
 -- docs/ALGORITHMS.md.
 use Rattle.std.specs.Prelude.{ℕ, ◌==◌, Bool, false, true, ◌&&◌, List, [], ◌∷◌, is_none, codes, if◌then◌else◌}
-use Rattle.dom_model.specs.declared.attributes.Attribute.{Attribute}
-use Rattle.dom_model.specs.Contents.{is_break}
-use Rattle.dom_model.specs.Forest.{first_of, next_of}
-use Rattle.live_range.specs.declared.places.Point.{Point}
-use Rattle.node_styles.specs.Blocks.{is_block}
+use Rattle.edit_model.specs.DomModel.declared.attributes.Attribute.{Attribute}
+use Rattle.edit_model.specs.DomModel.Contents.{is_break}
+use Rattle.edit_model.specs.DomModel.Forest.{first_of, next_of}
+use Rattle.edit_model.specs.LiveRange.declared.places.Point.{Point}
+use Rattle.text_insertion.specs.NodeStyles.Blocks.{is_block}
 use Rattle.edit_model.specs.Run.{Run, ◌>>=◌, ◌>>◌, answer, done, look, given, remove}
-use Rattle.delete_core.specs.declared.deletion.TheConstants.Manner.{KEEP_WRAPPERS}
+use Rattle.text_insertion.specs.DeleteCore.declared.deletion.TheConstants.Manner.{KEEP_WRAPPERS}
 use Rattle.text_insertion.specs.Start.{erase}
 use Rattle.insert_objects.specs.Putting.{from_start_inside, collapse_after, put}
 

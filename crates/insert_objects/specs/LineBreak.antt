@@ -2,15 +2,15 @@
 -- those of docs/ALGORITHMS.md. It answers true.
 use Rattle.std.specs.Prelude.{ℕ, Bool, false, true, ◌||◌, [], codes, if◌then◌else◌}
 use Rattle.std.specs.Option.{option_map_or}
-use Rattle.dom_model.specs.Contents.{is_element_at}
-use Rattle.dom_model.specs.Forest.{parent_of}
-use Rattle.live_range.specs.declared.places.Point.{Point}
-use Rattle.node_styles.specs.Allowed.{name_allowed_in}
-use Rattle.node_tests.specs.SolidNeighbours.{is_extraneous_break, is_collapsed_break}
+use Rattle.edit_model.specs.DomModel.Contents.{is_element_at}
+use Rattle.edit_model.specs.DomModel.Forest.{parent_of}
+use Rattle.edit_model.specs.LiveRange.declared.places.Point.{Point}
+use Rattle.text_insertion.specs.NodeStyles.Allowed.{name_allowed_in}
+use Rattle.text_insertion.specs.NodeTests.SolidNeighbours.{is_extraneous_break, is_collapsed_break}
 use Rattle.edit_model.specs.State.{State}
 use Rattle.edit_model.specs.Moves.{make_break}
 use Rattle.edit_model.specs.Run.{Run, ◌>>=◌, ◌>>◌, answer, done, look}
-use Rattle.delete_core.specs.declared.deletion.TheConstants.Manner.{KEEP_WRAPPERS}
+use Rattle.text_insertion.specs.DeleteCore.declared.deletion.TheConstants.Manner.{KEEP_WRAPPERS}
 use Rattle.text_insertion.specs.Start.{insert_at_start, erase}
 use Rattle.insert_objects.specs.Putting.{from_start_inside, collapse_after, put}
 

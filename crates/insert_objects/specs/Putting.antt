@@ -3,12 +3,12 @@
 -- and a new element is put at the start of the active range. The steps are those of
 -- docs/ALGORITHMS.md.
 use Rattle.std.specs.Prelude.{ℕ, ◌==◌, Bool, true, ◌&&◌, not, List, if◌then◌else◌}
-use Rattle.dom_model.specs.declared.attributes.Attribute.{Attribute}
-use Rattle.dom_model.specs.Contents.{has_chars_at, length_of}
-use Rattle.live_range.specs.declared.places.Point.{Point}
+use Rattle.edit_model.specs.DomModel.declared.attributes.Attribute.{Attribute}
+use Rattle.edit_model.specs.DomModel.Contents.{has_chars_at, length_of}
+use Rattle.edit_model.specs.LiveRange.declared.places.Point.{Point}
 use Rattle.edit_model.specs.Compositions.{split_words}
 use Rattle.edit_model.specs.Run.{Run, ◌>>=◌, ◌>>◌, answer, done, look, given, make_element, collapse}
-use Rattle.delete_core.specs.Places.{before_node, after_node}
+use Rattle.text_insertion.specs.DeleteCore.Places.{before_node, after_node}
 use Rattle.text_insertion.specs.Start.{active_start, start_inside, insert_at_start, cuts_text}
 
 -- goes on from the start of the active range, where its node is inside; elsewhere nothing is

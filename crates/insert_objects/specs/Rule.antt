@@ -1,17 +1,17 @@
 -- The insertHorizontalRule command (HTML Editing APIs, "the insertHorizontalRule command"). The
 -- steps are those of docs/ALGORITHMS.md. It answers true.
 use Rattle.std.specs.Prelude.{◌==◌, Bool, true, ◌&&◌, not, [], Option, None, codes, if◌then◌else◌}
-use Rattle.dom_model.specs.Contents.{length_of}
-use Rattle.dom_model.specs.Forest.{is_label}
-use Rattle.live_range.specs.declared.places.Pair.{Pair}
-use Rattle.live_range.specs.declared.places.Point.{Point}
+use Rattle.edit_model.specs.DomModel.Contents.{length_of}
+use Rattle.edit_model.specs.DomModel.Forest.{is_label}
+use Rattle.edit_model.specs.LiveRange.declared.places.Pair.{Pair}
+use Rattle.edit_model.specs.LiveRange.declared.places.Point.{Point}
 use Rattle.edit_model.specs.State.{State}
 use Rattle.edit_model.specs.Run.{Run, ◌>>=◌, ◌>>◌, answer, done, look, given, select}
-use Rattle.edit_actions.specs.ActiveRange.{start_of, end_of}
-use Rattle.wrap_split.specs.Walks.{turn_bound}
-use Rattle.inline_value.specs.Ancestors.{fix_ancestors}
-use Rattle.delete_core.specs.declared.deletion.TheConstants.Manner.{KEEP_BLOCKS}
-use Rattle.delete_core.specs.Places.{before_node, after_node, walk_points}
+use Rattle.text_insertion.specs.EditActions.ActiveRange.{start_of, end_of}
+use Rattle.text_insertion.specs.WrapSplit.Walks.{turn_bound}
+use Rattle.text_insertion.specs.InlineValue.Ancestors.{fix_ancestors}
+use Rattle.text_insertion.specs.DeleteCore.declared.deletion.TheConstants.Manner.{KEEP_BLOCKS}
+use Rattle.text_insertion.specs.DeleteCore.Places.{before_node, after_node, walk_points}
 use Rattle.text_insertion.specs.Start.{erase}
 use Rattle.insert_objects.specs.Putting.{from_start_inside, collapse_after, put}
 

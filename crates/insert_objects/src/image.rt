@@ -1,18 +1,18 @@
 //! The command insertImage. The steps are those of docs/ALGORITHMS.md.
 
 ghost use Rattle.std.specs.Prelude.{◌≡◌, ◌<◌, IfOk};
-ghost use Rattle.dom_model.specs.Forest.{count_of};
+ghost use Rattle.edit_model.specs.DomModel.Forest.{count_of};
 ghost use Rattle.edit_model.specs.Gives.{Gives};
-ghost use Rattle.edit_doc.specs.Whole.{IsOpen};
-ghost use Rattle.edit_doc.specs.Held.{Keeps};
+ghost use Rattle.text_insertion.specs.EditDoc.Whole.{IsOpen};
+ghost use Rattle.text_insertion.specs.EditDoc.Held.{Keeps};
 ghost use Rattle.insert_objects.specs.Image as command;
 
 use crate::putting::{collapse_after, put};
-use delete_core::Manner;
-use edit_doc::{Attributes, Chars, Doc, EditFault, Name, Point};
-use node_tests::{is_block, is_break};
-use point_order::node_of;
+use edit_model::boundary::node_of;
 use std::alloc::{AllocError, Global};
+use text_insertion::deleting::Manner;
+use text_insertion::doc::{Attributes, Chars, Doc, EditFault, Name, Point};
+use text_insertion::questions::{is_block, is_break};
 use text_insertion::{erase, start_inside};
 
 // Step 3: the br that is all that a block has goes, where a point is the start of that block.

@@ -4,15 +4,15 @@
 ghost use Rattle.std.specs.Prelude.{◌≡◌, IfOk};
 ghost use Rattle.edit_model.specs.Gives.{Gives, GivesNode};
 ghost use Rattle.edit_model.specs.Run.{final};
-ghost use Rattle.edit_doc.specs.Whole.{IsOpen};
-ghost use Rattle.edit_doc.specs.Held.{Holds, Keeps};
+ghost use Rattle.text_insertion.specs.EditDoc.Whole.{IsOpen};
+ghost use Rattle.text_insertion.specs.EditDoc.Held.{Holds, Keeps};
 ghost use Rattle.insert_objects.specs.Putting as putting;
 
-use delete_core::{after_node, before_node, select};
-use edit_actions::ends_of;
-use edit_doc::{Attributes, Doc, EditFault, Name, NodeRef};
-use point_order::node_of;
+use edit_model::boundary::node_of;
 use std::alloc::Global;
+use text_insertion::actions::ends_of;
+use text_insertion::deleting::{after_node, before_node, select};
+use text_insertion::doc::{Attributes, Doc, EditFault, Name, NodeRef};
 use text_insertion::{cuts_text, has_chars, insert_at_start};
 
 // Collapses the active range to just before a node.
@@ -41,7 +41,7 @@ pub(crate) fn collapse_after(doc: &mut Doc, node: NodeRef)
 
 // Put an element, steps 2 and 3: out of the text or the comment that the active range starts in. A
 // text is split where it starts amid it.
-#[tactic(auto, using(edit_model::proofs::Steps::steps, edit_model::proofs::Steps::exits, edit_actions::proofs::Placed::placed_here), unfolding(crate::specs::Putting::leave_text, text_insertion::specs::Start::active_start))]
+#[tactic(auto, using(edit_model::proofs::Steps::steps, edit_model::proofs::Steps::exits, crate::proofs::Below::placed_here), unfolding(crate::specs::Putting::leave_text, text_insertion::specs::Start::active_start))]
 fn leave_text(doc: &mut Doc) -> Result<(), EditFault>
     requires open { IsOpen doc.old }
     ensures gives { Gives result doc.old.state doc.new.state putting.leave_text }

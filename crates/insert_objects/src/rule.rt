@@ -1,22 +1,22 @@
 //! The command insertHorizontalRule. The steps are those of docs/ALGORITHMS.md.
 
 ghost use Rattle.std.specs.Prelude.{◌≡◌, ◌<◌, IfSome};
-ghost use Rattle.dom_model.specs.Forest.{is_label, count_of};
+ghost use Rattle.edit_model.specs.DomModel.Forest.{is_label, count_of};
 ghost use Rattle.edit_model.specs.Gives.{Gives};
 ghost use Rattle.edit_model.specs.Run.{final};
-ghost use Rattle.edit_doc.specs.Whole.{IsOpen};
-ghost use Rattle.edit_doc.specs.Held.{Keeps};
+ghost use Rattle.text_insertion.specs.EditDoc.Whole.{IsOpen};
+ghost use Rattle.text_insertion.specs.EditDoc.Held.{Keeps};
 ghost use Rattle.insert_objects.specs.Rule as command;
 
 use crate::putting::{collapse_after, put};
-use delete_core::{Manner, after_node, before_node, select};
-use edit_actions::{ends_of, is_same};
-use edit_doc::{Attributes, Doc, EditFault, NodeRef, Point};
-use inline_value::fix_ancestors;
-use point_order::node_of;
+use edit_model::boundary::node_of;
 use std::alloc::Global;
+use text_insertion::actions::{ends_of, is_same};
+use text_insertion::deleting::{Manner, after_node, before_node, select};
+use text_insertion::doc::{Attributes, Doc, EditFault, NodeRef, Point};
+use text_insertion::inline::fix_ancestors;
+use text_insertion::wrap::turn_bound;
 use text_insertion::{erase, start_inside};
-use wrap_split::turn_bound;
 
 // Step 1: from the start of a node to before it.
 #[tactic(auto, unfolding(crate::specs::Rule::out_of_start))]
@@ -49,7 +49,7 @@ fn out_of_end(doc: &Doc, at: Point) -> Option<Point>
 }
 
 // Step 1: up from the start of the range, to the affected host at most.
-#[tactic(auto, using(delete_core::proofs::Turns::point_walks), unfolding(crate::specs::Rule::outermost_start))]
+#[tactic(auto, using(crate::proofs::Below::point_walks), unfolding(crate::specs::Rule::outermost_start))]
 fn outermost_start(doc: &Doc, at: Point) -> Point
     requires here { 0 < count_of doc.now.state.trees at.label }
     ensures { result ≡ command.outermost_start doc.now.state at }
@@ -67,7 +67,7 @@ fn outermost_start(doc: &Doc, at: Point) -> Point
 }
 
 // Step 1: up from its end.
-#[tactic(auto, using(delete_core::proofs::Turns::point_walks), unfolding(crate::specs::Rule::outermost_end))]
+#[tactic(auto, using(crate::proofs::Below::point_walks), unfolding(crate::specs::Rule::outermost_end))]
 fn outermost_end(doc: &Doc, at: Point) -> Point
     requires here { 0 < count_of doc.now.state.trees at.label }
     ensures { result ≡ command.outermost_end doc.now.state at }
@@ -85,7 +85,7 @@ fn outermost_end(doc: &Doc, at: Point) -> Point
 }
 
 // Step 1: the active range comes to stand around the nodes at whose edges it starts and ends.
-#[tactic(auto, using(edit_model::proofs::Steps::actions, edit_actions::proofs::Placed::placed_here), unfolding(crate::specs::Rule::widen_range))]
+#[tactic(auto, using(edit_model::proofs::Steps::actions, crate::proofs::Below::placed_here), unfolding(crate::specs::Rule::widen_range))]
 fn widen_range(doc: &mut Doc)
     ensures gives { final command.widen_range doc.old.state ≡ doc.new.state }
     ensures keeps { Keeps doc.old doc.new }

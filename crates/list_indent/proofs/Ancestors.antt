@@ -2,16 +2,16 @@
 use Rattle.std.proofs.Common.{◌≡◌, ℕ, ◌<◌, Bool, true, false, ◌||◌, ◌&&◌, not, List, [], ◌∷◌, ◌++◌, Option, Some, None, refl, sym, ap, ◌∙◌}
 use Rattle.std.proofs.lemmas.Bool.{and_parts}
 use Rattle.std.specs.List.{list_any}
-use Rattle.dom_model.specs.declared.Content.{Content}
-use Rattle.dom_model.specs.Contents.{is_element_at}
-use Rattle.dom_model.specs.Forest.{Forest, IsDistinct, count_of, parent_of}
-use Rattle.node_arena.specs.declared.NodeRef.{NodeRef}
+use Rattle.edit_model.specs.DomModel.declared.Content.{Content}
+use Rattle.edit_model.specs.DomModel.Contents.{is_element_at}
+use Rattle.edit_model.specs.DomModel.Forest.{Forest, IsDistinct, count_of, parent_of}
+use Rattle.edit_model.specs.NodeArena.declared.NodeRef.{NodeRef}
 use Rattle.edit_model.specs.State.{State}
 use Rattle.edit_model.specs.Confined.{is_editable_for}
 use Rattle.edit_model.specs.Gives.{label_of, labels_of}
 use Rattle.edit_model.proofs.Steps.{labels_of_push}
-use Rattle.edit_doc.specs.Whole.{Whole, IsDoc}
-use Rattle.edit_doc.specs.Held.{Holds, IfHeld, Finds}
+use Rattle.inline_value.specs.EditDoc.Whole.{Whole, IsDoc}
+use Rattle.inline_value.specs.EditDoc.Held.{Holds, IfHeld, Finds}
 use Rattle.std.proofs.lemmas.List.{append-nil}
 use Rattle.inline_value.proofs.Above.{from, from_here, height, height_parent}
 use Rattle.list_indent.specs.Outdenting.{indents, is_passed, climb}

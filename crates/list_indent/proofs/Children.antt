@@ -3,19 +3,19 @@ use Rattle.std.proofs.Common.{◌≡◌, ℕ, Bool, true, false, Option, Some, N
 use Rattle.std.specs.Prelude.{find}
 use Rattle.std.specs.List.{list_any}
 use Rattle.std.specs.Option.{unwrap_or}
-use Rattle.dom_model.specs.declared.Content.{Content}
-use Rattle.dom_model.specs.Forest.{Forest, IsDistinct, parent_of, children_of, next_of, prev_of}
-use Rattle.dom_model.proofs.Links.{times-children_of}
-use Rattle.dom_model.proofs.Neighbours.{parent_of-prev_sibling}
-use Rattle.node_arena.specs.declared.NodeRef.{NodeRef}
+use Rattle.edit_model.specs.DomModel.declared.Content.{Content}
+use Rattle.edit_model.specs.DomModel.Forest.{Forest, IsDistinct, parent_of, children_of, next_of, prev_of}
+use Rattle.edit_model.proofs.DomModel.Links.{times-children_of}
+use Rattle.edit_model.proofs.DomModel.Neighbours.{parent_of-prev_sibling}
+use Rattle.edit_model.specs.NodeArena.declared.NodeRef.{NodeRef}
 use Rattle.edit_model.specs.Gives.{label_of}
-use Rattle.edit_doc.specs.Whole.{Whole, IsDoc}
-use Rattle.edit_doc.specs.Held.{IfHeld, Finds}
-use Rattle.edit_doc.proofs.Children.{IsChild}
-use Rattle.edit_actions.proofs.Children.{rest_at, rest_is}
-use Rattle.wrap_split.proofs.Backward.{up_to, up_to_before}
-use Rattle.wrap_split.proofs.Children.{front_at, child_there, child_by}
-use Rattle.wrap_split.specs.Wrap.{last_visible}
+use Rattle.inline_value.specs.EditDoc.Whole.{Whole, IsDoc}
+use Rattle.inline_value.specs.EditDoc.Held.{IfHeld, Finds}
+use Rattle.inline_value.proofs.EditDoc.Children.{IsChild}
+use Rattle.inline_value.proofs.EditActions.Children.{rest_at, rest_is}
+use Rattle.inline_value.proofs.WrapSplit.Backward.{up_to, up_to_before}
+use Rattle.inline_value.proofs.WrapSplit.Children.{front_at, child_there, child_by}
+use Rattle.inline_value.specs.WrapSplit.Wrap.{last_visible}
 use Rattle.list_indent.specs.Commands.{shown_before}
 
 -- ---- from the first on

@@ -3,12 +3,12 @@ use Rattle.std.proofs.Common.{◌≡◌, ℕ, ◌<◌, Bool, List, [], ◌∷◌
 use Rattle.std.specs.Prelude.{filter}
 use Rattle.std.proofs.lemmas.List.{reverse-append}
 use Rattle.std.proofs.lemmas.List.Elements.{filter-append}
-use Rattle.dom_model.specs.declared.Content.{Content}
-use Rattle.dom_model.specs.Contents.{has_name}
-use Rattle.dom_model.specs.Forest.{Forest, IsDistinct, count_of, parent_of}
-use Rattle.dom_model.proofs.Parts.{at_label}
-use Rattle.node_styles.specs.Lineage.{Ancestor, lineage}
-use Rattle.node_styles.proofs.Lineages.{lineage-root, lineage-child}
+use Rattle.edit_model.specs.DomModel.declared.Content.{Content}
+use Rattle.edit_model.specs.DomModel.Contents.{has_name}
+use Rattle.edit_model.specs.DomModel.Forest.{Forest, IsDistinct, count_of, parent_of}
+use Rattle.edit_model.proofs.DomModel.Parts.{at_label}
+use Rattle.inline_value.specs.NodeStyles.Lineage.{Ancestor, lineage}
+use Rattle.inline_value.proofs.NodeStyles.Lineages.{lineage-root, lineage-child}
 use Rattle.list_indent.specs.Commands.{items_over}
 
 abbrev is_li : Forest Content → ℕ → Bool

@@ -3,9 +3,9 @@ use Rattle.std.proofs.Common.{◌≡◌, ℕ, Bool, true, false, ◌&&◌, List,
 use Rattle.std.specs.Prelude.{not}
 use Rattle.std.specs.List.{list_any}
 use Rattle.std.specs.Option.{option_map_or}
-use Rattle.dom_model.specs.declared.Content.{Content}
-use Rattle.dom_model.specs.Forest.{Forest, content_of}
-use Rattle.node_styles.specs.NameClasses.{is_indentation, is_indentation_content, is_simple_indentation, is_simple_indentation_content}
+use Rattle.edit_model.specs.DomModel.declared.Content.{Content}
+use Rattle.edit_model.specs.DomModel.Forest.{Forest, content_of}
+use Rattle.inline_value.specs.NodeStyles.NameClasses.{is_indentation, is_indentation_content, is_simple_indentation, is_simple_indentation_content}
 use Rattle.edit_model.specs.State.{State}
 use Rattle.edit_model.specs.Confined.{is_editable_for}
 use Rattle.edit_model.specs.Run.{Run, final, done, given}

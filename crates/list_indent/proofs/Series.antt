@@ -4,16 +4,16 @@ use Rattle.std.proofs.Math.ListN.{drop_of_length-le}
 use Rattle.std.proofs.lemmas.List.{length-take, length-drop, drop-drop, get_or-take, get_or-drop}
 use Rattle.std.proofs.lemmas.List.Elements.{All-drop}
 use Rattle.std.specs.List.{All}
-use Rattle.node_arena.specs.declared.NodeRef.{NodeRef}
+use Rattle.edit_model.specs.NodeArena.declared.NodeRef.{NodeRef}
 use Rattle.edit_model.specs.State.{State}
 use Rattle.edit_model.specs.Run.{Run, final, ◌>>=◌, answer, look}
 use Rattle.edit_model.specs.declared.settings.EditFault.{EditFault}
 use Rattle.edit_model.specs.Gives.{labels_of, Fails}
 use Rattle.edit_model.proofs.Steps.{steps, final-bind, fails-bind, length-labels_of}
-use Rattle.edit_doc.specs.Whole.{Whole}
-use Rattle.edit_doc.specs.Held.{Holds, EachHeld}
-use Rattle.block_extend.specs.Series.{count_after, count_series}
-use Rattle.edit_query.proofs.Lists.{labels_mapped, all_held, labels_of_front, labels_of_rest, tail_is}
+use Rattle.inline_value.specs.EditDoc.Whole.{Whole}
+use Rattle.inline_value.specs.EditDoc.Held.{Holds, EachHeld}
+use Rattle.inline_value.specs.BlockExtend.Series.{count_after, count_series}
+use Rattle.inline_value.proofs.EditQuery.Lists.{labels_mapped, all_held, labels_of_front, labels_of_rest, tail_is}
 use Rattle.list_indent.specs.Series.{take_series, series_at_most, for_series}
 
 -- ---- more turns than there are series change nothing

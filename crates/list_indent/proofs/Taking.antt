@@ -1,12 +1,12 @@
 -- An element without the attribute contenteditable has the host of a parent that is editable.
 use Rattle.std.proofs.Common.{◌≡◌, ℕ, Bool, true, false, cond, Option, Some, None, refl, sym, ap, ◌∙◌}
 use Rattle.std.specs.Option.{option_map_or}
-use Rattle.dom_model.specs.declared.Content.{Content}
-use Rattle.dom_model.specs.Editing.{contenteditable, is_true_state, host_by, editing_host, is_editable}
-use Rattle.dom_model.specs.Forest.{Forest, IsDistinct, parent_of, content_of, is_label}
-use Rattle.dom_model.proofs.Hosts.{editing_host-root, editing_host-child}
-use Rattle.dom_model.proofs.Links.{parent_count}
-use Rattle.dom_model.proofs.Parts.{at_label}
+use Rattle.edit_model.specs.DomModel.declared.Content.{Content}
+use Rattle.edit_model.specs.DomModel.Editing.{contenteditable, is_true_state, host_by, editing_host, is_editable}
+use Rattle.edit_model.specs.DomModel.Forest.{Forest, IsDistinct, parent_of, content_of, is_label}
+use Rattle.edit_model.proofs.DomModel.Hosts.{editing_host-root, editing_host-child}
+use Rattle.edit_model.proofs.DomModel.Links.{parent_count}
+use Rattle.edit_model.proofs.DomModel.Parts.{at_label}
 use Rattle.edit_model.specs.State.{State}
 use Rattle.edit_model.specs.Confined.{is_editable_for}
 use Rattle.list_indent.specs.Gaps.{TakesHost}

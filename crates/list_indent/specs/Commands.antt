@@ -2,24 +2,24 @@
 -- The steps are those of docs/ALGORITHMS.md.
 use Rattle.std.specs.Prelude.{ℕ, Bool, true, ◌||◌, ◌&&◌, not, List, [], ◌++◌, map, filter, reverse, codes, Option, if◌then◌else◌}
 use Rattle.std.specs.Option.{option_and_then, option_map_or}
-use Rattle.dom_model.specs.declared.Content.{Content}
-use Rattle.dom_model.specs.Contents.{has_name}
-use Rattle.dom_model.specs.Forest.{Forest, parent_of, children_of, first_in}
-use Rattle.point_order.specs.PointOrder.{is_within}
-use Rattle.node_styles.specs.Allowed.{allowed_in_name}
-use Rattle.node_styles.specs.Lineage.{lineage}
+use Rattle.edit_model.specs.DomModel.declared.Content.{Content}
+use Rattle.edit_model.specs.DomModel.Contents.{has_name}
+use Rattle.edit_model.specs.DomModel.Forest.{Forest, parent_of, children_of, first_in}
+use Rattle.edit_model.specs.PointOrder.PointOrder.{is_within}
+use Rattle.inline_value.specs.NodeStyles.Allowed.{allowed_in_name}
+use Rattle.inline_value.specs.NodeStyles.Lineage.{lineage}
 use Rattle.edit_model.specs.State.{State}
 use Rattle.edit_model.specs.Confined.{is_editable_for}
 use Rattle.edit_model.specs.Run.{Run, ◌>>=◌, ◌>>◌, answer, done, look, given, for_each}
-use Rattle.edit_actions.specs.ActiveRange.{start_of, end_of}
-use Rattle.edit_actions.specs.Siblings.{until}
-use Rattle.edit_query.specs.Gathered.{outermost}
-use Rattle.wrap_split.specs.Split.{split_parent}
-use Rattle.wrap_split.specs.Wrap.{first_visible, last_visible}
+use Rattle.inline_value.specs.EditActions.ActiveRange.{start_of, end_of}
+use Rattle.inline_value.specs.EditActions.Siblings.{until}
+use Rattle.inline_value.specs.EditQuery.Gathered.{outermost}
+use Rattle.inline_value.specs.WrapSplit.Split.{split_parent}
+use Rattle.inline_value.specs.WrapSplit.Wrap.{first_visible, last_visible}
 use Rattle.inline_value.specs.Ancestors.{fix_ancestors}
 use Rattle.inline_value.specs.Recording.{record_values, restore_values}
-use Rattle.block_extend.specs.Descendants.{has_descendant}
-use Rattle.block_extend.specs.Series.{is_next}
+use Rattle.inline_value.specs.BlockExtend.Descendants.{has_descendant}
+use Rattle.inline_value.specs.BlockExtend.Series.{is_next}
 use Rattle.list_indent.specs.Series.{for_series}
 use Rattle.list_indent.specs.Sublists.{is_list, is_item, is_in_list, normalize_sublists}
 use Rattle.list_indent.specs.Indenting.{indent_list}

@@ -2,10 +2,10 @@
 -- have the host of their parent. No public clause cites this module.
 use Rattle.std.specs.Prelude.{◌≡◌, ℕ, Bool, true, ◌&&◌, not, None}
 use Rattle.std.specs.List.{list_any}
-use Rattle.dom_model.specs.declared.Content.{Content}
-use Rattle.dom_model.specs.Contents.{is_element}
-use Rattle.dom_model.specs.Editing.{contenteditable}
-use Rattle.node_styles.specs.NameClasses.{is_indentation}
+use Rattle.edit_model.specs.DomModel.declared.Content.{Content}
+use Rattle.edit_model.specs.DomModel.Contents.{is_element}
+use Rattle.edit_model.specs.DomModel.Editing.{contenteditable}
+use Rattle.inline_value.specs.NodeStyles.NameClasses.{is_indentation}
 use Rattle.edit_model.specs.State.{State}
 use Rattle.inline_value.specs.Forcing.{ancestors}
 use Rattle.list_indent.specs.Sublists.{is_list}

@@ -1,13 +1,13 @@
 -- Indenting a list of siblings (HTML Editing APIs, "indent"). The steps are those of
 -- docs/ALGORITHMS.md.
 use Rattle.std.specs.Prelude.{ℕ, false, List, codes, Option, Some, None, if◌then◌else◌}
-use Rattle.dom_model.specs.Forest.{parent_of, first_in}
+use Rattle.edit_model.specs.DomModel.Forest.{parent_of, first_in}
 use Rattle.edit_model.specs.State.{State}
 use Rattle.edit_model.specs.Compositions.{tag_of}
 use Rattle.edit_model.specs.Run.{Run, ◌>>=◌, ◌>>◌, done, look, given}
-use Rattle.wrap_split.specs.declared.rule.Criterion.TheVariants.{Named, SimpleIndentation}
-use Rattle.wrap_split.specs.declared.rule.Recipe.TheVariants.{Make}
-use Rattle.wrap_split.specs.Wrap.{wrap}
+use Rattle.inline_value.specs.WrapSplit.declared.rule.Criterion.TheVariants.{Named, SimpleIndentation}
+use Rattle.inline_value.specs.WrapSplit.declared.rule.Recipe.TheVariants.{Make}
+use Rattle.inline_value.specs.WrapSplit.Wrap.{wrap}
 use Rattle.inline_value.specs.Ancestors.{fix_ancestors}
 use Rattle.inline_value.specs.Wrappers.{bare}
 use Rattle.list_indent.specs.Sublists.{is_list}

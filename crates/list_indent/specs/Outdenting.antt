@@ -1,18 +1,18 @@
 -- Outdenting a node (HTML Editing APIs, "outdent"). The steps are those of docs/ALGORITHMS.md.
 use Rattle.std.specs.Prelude.{ℕ, Bool, true, false, ◌==◌, ◌||◌, ◌&&◌, not, List, [], ◌∷◌, reverse, find, codes, Option, Some, None, is_some, if◌then◌else◌}
 use Rattle.std.specs.Option.{option_map_or}
-use Rattle.dom_model.specs.Contents.{is_element_at}
-use Rattle.dom_model.specs.Forest.{is_label, parent_of, children_of, first_in}
-use Rattle.html_names.specs.BoxNames.{box_names}
-use Rattle.node_styles.specs.NameClasses.{is_indentation, is_simple_indentation}
+use Rattle.edit_model.specs.DomModel.Contents.{is_element_at}
+use Rattle.edit_model.specs.DomModel.Forest.{is_label, parent_of, children_of, first_in}
+use Rattle.edit_model.specs.HtmlNames.BoxNames.{box_names}
+use Rattle.inline_value.specs.NodeStyles.NameClasses.{is_indentation, is_simple_indentation}
 use Rattle.edit_model.specs.State.{State}
 use Rattle.edit_model.specs.Confined.{is_editable_for}
 use Rattle.edit_model.specs.Compositions.{set_tag_name}
 use Rattle.edit_model.specs.Run.{Run, ◌>>=◌, ◌>>◌, done, look, given, for_each, remove, unset_attribute}
-use Rattle.edit_actions.specs.Siblings.{until}
-use Rattle.wrap_split.specs.Split.{remove_keeping_children}
-use Rattle.wrap_split.specs.Target.{is_without_attributes}
-use Rattle.wrap_split.specs.Wrap.{break_next}
+use Rattle.inline_value.specs.EditActions.Siblings.{until}
+use Rattle.inline_value.specs.WrapSplit.Split.{remove_keeping_children}
+use Rattle.inline_value.specs.WrapSplit.Target.{is_without_attributes}
+use Rattle.inline_value.specs.WrapSplit.Wrap.{break_next}
 use Rattle.inline_value.specs.Ancestors.{fix_ancestors}
 use Rattle.inline_value.specs.Forcing.{ancestors}
 use Rattle.inline_value.specs.Recording.{record_values, restore_values}

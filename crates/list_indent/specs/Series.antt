@@ -3,7 +3,7 @@
 use Rattle.std.specs.Prelude.{ℕ, zero, suc, Bool, List, [], ◌∷◌, length, take, drop}
 use Rattle.edit_model.specs.State.{State}
 use Rattle.edit_model.specs.Run.{Run, ◌>>◌, done, look}
-use Rattle.block_extend.specs.Series.{count_series}
+use Rattle.inline_value.specs.BlockExtend.Series.{count_series}
 
 -- the first series of a list, and the rest
 abbrev pub take_series : (ℕ → ℕ → Bool) → List ℕ → List ℕ × List ℕ

@@ -3,16 +3,16 @@
 use Rattle.std.specs.Prelude.{ℕ, Bool, false, ◌||◌, ◌&&◌, [], codes, Option, Some, None, is_none, if◌then◌else◌}
 use Rattle.std.specs.List.{list_any}
 use Rattle.std.specs.Option.{option_map_or}
-use Rattle.dom_model.specs.declared.Content.{Content}
-use Rattle.dom_model.specs.declared.Content.TheVariants.{Document, Element, Words, Remark}
-use Rattle.dom_model.specs.Contents.{has_name}
-use Rattle.dom_model.specs.Forest.{parent_of, children_of, last_of, content_of}
-use Rattle.node_styles.specs.Allowed.{are_spaces}
+use Rattle.edit_model.specs.DomModel.declared.Content.{Content}
+use Rattle.edit_model.specs.DomModel.declared.Content.TheVariants.{Document, Element, Words, Remark}
+use Rattle.edit_model.specs.DomModel.Contents.{has_name}
+use Rattle.edit_model.specs.DomModel.Forest.{parent_of, children_of, last_of, content_of}
+use Rattle.inline_value.specs.NodeStyles.Allowed.{are_spaces}
 use Rattle.edit_model.specs.State.{State}
 use Rattle.edit_model.specs.Confined.{is_editable_for}
 use Rattle.edit_model.specs.Moves.{insert_after, move_after, move_first}
 use Rattle.edit_model.specs.Run.{Run, ◌>>=◌, ◌>>◌, answer, done, look, given, while_at_most, make_element}
-use Rattle.wrap_split.specs.Walks.{turn_bound}
+use Rattle.inline_value.specs.WrapSplit.Walks.{turn_bound}
 
 -- an ol or ul, and an li
 unfoldable pub is_list : State → ℕ → Bool

@@ -3,8 +3,8 @@
 ghost use Rattle.std.specs.Prelude.{◌≡◌};
 ghost use Rattle.edit_model.specs.Gives.{Gives, labels_of};
 ghost use Rattle.edit_model.specs.Run.{for_each};
-ghost use Rattle.edit_doc.specs.Whole.{IsOpen};
-ghost use Rattle.edit_doc.specs.Held.{Holds, EachHeld, Finds, Keeps};
+ghost use Rattle.inline_value.specs.EditDoc.Whole.{IsOpen};
+ghost use Rattle.inline_value.specs.EditDoc.Held.{Holds, EachHeld, Finds, Keeps};
 ghost use Rattle.list_indent.specs.Sublists.{normalize_sublists};
 ghost use Rattle.list_indent.specs.Indenting.{indent_list};
 ghost use Rattle.list_indent.specs.Series.{for_series};
@@ -15,13 +15,13 @@ use crate::indenting::indent_list;
 use crate::lists::{is_in_list, is_item, is_list};
 use crate::outdenting::{fix_each, outdent_node};
 use crate::sublists::normalize_sublists;
-use block_extend::{Link, count_series, is_next};
-use edit_doc::{Doc, EditFault, NodeList, NodeRef};
-use edit_query::outermost;
+use inline_value::doc::{Doc, EditFault, NodeList, NodeRef};
+use inline_value::extend::{Link, count_series, is_next};
+use inline_value::query::outermost;
+use inline_value::questions::is_visible;
+use inline_value::wrap::{first_visible, split_parent};
 use inline_value::{record_values, restore_values};
-use node_tests::is_visible;
 use std::alloc::Global;
-use wrap_split::{first_visible, split_parent};
 
 /// Normalizes the sublists of each node of a list (indent and outdent, step 1).
 #[tactic(auto, using(edit_model::proofs::Steps::eachs, edit_model::proofs::Steps::exits))]

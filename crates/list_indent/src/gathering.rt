@@ -2,21 +2,21 @@
 //! outdent go over.
 
 ghost use Rattle.std.specs.Prelude.{◌≡◌, ◌++◌, ◌∷◌, [], OnOk, IfOk, IfSome, true, not, codes, filter};
-ghost use Rattle.dom_model.specs.Contents.{has_name};
-ghost use Rattle.point_order.specs.PointOrder.{is_within};
+ghost use Rattle.edit_model.specs.DomModel.Contents.{has_name};
+ghost use Rattle.edit_model.specs.PointOrder.PointOrder.{is_within};
 ghost use Rattle.edit_model.specs.Confined.{is_editable_for};
 ghost use Rattle.edit_model.specs.Gives.{labels_of};
-ghost use Rattle.edit_doc.specs.Held.{Holds, EachHeld};
+ghost use Rattle.inline_value.specs.EditDoc.Held.{Holds, EachHeld};
 ghost use Rattle.list_indent.specs.Gaps.{TakesHost};
 ghost use Rattle.list_indent.specs.Commands.{items_over, range_items, has_editable_below};
 
 use crate::lists::{is_in_list, is_item, is_list};
-use block_extend::{Choice, allowed_in_div, begins_with, has_descendant};
-use dom_model::Content;
-use edit_actions::ends_of;
-use edit_doc::{Doc, NodeRef};
-use node_tests::{allowed_in_name, is_within};
-use point_order::node_of;
+use edit_model::boundary::node_of;
+use edit_model::dom::Content;
+use inline_value::actions::ends_of;
+use inline_value::doc::{Doc, NodeRef};
+use inline_value::extend::{Choice, allowed_in_div, begins_with, has_descendant};
+use inline_value::questions::{allowed_in_name, is_within};
 use std::alloc::{AllocError, Global};
 
 // Appends a node, if it is an item.
@@ -76,7 +76,7 @@ fn push_apart(
 
 /// Indent and outdent, step 1: the items around the ends of the active range, those around the start
 /// and then those around the end alone.
-#[tactic(auto, using(edit_actions::proofs::Placed::placed_here), unfolding(crate::specs::Commands::items_around, crate::specs::Commands::range_items))]
+#[tactic(auto, using(crate::proofs::Below::placed_here), unfolding(crate::specs::Commands::items_around, crate::specs::Commands::range_items))]
 pub(crate) fn range_items(alloc: Global, doc: &Doc) -> Result<Vec<NodeRef>, AllocError>
     ensures held { IfOk result (λ list. EachHeld doc.now list.items) }
     ensures items { IfOk result (λ list. labels_of list.items ≡ range_items doc.now.state) }

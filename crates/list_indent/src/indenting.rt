@@ -2,17 +2,17 @@
 
 ghost use Rattle.std.specs.Prelude.{◌≡◌, IfOk, codes};
 ghost use Rattle.edit_model.specs.Gives.{Gives, label_of, labels_of};
-ghost use Rattle.edit_doc.specs.Whole.{IsOpen};
-ghost use Rattle.edit_doc.specs.Held.{IfHeld, EachHeld, Finds, Keeps};
+ghost use Rattle.inline_value.specs.EditDoc.Whole.{IsOpen};
+ghost use Rattle.inline_value.specs.EditDoc.Held.{IfHeld, EachHeld, Finds, Keeps};
 ghost use Rattle.inline_value.specs.Wrappers as wrappers;
 ghost use Rattle.list_indent.specs.Indenting.{if_list, fixed, indent_list};
 
 use crate::lists::is_list;
-use edit_actions::tag_of;
-use edit_doc::{Attributes, Doc, EditFault, NodeList, NodeRef};
+use inline_value::actions::tag_of;
+use inline_value::doc::{Attributes, Doc, EditFault, NodeList, NodeRef};
+use inline_value::wrap::{Blank, CopyMade, IndentationSibling, NamedSibling, WrapRule, wrap};
 use inline_value::{bare, fix_ancestors};
 use std::alloc::{AllocError, Global};
-use wrap_split::{Blank, CopyMade, IndentationSibling, NamedSibling, WrapRule, wrap};
 
 fn if_list(doc: &Doc, node: Option<NodeRef>) -> Option<NodeRef>
     requires { IfHeld doc.now node }

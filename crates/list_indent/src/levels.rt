@@ -2,17 +2,17 @@
 //! place.
 
 ghost use Rattle.std.specs.Prelude.{◌≡◌, ◌≤◌, ◌==◌, ◌||◌, IfOk, length, drop, take, reverse};
-ghost use Rattle.dom_model.specs.Forest.{first_in, is_label};
+ghost use Rattle.edit_model.specs.DomModel.Forest.{first_in, is_label};
 ghost use Rattle.edit_model.specs.Gives.{Gives, label_of, labels_of};
-ghost use Rattle.edit_doc.specs.Whole.{IsOpen};
-ghost use Rattle.edit_doc.specs.Held.{Holds, EachHeld, Finds, Keeps};
+ghost use Rattle.inline_value.specs.EditDoc.Whole.{IsOpen};
+ghost use Rattle.inline_value.specs.EditDoc.Held.{Holds, EachHeld, Finds, Keeps};
 ghost use Rattle.list_indent.specs.Outdenting.{child_on_way, rest_after, siblings_after, part_level, part_levels};
 
 use crate::indenting::indent_list;
-use edit_actions::{children_before, is_same};
-use edit_doc::{Doc, EditFault, NodeList, NodeRef};
+use inline_value::actions::{children_before, is_same};
+use inline_value::doc::{Doc, EditFault, NodeList, NodeRef};
+use inline_value::wrap::break_next;
 use std::alloc::{AllocError, Global};
-use wrap_split::break_next;
 
 // Whether a child is the node, or the one that may be there.
 fn is_on_way(node: NodeRef, below: Option<NodeRef>, child: NodeRef) -> bool

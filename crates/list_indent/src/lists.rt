@@ -2,14 +2,14 @@
 
 ghost use Rattle.std.specs.Prelude.{◌≡◌};
 ghost use Rattle.std.specs.List.{list_any};
-ghost use Rattle.dom_model.specs.Forest.{children_of};
-ghost use Rattle.edit_doc.specs.Held.{Holds};
+ghost use Rattle.edit_model.specs.DomModel.Forest.{children_of};
+ghost use Rattle.inline_value.specs.EditDoc.Held.{Holds};
 ghost use Rattle.list_indent.specs.Sublists.{is_list, is_item, is_in_list, is_blank};
 
-use dom_model::Content;
-use edit_doc::{Doc, NodeRef};
-use node_styles::are_spaces;
-use node_tests::has_name;
+use edit_model::dom::Content;
+use inline_value::doc::{Doc, NodeRef};
+use inline_value::questions::has_name;
+use inline_value::styles::are_spaces;
 
 /// Whether a node is an ol or ul.
 #[tactic(auto, unfolding(crate::specs::Sublists::is_list))]

@@ -1,12 +1,12 @@
 //! Outdenting a node. The steps are those of docs/ALGORITHMS.md.
 
 ghost use Rattle.std.specs.Prelude.{◌≡◌, true, ◌++◌, ◌∷◌, [], IfOk};
-ghost use Rattle.html_names.specs.BoxNames.{box_names};
+ghost use Rattle.edit_model.specs.HtmlNames.BoxNames.{box_names};
 ghost use Rattle.edit_model.specs.Confined.{is_inside};
 ghost use Rattle.edit_model.specs.Gives.{Gives, label_of, labels_of};
 ghost use Rattle.edit_model.specs.Run.{for_each, unset_attribute};
-ghost use Rattle.edit_doc.specs.Whole.{IsOpen};
-ghost use Rattle.edit_doc.specs.Held.{Holds, IfHeld, EachHeld, Finds, Keeps};
+ghost use Rattle.inline_value.specs.EditDoc.Whole.{IsOpen};
+ghost use Rattle.inline_value.specs.EditDoc.Held.{Holds, IfHeld, EachHeld, Finds, Keeps};
 ghost use Rattle.inline_value.specs.Ancestors.{fix_ancestors};
 ghost use Rattle.inline_value.specs.Styling.{unset_style};
 ghost use Rattle.list_indent.specs.Gaps.{is_indented, keeps_place};
@@ -14,13 +14,13 @@ ghost use Rattle.list_indent.specs.Outdenting.{to_div, unindented, indents, is_p
 
 use crate::levels::part_levels;
 use crate::lists::{is_in_list, is_list};
-use edit_doc::{Doc, EditFault, Name, NodeRef};
-use edit_query::is_editable_inside;
-use html_names::box_names;
+use edit_model::element_names::box_names;
+use inline_value::doc::{Doc, EditFault, Name, NodeRef};
+use inline_value::query::is_editable_inside;
+use inline_value::questions::{is_element, is_indentation, is_simple_indentation};
+use inline_value::wrap::{is_without_attributes, remove_keeping_children};
 use inline_value::{fix_ancestors, record_values, restore_values, unset_style};
-use node_tests::{is_element, is_indentation, is_simple_indentation};
 use std::alloc::{AllocError, Global};
-use wrap_split::{is_without_attributes, remove_keeping_children};
 
 // ---- steps 2 and 3
 

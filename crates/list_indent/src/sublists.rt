@@ -2,15 +2,15 @@
 
 ghost use Rattle.std.specs.Prelude.{◌≡◌, IfOk};
 ghost use Rattle.edit_model.specs.Gives.{Gives, GivesNode, GivesMaybe, label_of};
-ghost use Rattle.edit_doc.specs.Whole.{IsOpen};
-ghost use Rattle.edit_doc.specs.Held.{Holds, IfHeld, Keeps};
+ghost use Rattle.inline_value.specs.EditDoc.Whole.{IsOpen};
+ghost use Rattle.inline_value.specs.EditDoc.Held.{Holds, IfHeld, Keeps};
 ghost use Rattle.list_indent.specs.Sublists.{leaves, follower_of, part_last, is_normalizable, normalize_sublists};
 
 use crate::lists::{has_list, is_blank, is_item, is_list};
-use edit_actions::{insert_after, move_after, move_first};
-use edit_doc::{Attributes, Doc, EditFault, Name, NodeRef};
+use inline_value::actions::{insert_after, move_after, move_first};
+use inline_value::doc::{Attributes, Doc, EditFault, Name, NodeRef};
+use inline_value::wrap::turn_bound;
 use std::alloc::Global;
-use wrap_split::turn_bound;
 
 // Step 2: whether a child leaves the item alone, or goes to the follower.
 #[tactic(auto, unfolding(crate::specs::Sublists::leaves))]

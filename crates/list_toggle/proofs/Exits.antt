@@ -1,7 +1,7 @@
 -- The exits of calls that answer more than one thing.
 use Rattle.std.proofs.Common.{◌≡◌, ℕ, Option, List, drop, sym, subst, Result, Ok, Err}
 use Rattle.std.specs.Result.{IsErrAnd}
-use Rattle.node_arena.specs.declared.NodeRef.{NodeRef}
+use Rattle.edit_model.specs.NodeArena.declared.NodeRef.{NodeRef}
 use Rattle.edit_model.specs.Gives.{Fails, GivesAs, label_of, labels_of}
 use Rattle.edit_model.specs.Run.{Run, final}
 use Rattle.edit_model.specs.State.{State}

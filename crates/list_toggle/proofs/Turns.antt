@@ -2,18 +2,18 @@
 use Rattle.std.proofs.Common.{◌≡◌, ℕ, ◌+◌, ◌-◌, ◌<◌, ◌≤◌, true, false, ◌||◌, Option, Some, None, List, [], ◌∷◌, ◌++◌, drop, length, refl, sym, ap, subst, ◌∙◌, arith, codes}
 use Rattle.std.specs.Prelude.{bytes_eq}
 use Rattle.std.specs.Option.{option_map_or, option_and_then}
-use Rattle.dom_model.specs.declared.Content.{Content}
-use Rattle.dom_model.specs.declared.Content.TheVariants.{Document, Element, Words, Remark}
-use Rattle.dom_model.specs.Contents.{name_in, is_element, is_element_at}
-use Rattle.dom_model.specs.Forest.{content_of, first_in}
-use Rattle.node_arena.specs.declared.NodeRef.{NodeRef}
+use Rattle.edit_model.specs.DomModel.declared.Content.{Content}
+use Rattle.edit_model.specs.DomModel.declared.Content.TheVariants.{Document, Element, Words, Remark}
+use Rattle.edit_model.specs.DomModel.Contents.{name_in, is_element, is_element_at}
+use Rattle.edit_model.specs.DomModel.Forest.{content_of, first_in}
+use Rattle.edit_model.specs.NodeArena.declared.NodeRef.{NodeRef}
 use Rattle.edit_model.specs.Gives.{label_of, labels_of, Fails}
 use Rattle.edit_model.specs.Run.{Run, ◌>>=◌, final, value, answer, given, while_at_most}
 use Rattle.edit_model.specs.State.{State}
 use Rattle.edit_model.specs.declared.settings.EditFault.{EditFault}
 use Rattle.edit_model.proofs.Steps.{final-bind, value-bind, final-answer, value-answer, final-look, value-look, fails-bind, final_while_turn, value_while_turn, final_while_stop, value_while_stop, while_end}
-use Rattle.wrap_split.specs.Walks.{turn_bound}
-use Rattle.wrap_split.specs.Wrap.{one_of}
+use Rattle.list_indent.specs.WrapSplit.Walks.{turn_bound}
+use Rattle.list_indent.specs.WrapSplit.Wrap.{one_of}
 use Rattle.block_commands.proofs.Counting.{drop_more}
 use Rattle.list_toggle.specs.Collecting.{Made, Collected, is_container, make_item, goes_on, collect_next, collect_items}
 

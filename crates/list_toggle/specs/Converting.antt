@@ -1,20 +1,20 @@
 -- Toggle lists, step 3: the lists of the other kind become lists of the kind, or go into one beside
 -- them. The steps are those of docs/ALGORITHMS.md.
 use Rattle.std.specs.Prelude.{ℕ, Bool, false, ◌&&◌, ◌||◌, List, Option, Some, None, if◌then◌else◌}
-use Rattle.dom_model.specs.Contents.{is_element_at}
-use Rattle.dom_model.specs.Forest.{prev_of, next_of, children_of, first_in}
+use Rattle.edit_model.specs.DomModel.Contents.{is_element_at}
+use Rattle.edit_model.specs.DomModel.Forest.{prev_of, next_of, children_of, first_in}
 use Rattle.edit_model.specs.State.{State}
 use Rattle.edit_model.specs.Confined.{is_editable_for}
 use Rattle.edit_model.specs.Compositions.{set_tag_name}
 use Rattle.edit_model.specs.Run.{Run, ◌>>=◌, ◌>>◌, answer, done, look, given, for_each}
-use Rattle.wrap_split.specs.declared.rule.Criterion.{Criterion}
-use Rattle.wrap_split.specs.declared.rule.Criterion.TheVariants.{Named}
-use Rattle.wrap_split.specs.declared.rule.Recipe.{Recipe}
-use Rattle.wrap_split.specs.declared.rule.Recipe.TheVariants.{Nothing}
-use Rattle.wrap_split.specs.Split.{split_parent}
-use Rattle.wrap_split.specs.Wrap.{wrap}
-use Rattle.inline_value.specs.Recording.{record_values, restore_values}
-use Rattle.edit_query.specs.ListStates.{list_name, is_list_of}
+use Rattle.list_indent.specs.WrapSplit.declared.rule.Criterion.{Criterion}
+use Rattle.list_indent.specs.WrapSplit.declared.rule.Criterion.TheVariants.{Named}
+use Rattle.list_indent.specs.WrapSplit.declared.rule.Recipe.{Recipe}
+use Rattle.list_indent.specs.WrapSplit.declared.rule.Recipe.TheVariants.{Nothing}
+use Rattle.list_indent.specs.WrapSplit.Split.{split_parent}
+use Rattle.list_indent.specs.WrapSplit.Wrap.{wrap}
+use Rattle.list_indent.specs.InlineValue.Recording.{record_values, restore_values}
+use Rattle.list_indent.specs.EditQuery.ListStates.{list_name, is_list_of}
 use Rattle.list_toggle.specs.Ranges.{RangeEnds, extended_range, keep_range, kept_range, other_lists}
 
 -- the criterion: an element of the kind

@@ -3,17 +3,17 @@
 -- ordered.
 use Rattle.std.specs.Prelude.{ℕ, ◌<◌, Bool, not, ◌&&◌, List, [], filter, Option}
 use Rattle.std.specs.Option.{option_map, option_map_or}
-use Rattle.dom_model.specs.declared.Content.{Content}
-use Rattle.dom_model.specs.Forest.{Forest, count_of}
-use Rattle.live_range.specs.declared.places.Pair.{Pair}
-use Rattle.live_range.specs.declared.places.Point.{Point}
+use Rattle.edit_model.specs.DomModel.declared.Content.{Content}
+use Rattle.edit_model.specs.DomModel.Forest.{Forest, count_of}
+use Rattle.edit_model.specs.LiveRange.declared.places.Pair.{Pair}
+use Rattle.edit_model.specs.LiveRange.declared.places.Point.{Point}
 use Rattle.block_commands.specs.Gathered.{contained_in}
 use Rattle.edit_model.specs.State.{State}
 use Rattle.edit_model.specs.Confined.{is_editable_for}
 use Rattle.edit_model.specs.Run.{Run, done, given, set_scratch}
-use Rattle.edit_actions.specs.ActiveRange.{start_of, end_of}
-use Rattle.edit_query.specs.Gathered.{extended}
-use Rattle.edit_query.specs.ListStates.{is_list_of, members_in}
+use Rattle.list_indent.specs.EditActions.ActiveRange.{start_of, end_of}
+use Rattle.list_indent.specs.EditQuery.Gathered.{extended}
+use Rattle.list_indent.specs.EditQuery.ListStates.{is_list_of, members_in}
 use Rattle.list_indent.specs.Sublists.{is_list, is_in_list}
 
 -- ---- the range: its ends, or nothing without a selection

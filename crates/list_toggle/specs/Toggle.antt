@@ -3,16 +3,16 @@
 -- list is told by whether it is ordered.
 use Rattle.std.specs.Prelude.{ℕ, Bool, true, false, not, ◌&&◌, ◌||◌, List, if◌then◌else◌}
 use Rattle.std.specs.List.{list_all}
-use Rattle.dom_model.specs.Forest.{first_in}
-use Rattle.block_extend.specs.Series.{is_next}
-use Rattle.inline_value.specs.Wrappers.{bare}
+use Rattle.edit_model.specs.DomModel.Forest.{first_in}
+use Rattle.list_indent.specs.BlockExtend.Series.{is_next}
+use Rattle.list_indent.specs.InlineValue.Wrappers.{bare}
 use Rattle.block_commands.specs.Series.{in_turns}
 use Rattle.edit_model.specs.State.{State}
 use Rattle.edit_model.specs.Run.{Run, ◌>>=◌, ◌>>◌, answer, done, look, given}
-use Rattle.wrap_split.specs.declared.rule.Recipe.{Recipe}
-use Rattle.wrap_split.specs.declared.rule.Recipe.TheVariants.{Make}
-use Rattle.wrap_split.specs.Wrap.{wrap}
-use Rattle.edit_query.specs.ListStates.{list_name, is_list_of, is_child_of, is_list_state, list_state}
+use Rattle.list_indent.specs.WrapSplit.declared.rule.Recipe.{Recipe}
+use Rattle.list_indent.specs.WrapSplit.declared.rule.Recipe.TheVariants.{Make}
+use Rattle.list_indent.specs.WrapSplit.Wrap.{wrap}
+use Rattle.list_indent.specs.EditQuery.ListStates.{list_name, is_list_of, is_child_of, is_list_state, list_state}
 use Rattle.list_indent.specs.Commands.{normalize_range, split_items}
 use Rattle.list_indent.specs.Indenting.{fixed}
 use Rattle.list_indent.specs.Outdenting.{outdent_node}

@@ -2,18 +2,18 @@
 
 ghost use Rattle.std.specs.Prelude.{◌≡◌, ◌≤◌, ◌<◌, ◌++◌, IfOk, OnOk, length, drop};
 ghost use Rattle.edit_model.specs.Gives.{GivesAs, label_of, labels_of};
-ghost use Rattle.edit_doc.specs.Held.{Holds, IfHeld, EachHeld, Keeps};
-ghost use Rattle.edit_doc.specs.Whole.{IsOpen};
-ghost use Rattle.wrap_split.specs.Wrap.{one_of};
+ghost use Rattle.list_indent.specs.EditDoc.Held.{Holds, IfHeld, EachHeld, Keeps};
+ghost use Rattle.list_indent.specs.EditDoc.Whole.{IsOpen};
+ghost use Rattle.list_indent.specs.WrapSplit.Wrap.{one_of};
 ghost use Rattle.list_toggle.specs.Collecting as collect;
 
-use block_extend::{Link, count_series, is_next};
-use edit_doc::{Doc, EditFault, Name, NodeList, NodeRef};
-use inline_value::bare;
+use list_indent::doc::{Doc, EditFault, Name, NodeList, NodeRef};
+use list_indent::extend::{Link, count_series, is_next};
+use list_indent::inline::bare;
+use list_indent::questions::{has_name, is_block, is_break};
+use list_indent::wrap::{CopyMade, NoSibling, WrapRule, turn_bound, wrap};
 use list_indent::{is_item, is_list};
-use node_tests::{has_name, is_block, is_break};
 use std::alloc::{AllocError, Global};
-use wrap_split::{CopyMade, NoSibling, WrapRule, turn_bound, wrap};
 
 // Whether a node is a p or div.
 #[tactic(auto, unfolding(crate::specs::Collecting::is_container))]
@@ -44,7 +44,7 @@ impl Link<Doc> for SameLine {
 
 // Step 6 a, with the first member: the item that it becomes or goes into, and how many members that
 // takes.
-#[tactic(auto, using(edit_model::proofs::Steps::steps, edit_model::proofs::Steps::exits, crate::proofs::Exits::exit_made, crate::proofs::Turns::container_is_element, edit_query::proofs::Lists::labels_of_front, edit_query::proofs::Lists::labels_of_rest), unfolding(crate::specs::Collecting::wrap_line, crate::specs::Collecting::make_item))]
+#[tactic(auto, using(edit_model::proofs::Steps::steps, edit_model::proofs::Steps::exits, crate::proofs::Exits::exit_made, crate::proofs::Turns::container_is_element, crate::proofs::Below::labels_of_front, crate::proofs::Below::labels_of_rest), unfolding(crate::specs::Collecting::wrap_line, crate::specs::Collecting::make_item))]
 fn make_item(
     alloc: Global,
     doc: &mut Doc,
@@ -99,7 +99,7 @@ fn goes_on(doc: &Doc, items: &[NodeRef], list: &[NodeRef]) -> bool
 }
 
 // Appends an item, if one was made.
-#[tactic(auto, using(edit_model::proofs::Steps::labels_of_push_end, edit_model::proofs::Steps::append_none, edit_doc::proofs::Children::pushed_held))]
+#[tactic(auto, using(edit_model::proofs::Steps::labels_of_push_end, edit_model::proofs::Steps::append_none, crate::proofs::Below::pushed_held))]
 fn push_made(doc: &Doc, items: &mut Vec<NodeRef>, made: Option<NodeRef>) -> Result<(), AllocError>
     requires items_held { EachHeld doc.now items.old.items }
     requires made_held { IfHeld doc.now made }

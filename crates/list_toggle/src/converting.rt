@@ -3,18 +3,18 @@
 
 ghost use Rattle.std.specs.Prelude.{◌≡◌, IfOk, IfSome};
 ghost use Rattle.edit_model.specs.Gives.{Gives, label_of, labels_of};
-ghost use Rattle.edit_doc.specs.Held.{Holds, IfHeld, EachHeld, Keeps};
-ghost use Rattle.edit_doc.specs.Whole.{IsOpen};
+ghost use Rattle.list_indent.specs.EditDoc.Held.{Holds, IfHeld, EachHeld, Keeps};
+ghost use Rattle.list_indent.specs.EditDoc.Whole.{IsOpen};
 ghost use Rattle.list_toggle.specs.Converting as convert;
 ghost use Rattle.list_toggle.specs.Ranges.{AreThere};
 
 use crate::ranges::{RangeEnds, extended_range, keep_range, kept_range, other_lists};
-use edit_doc::{Doc, EditFault, Name, NodeList, NodeRef};
-use edit_query::{is_list_of, list_name};
-use inline_value::{record_values, restore_values};
-use node_tests::is_element;
+use list_indent::doc::{Doc, EditFault, Name, NodeList, NodeRef};
+use list_indent::inline::{record_values, restore_values};
+use list_indent::query::{is_list_of, list_name};
+use list_indent::questions::is_element;
+use list_indent::wrap::{Makes, Meets, NamedSibling, NothingMade, WrapRule, split_parent, wrap};
 use std::alloc::Global;
-use wrap_split::{Makes, Meets, NamedSibling, NothingMade, WrapRule, split_parent, wrap};
 
 // Whether a node is there, and is an editable list of the kind.
 fn is_fit(doc: &Doc, ordered: bool, node: Option<NodeRef>) -> bool
@@ -38,7 +38,7 @@ fn is_beside_fit(doc: &Doc, ordered: bool, node: NodeRef) -> bool
 
 /// Steps 3 and 6 c: siblings leave the list that they stand in for the one that the rule tells, and
 /// keep their values.
-#[tactic(auto, using(edit_model::proofs::Steps::steps, edit_model::proofs::Steps::exits), unfolding(crate::specs::Converting::move_items, inline_value::specs::Recording::record_values))]
+#[tactic(auto, using(edit_model::proofs::Steps::steps, edit_model::proofs::Steps::exits), unfolding(crate::specs::Converting::move_items, crate::specs::Below::record_values))]
 pub(crate) fn move_items<C: Meets, M: Makes>(
     alloc: Global,
     doc: &mut Doc,

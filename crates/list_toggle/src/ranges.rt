@@ -4,15 +4,15 @@
 ghost use Rattle.std.specs.Prelude.{◌≡◌, IfOk, IfSome};
 ghost use Rattle.edit_model.specs.Gives.{labels_of};
 ghost use Rattle.edit_model.specs.Run.{final};
-ghost use Rattle.edit_doc.specs.Held.{EachHeld, Keeps};
-ghost use Rattle.edit_doc.specs.Whole.{IsOpen};
+ghost use Rattle.list_indent.specs.EditDoc.Held.{EachHeld, Keeps};
+ghost use Rattle.list_indent.specs.EditDoc.Whole.{IsOpen};
 ghost use Rattle.list_toggle.specs.Ranges.{AreThere, extended_range, keep_range, kept_range, other_lists, range_members, range_lines};
 
 use block_commands::{chosen_of, contained_in};
-use block_extend::Choice;
-use edit_actions::ends_of;
-use edit_doc::{Doc, NodeList, NodeRef, Pair, Point};
-use edit_query::{extended, is_list_of, list_members};
+use list_indent::actions::ends_of;
+use list_indent::doc::{Doc, NodeList, NodeRef, Pair, Point};
+use list_indent::extend::Choice;
+use list_indent::query::{extended, is_list_of, list_members};
 use list_indent::{is_in_list, is_list};
 use std::alloc::{AllocError, Global};
 
@@ -45,7 +45,7 @@ pub(crate) fn keep_range(doc: &mut Doc, range: RangeEnds)
 }
 
 /// Step 3: the range that is kept so.
-#[tactic(auto, using(edit_actions::proofs::Placed::placed_here), unfolding(crate::specs::Ranges::kept_range))]
+#[tactic(auto, using(crate::proofs::Below::placed_here), unfolding(crate::specs::Ranges::kept_range))]
 pub(crate) fn kept_range(doc: &Doc) -> RangeEnds
     ensures range { result ≡ kept_range doc.now.state }
     ensures there { IfSome result (AreThere doc.now.state.trees) }

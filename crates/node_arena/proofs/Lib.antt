@@ -19,3 +19,4 @@ pub mod DropTreeOk
 pub mod BeforeOk
 pub mod GiveUp
 pub mod MadeOk
+pub use Rattle.dom_model.proofs as DomModel

@@ -7,3 +7,4 @@ pub mod Walk
 pub mod Made
 pub mod Reads
 pub mod EditableStates
+pub use Rattle.dom_model.specs as DomModel

@@ -27,6 +27,7 @@ mod nodes;
 mod places;
 mod reads;
 
+pub use dom_model as dom;
 use dom_model::Items;
 pub use dom_model::{Attribute, Attributes, Chars, Content, Name};
 pub use elements::{has_name, is_break, is_image};
@@ -34,6 +35,7 @@ pub use nodes::Nodes;
 use slab::Slab;
 use std::alloc::{AllocError, Global};
 use std::marker::Model;
+pub use step_count as stepping;
 use thiserror::Error;
 
 /// Names a node: its slot, and its label, which no other node of the arena has.

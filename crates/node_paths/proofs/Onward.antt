@@ -1,11 +1,11 @@
 -- The tree of an inner node with its later siblings: what its first child and its next sibling lead to.
 use Rattle.std.proofs.Common.{◌≡◌, ℕ, ◌<◌, List, [], ◌∷◌, Option, Some, refl, sym, ap, ◌∙◌, inl, inr, true, arith, eqb}
 use Rattle.std.proofs.lemmas.Bool.Decides.{eqb_tells, nat_tests}
-use Rattle.dom_model.specs.Forest.{Forest, tops, count_of, content_of, parent_of, first_of, next_of, first_in, after_in, times, IsDistinct}
-use Rattle.dom_model.specs.Forest.Forest.{Nil, Tree}
-use Rattle.dom_model.specs.Places.{onward}
-use Rattle.dom_model.proofs.Links.{seen, parent_of_child, child_of_parent}
-use Rattle.dom_model.proofs.Parts.{At, at_label}
+use Rattle.node_arena.specs.DomModel.Forest.{Forest, tops, count_of, content_of, parent_of, first_of, next_of, first_in, after_in, times, IsDistinct}
+use Rattle.node_arena.specs.DomModel.Forest.Forest.{Nil, Tree}
+use Rattle.node_arena.specs.DomModel.Places.{onward}
+use Rattle.node_arena.proofs.DomModel.Links.{seen, parent_of_child, child_of_parent}
+use Rattle.node_arena.proofs.DomModel.Parts.{At, at_label}
 use Rattle.node_paths.specs.Onward.{onward_at}
 
 first_times : (xs : List ℕ) (k : ℕ) → first_in xs ≡ Some k → 0 < times xs k

@@ -1,16 +1,16 @@
 -- What a walk over trees needs at a node: what lies below it and after it.
 use Rattle.std.proofs.Common.{◌≡◌, ℕ, ◌+◌, ◌<◌, ◌≤◌, Option, Some, None, IsSome, IfSome, refl, ap, subst, inl, inr, arith, lit<}
 use Rattle.std.proofs.lemmas.Bool.Decides.{eqb_tells}
-use Rattle.dom_model.specs.declared.Content.{Content}
-use Rattle.dom_model.specs.Forest.{Forest, total, count_of, content_of, parent_of, first_of, next_of, IsDistinct, RisesFrom}
-use Rattle.dom_model.specs.Forest.Forest.{Nil, Tree}
-use Rattle.dom_model.specs.ArenaState.{ArenaState, IsValid}
-use Rattle.dom_model.specs.Places.{kids_in}
+use Rattle.node_arena.specs.DomModel.declared.Content.{Content}
+use Rattle.node_arena.specs.DomModel.Forest.{Forest, total, count_of, content_of, parent_of, first_of, next_of, IsDistinct, RisesFrom}
+use Rattle.node_arena.specs.DomModel.Forest.Forest.{Nil, Tree}
+use Rattle.node_arena.specs.DomModel.ArenaState.{ArenaState, IsValid}
+use Rattle.node_arena.specs.DomModel.Places.{kids_in}
 use Rattle.node_arena.specs.declared.NodeRef.{NodeRef}
 use Rattle.node_arena.specs.Held.{Holds, NamesHeld, label}
 use Rattle.node_paths.specs.Onward.{onward_at, IsInner}
-use Rattle.dom_model.proofs.Stands.{parent_stands}
-use Rattle.dom_model.proofs.Links.{seen}
+use Rattle.node_arena.proofs.DomModel.Stands.{parent_stands}
+use Rattle.node_arena.proofs.DomModel.Links.{seen}
 use Rattle.node_arena.proofs.Rebuild.{times-rising}
 use Rattle.node_paths.proofs.Onward.{onward_step, first_inner, next_inner, first_leads}
 

@@ -3,14 +3,14 @@ use Rattle.std.proofs.Common.{◌≡◌, ℕ, suc, ◌+◌, ◌-◌, ◌<◌, Li
 use Rattle.std.specs.List.{join_with_byte}
 use Rattle.std.specs.Fmt.{decimal}
 use Rattle.std.specs.Option.{option_and_then}
-use Rattle.dom_model.specs.declared.Content.{Content}
-use Rattle.dom_model.specs.Forest.{Forest, parent_of, first_of, next_of, IsDistinct, IsWithin}
-use Rattle.dom_model.specs.Forest.Forest.{Tree}
-use Rattle.dom_model.specs.Places.{index_of}
-use Rattle.dom_model.specs.ArenaState.{ArenaState, IsValid}
-use Rattle.dom_model.proofs.Parts.{at_label}
-use Rattle.dom_model.proofs.Walks.{document_first}
-use Rattle.dom_model.proofs.Within.{within_step}
+use Rattle.node_arena.specs.DomModel.declared.Content.{Content}
+use Rattle.node_arena.specs.DomModel.Forest.{Forest, parent_of, first_of, next_of, IsDistinct, IsWithin}
+use Rattle.node_arena.specs.DomModel.Forest.Forest.{Tree}
+use Rattle.node_arena.specs.DomModel.Places.{index_of}
+use Rattle.node_arena.specs.DomModel.ArenaState.{ArenaState, IsValid}
+use Rattle.node_arena.proofs.DomModel.Parts.{at_label}
+use Rattle.node_arena.proofs.DomModel.Walks.{document_first}
+use Rattle.node_arena.proofs.DomModel.Within.{within_step}
 use Rattle.node_arena.specs.declared.NodeRef.{NodeRef}
 use Rattle.node_arena.specs.Held.{Holds, label}
 use Rattle.node_paths.specs.Onward.{onward_at, IsInner, node_below}

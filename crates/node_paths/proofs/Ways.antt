@@ -2,12 +2,12 @@
 use Rattle.std.proofs.Common.{◌≡◌, ℕ, zero, suc, ◌+◌, ◌-◌, ◌<◌, ◌≤◌, true, false, List, [], ◌∷◌, ◌++◌, Option, Some, None, refl, sym, ap, inl, inr, arith, eqb}
 use Rattle.std.proofs.lemmas.Bool.Decides.{eqb_tells, nat_tests}
 use Rattle.std.specs.Option.{option_map}
-use Rattle.dom_model.specs.Forest.{Forest, Seen, tops, times, count_of, parent_of, first_of, IsDistinct, IsWithin}
-use Rattle.dom_model.specs.Forest.Forest.{Nil, Tree}
-use Rattle.dom_model.specs.Places.{place_in, index_of}
-use Rattle.dom_model.proofs.Stands.{Stands, times-tops, times-children, count_of-Stands}
-use Rattle.dom_model.proofs.Links.{child_of_parent}
-use Rattle.dom_model.proofs.Within.{within_root}
+use Rattle.node_arena.specs.DomModel.Forest.{Forest, Seen, tops, times, count_of, parent_of, first_of, IsDistinct, IsWithin}
+use Rattle.node_arena.specs.DomModel.Forest.Forest.{Nil, Tree}
+use Rattle.node_arena.specs.DomModel.Places.{place_in, index_of}
+use Rattle.node_arena.proofs.DomModel.Stands.{Stands, times-tops, times-children, count_of-Stands}
+use Rattle.node_arena.proofs.DomModel.Links.{child_of_parent}
+use Rattle.node_arena.proofs.DomModel.Within.{within_root}
 use Rattle.node_paths.specs.Onward.{onward_at, node_below}
 use Rattle.node_paths.specs.Paths.{node_in, path_in, path_of, stepped}
 

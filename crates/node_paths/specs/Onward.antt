@@ -1,8 +1,8 @@
 -- The trees from a node on.
 use Rattle.std.specs.Prelude.{ℕ, List, [], ◌∷◌, Option, Some, None, IsSome}
-use Rattle.dom_model.specs.Forest.{Forest, parent_of, first_of}
-use Rattle.dom_model.specs.Forest.Forest.{Nil}
-use Rattle.dom_model.specs.Places.{onward}
+use Rattle.node_arena.specs.DomModel.Forest.{Forest, parent_of, first_of}
+use Rattle.node_arena.specs.DomModel.Forest.Forest.{Nil}
+use Rattle.node_arena.specs.DomModel.Places.{onward}
 use Rattle.node_paths.specs.Paths.{node_in}
 
 -- the tree of a node with those of its later siblings, where there is one

@@ -3,9 +3,9 @@ use Rattle.std.specs.Prelude.{ℕ, zero, suc, List, [], ◌∷◌, Option, Some,
 use Rattle.std.specs.List.{join_with_byte}
 use Rattle.std.specs.Option.{option_map}
 use Rattle.std.specs.Fmt.{decimal}
-use Rattle.dom_model.specs.Forest.{Forest, either}
-use Rattle.dom_model.specs.Forest.Forest.{Nil, Tree}
-use Rattle.dom_model.specs.Places.{kids_in}
+use Rattle.node_arena.specs.DomModel.Forest.{Forest, either}
+use Rattle.node_arena.specs.DomModel.Forest.Forest.{Nil, Tree}
+use Rattle.node_arena.specs.DomModel.Places.{kids_in}
 
 -- the path with its first index one higher: the same way from one sibling earlier
 abbrev pub stepped : List ℕ → List ℕ

@@ -5,11 +5,13 @@
 ghost use Rattle.std.specs.Prelude.{◌≡◌, ℕ, ◌∷◌, ◌++◌, ◌<◌, List, OnOk, IfSome, Some};
 ghost use Rattle.std.specs.Fmt.{decimal};
 ghost use Rattle.std.specs.Option.{option_and_then};
-ghost use Rattle.dom_model.specs.Forest.{parent_of, IsWithin};
+ghost use Rattle.node_arena.specs.DomModel.Forest.{parent_of, IsWithin};
 ghost use Rattle.node_arena.specs.Held.{Holds, NamesHeld, label};
 ghost use Rattle.node_paths.specs.Onward.{node_below};
 ghost use Rattle.node_paths.specs.Paths.{label_at, node_text, indexes_at};
 
+pub use node_arena as arena;
+pub use node_arena::dom;
 use node_arena::{Arena, NodeRef};
 use std::alloc::{AllocError, Global};
 

@@ -2,8 +2,8 @@
 use Rattle.std.proofs.Common.{◌≡◌, ℕ, Bool, true, false, cond, List, [], ◌∷◌, Option, Some, None, refl, codes}
 use Rattle.std.specs.List.{find}
 use Rattle.std.specs.Option.{option_map, option_and_then, is_some}
-use Rattle.dom_model.specs.declared.Content.{Content}
-use Rattle.dom_model.specs.Contents.{name_in}
+use Rattle.node_arena.specs.DomModel.declared.Content.{Content}
+use Rattle.node_arena.specs.DomModel.Contents.{name_in}
 use Rattle.css_value.specs.declared.values.FontStyle.TheVariants as font_style
 use Rattle.css_value.specs.declared.values.TextAlign.TheVariants as text_align
 use Rattle.css_value.specs.Colours.{opaque_colour, colour_of, named_colour, hex_colour, rgb_colour, channel}

@@ -1,8 +1,8 @@
 -- What follows from the nearest node that was found, or not found.
 use Rattle.std.proofs.Common.{◌≡◌, ℕ, Bool, Option, Some, None, IfSome, IfNone, sym, ap, ◌∙◌}
 use Rattle.std.specs.Option.{option_and_then, option_map, unwrap_or, is_some}
-use Rattle.dom_model.specs.declared.Content.{Content}
-use Rattle.dom_model.specs.Forest.{Forest, content_of}
+use Rattle.node_arena.specs.DomModel.declared.Content.{Content}
+use Rattle.node_arena.specs.DomModel.Forest.{Forest, content_of}
 use Rattle.node_arena.specs.Reads.{Names}
 use Rattle.node_arena.specs.declared.NodeRef.{NodeRef}
 use Rattle.node_styles.specs.Lineage.{Ancestor, nearest, nearest_label, has_in_lineage}

@@ -3,11 +3,11 @@ use Rattle.std.proofs.Common.{◌≡◌, ◌⊎◌, ℕ, ◌<◌, ◌≤◌, Boo
 use Rattle.std.proofs.lemmas.Bool.Decides.{eqb_tells}
 use Rattle.std.specs.List.{find, list_any}
 use Rattle.std.specs.Option.{option_map, option_and_then, option_or, unwrap_or, is_some}
-use Rattle.dom_model.specs.declared.Content.{Content}
-use Rattle.dom_model.specs.Forest.{Forest, Seen, tops, count_of, IsDistinct, parent_of, content_of}
-use Rattle.dom_model.specs.Forest.Forest.{Nil, Tree}
-use Rattle.dom_model.proofs.Stands.{Stands, count_of-Stands}
-use Rattle.dom_model.proofs.Links.{seen, parent_count}
+use Rattle.node_arena.specs.DomModel.declared.Content.{Content}
+use Rattle.node_arena.specs.DomModel.Forest.{Forest, Seen, tops, count_of, IsDistinct, parent_of, content_of}
+use Rattle.node_arena.specs.DomModel.Forest.Forest.{Nil, Tree}
+use Rattle.node_arena.proofs.DomModel.Stands.{Stands, count_of-Stands}
+use Rattle.node_arena.proofs.DomModel.Links.{seen, parent_count}
 use Rattle.node_styles.specs.Lineage.{Ancestor, lineage_from, lineage, nearest, has_in_lineage}
 
 abbrev pub ancestor : ℕ → Content → Ancestor

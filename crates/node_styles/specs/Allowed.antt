@@ -2,13 +2,13 @@
 use Rattle.std.specs.Prelude.{ℕ, Bool, true, false, not, ◌&&◌, ◌||◌, List, [], ◌∷◌, bytes_eq, codes}
 use Rattle.std.specs.List.{list_all}
 use Rattle.std.specs.Option.{option_map_or}
-use Rattle.dom_model.specs.declared.Content.{Content}
-use Rattle.dom_model.specs.declared.Content.TheVariants.{Document, Element, Words, Remark}
-use Rattle.dom_model.specs.Contents.{name_in, name_of}
-use Rattle.dom_model.specs.Forest.{Forest, content_of}
+use Rattle.node_arena.specs.DomModel.declared.Content.{Content}
+use Rattle.node_arena.specs.DomModel.declared.Content.TheVariants.{Document, Element, Words, Remark}
+use Rattle.node_arena.specs.DomModel.Contents.{name_in, name_of}
+use Rattle.node_arena.specs.DomModel.Forest.{Forest, content_of}
 use Rattle.css_value.specs.StyleText.{is_space}
-use Rattle.html_names.specs.AllowedChildren.{allowed_child}
-use Rattle.html_names.specs.ElementNames.{is_one_of, is_prohibited_child, has_inline_contents, is_heading}
+use Rattle.css_value.specs.HtmlNames.AllowedChildren.{allowed_child}
+use Rattle.css_value.specs.HtmlNames.ElementNames.{is_one_of, is_prohibited_child, has_inline_contents, is_heading}
 use Rattle.node_styles.specs.Lineage.{has_in_lineage}
 use Rattle.node_styles.specs.OwnStyles.{is_named}
 

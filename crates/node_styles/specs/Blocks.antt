@@ -3,9 +3,9 @@
 use Rattle.std.specs.Prelude.{ℕ, ◌==◌, Bool, true, false, ◌||◌, List, Option, Some, None}
 use Rattle.std.specs.List.{list_all}
 use Rattle.std.specs.Option.{option_map_or, unwrap_or}
-use Rattle.dom_model.specs.declared.Content.{Content}
-use Rattle.dom_model.specs.declared.Content.TheVariants.{Document, Element, Words, Remark}
-use Rattle.dom_model.specs.Forest.{Forest, parent_of, content_of}
+use Rattle.node_arena.specs.DomModel.declared.Content.{Content}
+use Rattle.node_arena.specs.DomModel.declared.Content.TheVariants.{Document, Element, Words, Remark}
+use Rattle.node_arena.specs.DomModel.Forest.{Forest, parent_of, content_of}
 use Rattle.css_value.specs.StyleText.{is_empty}
 use Rattle.css_value.specs.declared.values.Display.{Display}
 use Rattle.css_value.specs.declared.values.Display.TheVariants as display

@@ -2,9 +2,9 @@
 use Rattle.std.specs.Prelude.{ℕ, Bool, List, [], ◌∷◌, Option, Some, None, if◌then◌else◌, ◌==◌}
 use Rattle.std.specs.List.{find, list_any}
 use Rattle.std.specs.Option.{option_map, unwrap_or, option_or, option_and_then}
-use Rattle.dom_model.specs.declared.Content.{Content}
-use Rattle.dom_model.specs.Forest.{Forest, parent_of}
-use Rattle.dom_model.specs.Forest.Forest.{Nil, Tree}
+use Rattle.node_arena.specs.DomModel.declared.Content.{Content}
+use Rattle.node_arena.specs.DomModel.Forest.{Forest, parent_of}
+use Rattle.node_arena.specs.DomModel.Forest.Forest.{Nil, Tree}
 
 -- a node, by its label and its content
 pub record Ancestor : Type 0 where

@@ -3,16 +3,16 @@
 use Rattle.std.specs.Prelude.{ℕ, Bool, false, ◌&&◌, ◌||◌, List, is_some, bytes_eq, codes}
 use Rattle.std.specs.List.{list_any, list_all}
 use Rattle.std.specs.Option.{option_map_or}
-use Rattle.dom_model.specs.declared.Content.{Content}
-use Rattle.dom_model.specs.declared.attributes.Attribute.{Attribute}
-use Rattle.dom_model.specs.Contents.{name_in, attributes_in}
-use Rattle.dom_model.specs.Editing.{is_editable}
-use Rattle.dom_model.specs.Forest.{Forest, content_of}
+use Rattle.node_arena.specs.DomModel.declared.Content.{Content}
+use Rattle.node_arena.specs.DomModel.declared.attributes.Attribute.{Attribute}
+use Rattle.node_arena.specs.DomModel.Contents.{name_in, attributes_in}
+use Rattle.node_arena.specs.DomModel.Editing.{is_editable}
+use Rattle.node_arena.specs.DomModel.Forest.{Forest, content_of}
 use Rattle.css_value.specs.declared.only.Only.TheVariants.{BoxNames}
 use Rattle.css_value.specs.DeclarationList.{declarations_in, names_of}
 use Rattle.css_value.specs.OnlyGroup.{sets_only}
-use Rattle.html_names.specs.BoxNames.{margin_names}
-use Rattle.html_names.specs.ElementNames as names
+use Rattle.css_value.specs.HtmlNames.BoxNames.{margin_names}
+use Rattle.css_value.specs.HtmlNames.ElementNames as names
 use Rattle.node_styles.specs.OwnStyles.{is_named, declared}
 
 -- an element whose name passes

@@ -3,9 +3,9 @@
 use Rattle.std.specs.Prelude.{ℕ, Bool, false, if◌then◌else◌, List, [], ◌∷◌, Option, Some, None, is_some, map, bytes_eq, codes}
 use Rattle.std.specs.Char.{to_ascii_lowercase}
 use Rattle.std.specs.Option.{option_map, option_map_or, option_and_then, option_or}
-use Rattle.dom_model.specs.declared.Content.{Content}
-use Rattle.dom_model.specs.AttributeList as attributes
-use Rattle.dom_model.specs.Contents.{name_in, attributes_in}
+use Rattle.node_arena.specs.DomModel.declared.Content.{Content}
+use Rattle.node_arena.specs.DomModel.AttributeList as attributes
+use Rattle.node_arena.specs.DomModel.Contents.{name_in, attributes_in}
 use Rattle.css_value.specs.declared.colours.Colour.{Colour}
 use Rattle.css_value.specs.declared.values.Display.{Display}
 use Rattle.css_value.specs.declared.values.WhiteSpace.{WhiteSpace}
@@ -18,7 +18,7 @@ use Rattle.css_value.specs.declared.decoration.TextDecoration.{TextDecoration}
 use Rattle.css_value.specs.Colours.{colour_of}
 use Rattle.css_value.specs.TextDecoration.{text_decoration_of}
 use Rattle.css_value.specs.Values.{display_of, white_space_of, font_style_of, font_weight_of, font_size_of, text_align_of}
-use Rattle.html_names.specs.ElementNames.{is_one_of}
+use Rattle.css_value.specs.HtmlNames.ElementNames.{is_one_of}
 use Rattle.style_table.specs.declared.Property.{Property}
 use Rattle.style_table.specs.declared.Property.TheVariants as property
 use Rattle.style_table.specs.DefaultStyles.{default_of}

@@ -2,8 +2,8 @@
 -- that of the nearest ancestor that has one, else the initial value.
 use Rattle.std.specs.Prelude.{ℕ, List, Option, is_some, codes, decimal}
 use Rattle.std.specs.Option.{option_and_then, unwrap_or}
-use Rattle.dom_model.specs.declared.Content.{Content}
-use Rattle.dom_model.specs.Forest.{Forest, content_of}
+use Rattle.node_arena.specs.DomModel.declared.Content.{Content}
+use Rattle.node_arena.specs.DomModel.Forest.{Forest, content_of}
 use Rattle.css_value.specs.declared.colours.Colour.{Colour}
 use Rattle.css_value.specs.declared.decoration.TextDecoration.{TextDecoration}
 use Rattle.css_value.specs.Colours.{opaque_colour, transparent, colour_text}

@@ -1,8 +1,8 @@
 -- What a walk from a node to the Document looks for. No public clause cites this module.
 use Rattle.std.specs.Prelude.{◌≡◌, ℕ, Bool, Some, is_some, codes}
-use Rattle.dom_model.specs.declared.Content.{Content}
-use Rattle.dom_model.specs.Forest.{Forest, content_of}
-use Rattle.html_names.specs.ElementNames.{has_inline_contents, is_heading}
+use Rattle.node_arena.specs.DomModel.declared.Content.{Content}
+use Rattle.node_arena.specs.DomModel.Forest.{Forest, content_of}
+use Rattle.css_value.specs.HtmlNames.ElementNames.{has_inline_contents, is_heading}
 use Rattle.style_table.specs.declared.Property.{Property}
 use Rattle.style_table.specs.declared.Property.TheVariants as property
 use Rattle.node_styles.specs.declared.lineage.Trait.{Trait}

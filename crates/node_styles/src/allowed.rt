@@ -4,13 +4,13 @@ ghost use Rattle.std.specs.Prelude.{◌≡◌, ◌&&◌, Bool, bytes_eq};
 ghost use Rattle.std.specs.List.{list_any};
 ghost use Rattle.std.specs.Option.{option_map_or};
 ghost use Rattle.css_value.specs.StyleText.{is_space};
-ghost use Rattle.dom_model.specs.Contents.{name_of};
+ghost use Rattle.node_arena.specs.DomModel.Contents.{name_of};
 ghost use Rattle.node_styles.specs.Allowed as allowed;
 ghost use Rattle.node_styles.specs.Lineage as line;
 ghost use Rattle.node_styles.specs.Traits.{has_trait};
 
 use crate::lineage::{Trait, has_in_lineage};
-use html_names::{allowed_child, is_heading, is_prohibited_child};
+use css_value::element_names::{allowed_child, is_heading, is_prohibited_child};
 use node_arena::{Content, NodeRef, Nodes};
 
 static TEXTLESS_NAMES: [&[u8]; 6] = [b"colgroup", b"table", b"tbody", b"tfoot", b"thead", b"tr"];

@@ -3,8 +3,8 @@
 ghost use Rattle.std.specs.Prelude.{◌≡◌, ◌≤◌, Bool, bytes_eq, map, min};
 ghost use Rattle.std.specs.Option.{option_map, option_map_or, option_copied};
 ghost use Rattle.std.specs.Char.{to_ascii_lowercase};
-ghost use Rattle.dom_model.specs.Contents.{name_in};
-ghost use Rattle.html_names.specs.ElementNames as names;
+ghost use Rattle.node_arena.specs.DomModel.Contents.{name_in};
+ghost use Rattle.css_value.specs.HtmlNames.ElementNames as names;
 ghost use Rattle.node_styles.specs.LegacySizes as sizes;
 ghost use Rattle.node_styles.specs.OwnStyles as own;
 

@@ -19,6 +19,8 @@ pub use allowed::{allowed_in, allowed_in_name, are_spaces, name_allowed_in};
 pub use blocks::{
     has_no_box, is_block, is_block_content, is_hidden, is_whitespace, nearest_block, own_or_inline,
 };
+pub use css_value as css;
+pub use css_value::element_names;
 pub use hints::{family_hint, font_attribute, pixels_of, read_legacy_size};
 pub use lineage::{
     Test, has_in_lineage, is_editable, is_element, is_host, is_named, nearest, turn_bound,
@@ -27,9 +29,12 @@ pub use names::{
     is_format_candidate, is_formattable_block, is_indentation, is_non_list_single_line,
     is_simple_indentation, is_single_line,
 };
+pub use node_arena as arena;
+pub use node_arena::dom;
 pub use own::{
     Family, attribute, declared, is_element_named, own_background_color, own_text_decoration,
 };
+pub use style_table as properties;
 pub use values::{
     background_color, color, display, font_family, font_size, font_style, font_weight, resolved,
     text_align, text_decoration, white_space,

@@ -1,12 +1,12 @@
 //! Walks from a node up through its ancestors, and the editing hosts on them.
 
 ghost use Rattle.std.specs.Prelude.{◌≡◌, Bool, Some, None, IfSome, IfNone};
-ghost use Rattle.dom_model.specs.Contents.{is_element_at};
-ghost use Rattle.dom_model.specs.Editing as editing;
-ghost use Rattle.dom_model.specs.Forest.{content_of};
+ghost use Rattle.node_arena.specs.DomModel.Contents.{is_element_at};
+ghost use Rattle.node_arena.specs.DomModel.Editing as editing;
+ghost use Rattle.node_arena.specs.DomModel.Forest.{content_of};
 ghost use Rattle.std.specs.Option.{option_map_or};
 ghost use Rattle.node_styles.specs.Lineage as line;
-ghost use Rattle.html_names.specs.ElementNames as names;
+ghost use Rattle.css_value.specs.HtmlNames.ElementNames as names;
 ghost use Rattle.node_styles.specs.Allowed.{has_name};
 ghost use Rattle.node_styles.specs.OwnStyles as own;
 ghost use Rattle.node_styles.specs.Traits.{has_trait, IsNearest};
@@ -14,7 +14,7 @@ ghost use Rattle.node_styles.specs.TurnBound as bound;
 
 use crate::blocks::{has_no_box, is_block_content};
 use crate::own::{has_own, is_element_named};
-use html_names::{has_inline_contents, is_heading};
+use css_value::element_names::{has_inline_contents, is_heading};
 use node_arena::{Content, Kind, NodeRef, Nodes};
 use style_table::Property;
 
@@ -29,7 +29,7 @@ pub fn turn_bound<N: Nodes>(nodes: &N) -> u128
 /// A test of the content of nodes.
 pub trait Test {
     ghost use Rattle.std.specs.Prelude.{Bool};
-    ghost use Rattle.dom_model.specs.declared.Content.{Content};
+    ghost use Rattle.node_arena.specs.DomModel.declared.Content.{Content};
 
     // which contents pass
     ghost test: { Self → Content → Bool };

@@ -3,15 +3,15 @@
 ghost use Rattle.std.specs.Prelude.{◌≡◌, Bool};
 ghost use Rattle.std.specs.List.{list_all};
 ghost use Rattle.std.specs.Option.{option_map_or};
-ghost use Rattle.dom_model.specs.Contents.{attributes_in};
+ghost use Rattle.node_arena.specs.DomModel.Contents.{attributes_in};
 ghost use Rattle.node_styles.specs.NameClasses as classes;
 
 use crate::own::{declared, is_element_named};
-use css_value::{Only, sets_only};
-use html_names::{
+use css_value::element_names::{
     is_formattable_block as is_formattable_block_name, is_non_list_single_line_container,
     is_remove_format_candidate, is_single_line_container,
 };
+use css_value::{Only, sets_only};
 use node_arena::{Attributes, Content, NodeRef, Nodes};
 
 /// Whether a node is a non-list single-line container.
@@ -51,7 +51,7 @@ pub fn is_formattable_block<N: Nodes>(nodes: &N, node: NodeRef) -> bool
 }
 
 // Whether the style sets a margin.
-#[tactic(auto, unfolding(crate::specs::NameClasses::sets_margin, html_names::specs::BoxNames::margin_names))]
+#[tactic(auto, unfolding(crate::specs::NameClasses::sets_margin, crate::specs::Below::margin_names))]
 fn sets_margin(content: &Content) -> bool
     ensures { result ≡ classes.sets_margin content.now }
 {

@@ -2,14 +2,14 @@
 use Rattle.std.proofs.Common.{◌≡◌, ◌≢◌, ℕ, zero, suc, ◌+◌, ◌<◌, ◌≤◌, Bool, true, false, not, ◌&&◌, Option, Some, None, refl, sym, ap, subst, ◌∙◌, inl, inr, arith, nat_lt, [], is_none}
 use Rattle.std.proofs.lemmas.Bool.{le-ltb}
 use Rattle.std.proofs.lemmas.Bool.Decides.{eqb_tells}
-use Rattle.dom_model.specs.declared.Content.{Content}
-use Rattle.dom_model.specs.Contents.{length_of}
-use Rattle.dom_model.specs.Forest.{Forest, IsDistinct, IsWithin, count_of, parent_of, children_of, depth_of, tree_of}
-use Rattle.dom_model.proofs.Links.{parent_count, eqb_refl_true}
-use Rattle.dom_model.proofs.Within.{within_parent, depth_of-parent}
-use Rattle.live_range.specs.declared.places.Point.{Point}
-use Rattle.node_arena.specs.declared.NodeRef.{NodeRef}
-use Rattle.node_arena.specs.Reads.{IsValid}
+use Rattle.node_styles.specs.DomModel.declared.Content.{Content}
+use Rattle.node_styles.specs.DomModel.Contents.{length_of}
+use Rattle.node_styles.specs.DomModel.Forest.{Forest, IsDistinct, IsWithin, count_of, parent_of, children_of, depth_of, tree_of}
+use Rattle.node_styles.proofs.DomModel.Links.{parent_count, eqb_refl_true}
+use Rattle.node_styles.proofs.DomModel.Within.{within_parent, depth_of-parent}
+use Rattle.point_order.specs.LiveRange.declared.places.Point.{Point}
+use Rattle.node_styles.specs.NodeArena.declared.NodeRef.{NodeRef}
+use Rattle.node_styles.specs.NodeArena.Reads.{IsValid}
 use Rattle.point_order.specs.PointOrder.{is_before}
 use Rattle.node_tests.specs.BlockPoints.{child_at}
 use Rattle.node_tests.specs.declared.listing.Wanted.{Wanted}

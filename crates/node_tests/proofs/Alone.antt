@@ -3,10 +3,10 @@ use Rattle.std.proofs.Common.{◌≡◌, ℕ, ◌<◌, Bool, false, ◌&&◌, Li
 use Rattle.std.specs.Prelude.{codes}
 use Rattle.std.specs.Option.{option_map_or}
 use Rattle.std.proofs.lemmas.Bool.Decides.{eqb_tells}
-use Rattle.dom_model.specs.declared.Content.{Content}
-use Rattle.dom_model.specs.Forest.{Forest, IsDistinct, times, parent_of, children_of, prev_of, next_of, before_in, before_from, after_in}
-use Rattle.dom_model.proofs.Lists.{before_from_some}
-use Rattle.dom_model.specs.Contents.{has_name}
+use Rattle.node_styles.specs.DomModel.declared.Content.{Content}
+use Rattle.node_styles.specs.DomModel.Forest.{Forest, IsDistinct, times, parent_of, children_of, prev_of, next_of, before_in, before_from, after_in}
+use Rattle.node_styles.proofs.DomModel.Lists.{before_from_some}
+use Rattle.node_styles.specs.DomModel.Contents.{has_name}
 use Rattle.node_tests.specs.SolidNeighbours.{is_sole, is_sole_in_item}
 use Rattle.node_tests.proofs.Around.{family, next_in, prev_in}
 

@@ -2,15 +2,15 @@
 use Rattle.std.proofs.Common.{◌≡◌, ◌≢◌, ℕ, zero, suc, ◌⊎◌, ◌<◌, ◌≤◌, Bool, true, false, cond, List, [], ◌∷◌, ◌++◌, Option, Some, None, refl, sym, ap, subst, ◌∙◌, inl, inr, arith, eqb, is_none}
 use Rattle.std.specs.Option.{option_map, option_map_or, option_and_then}
 use Rattle.std.proofs.lemmas.Bool.Decides.{eqb_tells}
-use Rattle.dom_model.specs.declared.Content.{Content}
-use Rattle.dom_model.specs.Forest.{Forest, Seen, join, tops, count_of, IsDistinct, IsWithin, times, tree_of, preorder, parent_of, children_of, content_of, next_of, prev_of, first_in, after_in, before_in, before_from, depth_of}
-use Rattle.dom_model.specs.Forest.Forest.{Nil, Tree}
-use Rattle.dom_model.specs.Places.{kids_in}
-use Rattle.dom_model.proofs.Lists.{after_in-middle, times-append, before_from_some}
-use Rattle.dom_model.proofs.Stands.{Stands, seek_Stands, Stands-tree_of, times-tops}
-use Rattle.dom_model.proofs.Links.{join-Nil, seen, tree_is, parent_count, child_of_parent, times-children_of, eqb_refl_true}
-use Rattle.dom_model.proofs.Within.{within_self, within_child, depth_of-parent}
-use Rattle.dom_model.proofs.Move.{parent_apart}
+use Rattle.node_styles.specs.DomModel.declared.Content.{Content}
+use Rattle.node_styles.specs.DomModel.Forest.{Forest, Seen, join, tops, count_of, IsDistinct, IsWithin, times, tree_of, preorder, parent_of, children_of, content_of, next_of, prev_of, first_in, after_in, before_in, before_from, depth_of}
+use Rattle.node_styles.specs.DomModel.Forest.Forest.{Nil, Tree}
+use Rattle.node_styles.specs.DomModel.Places.{kids_in}
+use Rattle.node_styles.proofs.DomModel.Lists.{after_in-middle, times-append, before_from_some}
+use Rattle.node_styles.proofs.DomModel.Stands.{Stands, seek_Stands, Stands-tree_of, times-tops}
+use Rattle.node_styles.proofs.DomModel.Links.{join-Nil, seen, tree_is, parent_count, child_of_parent, times-children_of, eqb_refl_true}
+use Rattle.node_styles.proofs.DomModel.Within.{within_self, within_child, depth_of-parent}
+use Rattle.node_styles.proofs.DomModel.Move.{parent_apart}
 use Rattle.node_styles.specs.Lineage.{lineage, nearest_label}
 use Rattle.node_styles.specs.Blocks.{is_block, is_block_content, nearest_block}
 use Rattle.node_styles.proofs.Lineages.{lineage-root, lineage-child, nearest-here, nearest-root, nearest-parent}

@@ -2,15 +2,15 @@
 use Rattle.std.proofs.Common.{◌≡◌, ℕ, zero, suc, ◌+◌, ◌<◌, ◌≤◌, ◌⊎◌, inl, inr, Bool, true, false, ◌&&◌, List, [], ◌∷◌, Option, Some, None, refl, sym, ap, ◌∙◌, subst, arith}
 use Rattle.std.proofs.lemmas.Bool.{cases_lt}
 use Rattle.std.proofs.lemmas.Bool.Decides.{eqb_tells}
-use Rattle.dom_model.specs.declared.Content.{Content}
-use Rattle.dom_model.specs.Forest.{Forest, IsWithin, count_of, parent_of, children_of, depth_of, first_in, first_of, last_in, last_of, last_or, next_of, tree_of}
-use Rattle.dom_model.specs.Places.{index_of, onward}
-use Rattle.dom_model.proofs.Links.{parent_count}
-use Rattle.dom_model.proofs.Neighbours.{parent_of-first, parent_of-last, parent_of-next}
-use Rattle.dom_model.proofs.Within.{within_parent, depth_of-parent}
-use Rattle.live_range.specs.declared.places.Point.{Point}
-use Rattle.node_arena.specs.declared.NodeRef.{NodeRef}
-use Rattle.node_arena.specs.Reads.{IsValid}
+use Rattle.node_styles.specs.DomModel.declared.Content.{Content}
+use Rattle.node_styles.specs.DomModel.Forest.{Forest, IsWithin, count_of, parent_of, children_of, depth_of, first_in, first_of, last_in, last_of, last_or, next_of, tree_of}
+use Rattle.node_styles.specs.DomModel.Places.{index_of, onward}
+use Rattle.node_styles.proofs.DomModel.Links.{parent_count}
+use Rattle.node_styles.proofs.DomModel.Neighbours.{parent_of-first, parent_of-last, parent_of-next}
+use Rattle.node_styles.proofs.DomModel.Within.{within_parent, depth_of-parent}
+use Rattle.point_order.specs.LiveRange.declared.places.Point.{Point}
+use Rattle.node_styles.specs.NodeArena.declared.NodeRef.{NodeRef}
+use Rattle.node_styles.specs.NodeArena.Reads.{IsValid}
 use Rattle.point_order.specs.PointOrder.{is_before}
 use Rattle.node_tests.specs.Listing.{siblings, LiesAfter, LiesBefore}
 use Rattle.node_tests.specs.Ranges.{all_effective}

@@ -1,11 +1,11 @@
 -- The child at an offset, by steps from the first child.
 use Rattle.std.proofs.Common.{◌≡◌, ℕ, ◌+◌, ◌<◌, List, ◌∷◌, Option, Some, None, refl, sym, ap, ◌∙◌, add-one}
 use Rattle.std.specs.Prelude.{slice_get}
-use Rattle.dom_model.specs.declared.Content.{Content}
-use Rattle.dom_model.specs.Forest.{Forest, join, tops, count_of, IsDistinct, parent_of, children_of, first_of, next_of}
-use Rattle.dom_model.specs.Forest.Forest.{Nil, Tree}
-use Rattle.dom_model.specs.Places.{onward}
-use Rattle.dom_model.proofs.Links.{parent_count}
+use Rattle.node_styles.specs.DomModel.declared.Content.{Content}
+use Rattle.node_styles.specs.DomModel.Forest.{Forest, join, tops, count_of, IsDistinct, parent_of, children_of, first_of, next_of}
+use Rattle.node_styles.specs.DomModel.Forest.Forest.{Nil, Tree}
+use Rattle.node_styles.specs.DomModel.Places.{onward}
+use Rattle.node_styles.proofs.DomModel.Links.{parent_count}
 use Rattle.node_tests.specs.Listing.{siblings}
 use Rattle.node_tests.proofs.Inside.{tree_is_kids, onward_is_tree}
 use Rattle.node_tests.proofs.Around.{content_at, own_tree}

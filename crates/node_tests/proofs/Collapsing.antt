@@ -2,16 +2,16 @@
 use Rattle.std.proofs.Common.{◌≡◌, ℕ, ◌<◌, Bool, true, false, not, cond, ◌||◌, List, [], ◌∷◌, Option, Some, None, IfSome, refl, sym, ap, ◌∙◌, inl, inr, arith}
 use Rattle.std.specs.Option.{option_or, option_map, option_map_or, unwrap_or}
 use Rattle.std.proofs.lemmas.Bool.Decides.{eqb_tells}
-use Rattle.dom_model.specs.declared.Content.{Content}
-use Rattle.dom_model.specs.declared.Content.TheVariants.{Document, Element, Words, Remark}
-use Rattle.node_arena.specs.Held.{label}
-use Rattle.node_arena.specs.Reads.{IsValid, Names}
-use Rattle.dom_model.specs.Contents.{may_have_children, is_break}
-use Rattle.dom_model.specs.Forest.{Forest, Seen, join, count_of, IsDistinct, tree_of, preorder, preorder_onto, parent_of, first_of, last_of, first_in, prev_of}
-use Rattle.dom_model.specs.Forest.Forest.{Nil, Tree}
-use Rattle.dom_model.proofs.Links.{seen, eqb_refl_true}
+use Rattle.node_styles.specs.DomModel.declared.Content.{Content}
+use Rattle.node_styles.specs.DomModel.declared.Content.TheVariants.{Document, Element, Words, Remark}
+use Rattle.node_styles.specs.NodeArena.Held.{label}
+use Rattle.node_styles.specs.NodeArena.Reads.{IsValid, Names}
+use Rattle.node_styles.specs.DomModel.Contents.{may_have_children, is_break}
+use Rattle.node_styles.specs.DomModel.Forest.{Forest, Seen, join, count_of, IsDistinct, tree_of, preorder, preorder_onto, parent_of, first_of, last_of, first_in, prev_of}
+use Rattle.node_styles.specs.DomModel.Forest.Forest.{Nil, Tree}
+use Rattle.node_styles.proofs.DomModel.Links.{seen, eqb_refl_true}
 use Rattle.node_styles.specs.Blocks.{is_block, is_whitespace, is_whitespace_in}
-use Rattle.node_arena.specs.declared.NodeRef.{NodeRef}
+use Rattle.node_styles.specs.NodeArena.declared.NodeRef.{NodeRef}
 use Rattle.node_tests.specs.declared.neighbours.Neighbour.{Neighbour}
 use Rattle.node_tests.specs.declared.neighbours.Neighbour.TheVariants.{BlockEdge, LineBreak, Solid}
 use Rattle.node_tests.specs.declared.sides.Side.TheVariants as sides

@@ -1,11 +1,11 @@
 -- Which nodes a range contains in effect, by their children.
 use Rattle.std.proofs.Common.{◌≡◌, ℕ, ◌<◌, Bool, true, false, not, ◌&&◌, ◌||◌, Option, Some, None, refl, sym, ap, ◌∙◌, is_none}
-use Rattle.dom_model.specs.declared.Content.{Content}
-use Rattle.dom_model.specs.Forest.{Forest, join, count_of, IsDistinct, tree_of, parent_of, first_of, next_of}
-use Rattle.dom_model.specs.Forest.Forest.{Nil, Tree}
-use Rattle.dom_model.specs.Places.{onward}
-use Rattle.dom_model.proofs.Neighbours.{parent_of-first}
-use Rattle.live_range.specs.declared.places.Point.{Point}
+use Rattle.node_styles.specs.DomModel.declared.Content.{Content}
+use Rattle.node_styles.specs.DomModel.Forest.{Forest, join, count_of, IsDistinct, tree_of, parent_of, first_of, next_of}
+use Rattle.node_styles.specs.DomModel.Forest.Forest.{Nil, Tree}
+use Rattle.node_styles.specs.DomModel.Places.{onward}
+use Rattle.node_styles.proofs.DomModel.Neighbours.{parent_of-first}
+use Rattle.point_order.specs.LiveRange.declared.places.Point.{Point}
 use Rattle.node_tests.specs.Ranges.{is_contained, is_partial, is_touched, is_cut, has_trees, all_effective}
 use Rattle.node_tests.specs.Listing.{siblings}
 use Rattle.node_tests.proofs.Inside.{tree_is_kids, onward_is_tree}

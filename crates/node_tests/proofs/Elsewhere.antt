@@ -1,14 +1,14 @@
 -- No node of another tree than the start's is contained in a range, nor in effect.
 use Rattle.std.proofs.Common.{◌≡◌, ◌≢◌, ℕ, zero, suc, ◌<◌, Bool, true, false, not, ◌&&◌, ◌||◌, Option, Some, None, refl, sym, ap, ◌∙◌, inl, inr, arith, eqb}
 use Rattle.std.proofs.lemmas.Bool.Decides.{eqb_tells}
-use Rattle.dom_model.specs.declared.Content.{Content}
-use Rattle.dom_model.specs.Contents.{length_of}
-use Rattle.dom_model.specs.Forest.{Forest, count_of, IsDistinct, IsWithin, tree_of, parent_of, depth_of}
-use Rattle.dom_model.specs.Places.{first_of_two}
-use Rattle.dom_model.proofs.Links.{parent_count}
-use Rattle.dom_model.proofs.Within.{within_self, within_child, depth_of-parent}
-use Rattle.dom_model.proofs.Earlier.{first_of_two-within, first_of_two-apart}
-use Rattle.live_range.specs.declared.places.Point.{Point}
+use Rattle.node_styles.specs.DomModel.declared.Content.{Content}
+use Rattle.node_styles.specs.DomModel.Contents.{length_of}
+use Rattle.node_styles.specs.DomModel.Forest.{Forest, count_of, IsDistinct, IsWithin, tree_of, parent_of, depth_of}
+use Rattle.node_styles.specs.DomModel.Places.{first_of_two}
+use Rattle.node_styles.proofs.DomModel.Links.{parent_count}
+use Rattle.node_styles.proofs.DomModel.Within.{within_self, within_child, depth_of-parent}
+use Rattle.node_styles.proofs.DomModel.Earlier.{first_of_two-within, first_of_two-apart}
+use Rattle.point_order.specs.LiveRange.declared.places.Point.{Point}
 use Rattle.point_order.specs.PointOrder.{is_before, child_toward}
 use Rattle.node_tests.specs.declared.listing.Wanted.{Wanted}
 use Rattle.node_tests.specs.declared.listing.Wanted.TheVariants.{Contained, Effective}

@@ -1,16 +1,16 @@
 -- A walk from place to place in the document ends by itself, before it takes as many turns as it may.
 use Rattle.std.proofs.Common.{◌≡◌, ◌≢◌, ℕ, zero, suc, ◌⊎◌, ◌+◌, ◌*◌, ◌-◌, ◌<◌, ◌≤◌, Bool, true, false, cond, Option, Some, None, refl, sym, ap, subst, ◌∙◌, inl, inr, arith}
 use Rattle.std.proofs.lemmas.Bool.Decides.{eqb_tells}
-use Rattle.dom_model.specs.declared.Content.{Content}
-use Rattle.dom_model.specs.Forest.{Forest, count_of, IsWithin, parent_of, children_of}
-use Rattle.dom_model.specs.Forest.Forest.{Tree}
-use Rattle.dom_model.specs.Places.{index_of}
-use Rattle.node_arena.specs.Reads.{IsValid}
-use Rattle.dom_model.specs.TreeOrder.{total_after}
-use Rattle.dom_model.proofs.Links.{parent_count}
-use Rattle.dom_model.proofs.Walks.{document_first, total_after_document, total_from_whole}
-use Rattle.dom_model.proofs.Within.{within_child, within_step, depth_of-root}
-use Rattle.node_arena.specs.declared.NodeRef.{NodeRef}
+use Rattle.node_styles.specs.DomModel.declared.Content.{Content}
+use Rattle.node_styles.specs.DomModel.Forest.{Forest, count_of, IsWithin, parent_of, children_of}
+use Rattle.node_styles.specs.DomModel.Forest.Forest.{Tree}
+use Rattle.node_styles.specs.DomModel.Places.{index_of}
+use Rattle.node_styles.specs.NodeArena.Reads.{IsValid}
+use Rattle.node_styles.specs.DomModel.TreeOrder.{total_after}
+use Rattle.node_styles.proofs.DomModel.Links.{parent_count}
+use Rattle.node_styles.proofs.DomModel.Walks.{document_first, total_after_document, total_from_whole}
+use Rattle.node_styles.proofs.DomModel.Within.{within_child, within_step, depth_of-root}
+use Rattle.node_styles.specs.NodeArena.declared.NodeRef.{NodeRef}
 use Rattle.node_tests.specs.BlockPoints.{edge, is_block_boundary}
 use Rattle.node_styles.specs.TurnBound.{turn_bound}
 use Rattle.node_tests.specs.LineBreaks.{Place, Turn, end_of, past, own_place, out_to, out_of, child_beside, go_past, turn_to, walk, meets_break}

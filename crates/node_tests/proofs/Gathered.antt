@@ -5,16 +5,16 @@ use Rattle.std.specs.List.{All, filter, insert}
 use Rattle.std.proofs.lemmas.Bool.{and_parts, cases_lt, eqb-true}
 use Rattle.std.proofs.lemmas.List.{length-append}
 use Rattle.std.proofs.lemmas.List.Elements.{All-append, All-cons, All-drop, All-push, All-take}
-use Rattle.dom_model.specs.declared.Content.{Content}
-use Rattle.dom_model.specs.Forest.{Forest, IsDistinct, IsWithin, count_of, parent_of, children_of, first_of, next_of, preorder, times, tree_of}
-use Rattle.dom_model.specs.Places.{index_of, onward}
-use Rattle.dom_model.proofs.Links.{parent_count, eqb_refl_true}
-use Rattle.dom_model.proofs.Neighbours.{parent_of-first, parent_of-next}
-use Rattle.dom_model.proofs.Within.{within_self}
-use Rattle.live_range.specs.declared.places.Point.{Point}
-use Rattle.node_arena.specs.declared.NodeRef.{NodeRef}
-use Rattle.node_arena.specs.Held.{label}
-use Rattle.node_arena.specs.Reads.{IsValid}
+use Rattle.node_styles.specs.DomModel.declared.Content.{Content}
+use Rattle.node_styles.specs.DomModel.Forest.{Forest, IsDistinct, IsWithin, count_of, parent_of, children_of, first_of, next_of, preorder, times, tree_of}
+use Rattle.node_styles.specs.DomModel.Places.{index_of, onward}
+use Rattle.node_styles.proofs.DomModel.Links.{parent_count, eqb_refl_true}
+use Rattle.node_styles.proofs.DomModel.Neighbours.{parent_of-first, parent_of-next}
+use Rattle.node_styles.proofs.DomModel.Within.{within_self}
+use Rattle.point_order.specs.LiveRange.declared.places.Point.{Point}
+use Rattle.node_styles.specs.NodeArena.declared.NodeRef.{NodeRef}
+use Rattle.node_styles.specs.NodeArena.Held.{label}
+use Rattle.node_styles.specs.NodeArena.Reads.{IsValid}
 use Rattle.point_order.specs.PointOrder.{is_before}
 use Rattle.node_tests.specs.declared.listing.Reach.{Reach}
 use Rattle.node_tests.specs.declared.listing.Sides.{Sides}

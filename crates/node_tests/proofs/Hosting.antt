@@ -3,13 +3,13 @@ use Rattle.std.proofs.Common.{◌≡◌, ◌≢◌, ℕ, zero, suc, ◌⊎◌, �
 use Rattle.std.proofs.lemmas.Bool.Decides.{eqb_tells}
 use Rattle.std.specs.List.{find, list_any}
 use Rattle.std.specs.Option.{option_map, option_map_or, is_some}
-use Rattle.dom_model.specs.declared.Content.{Content}
-use Rattle.dom_model.specs.Contents.{is_element}
-use Rattle.dom_model.specs.Editing.{is_host, is_true_state, is_false_state, host_by, editing_host, is_editable}
-use Rattle.dom_model.specs.Forest.{Forest, Seen, count_of, IsDistinct, IsWithin, parent_of, content_of, depth_of, is_label}
-use Rattle.dom_model.proofs.Hosts.{editing_host-root, editing_host-child}
-use Rattle.dom_model.proofs.Links.{seen, parent_count}
-use Rattle.dom_model.proofs.Within.{within_self, within_child, within_step, within_root, depth_of-parent}
+use Rattle.node_styles.specs.DomModel.declared.Content.{Content}
+use Rattle.node_styles.specs.DomModel.Contents.{is_element}
+use Rattle.node_styles.specs.DomModel.Editing.{is_host, is_true_state, is_false_state, host_by, editing_host, is_editable}
+use Rattle.node_styles.specs.DomModel.Forest.{Forest, Seen, count_of, IsDistinct, IsWithin, parent_of, content_of, depth_of, is_label}
+use Rattle.node_styles.proofs.DomModel.Hosts.{editing_host-root, editing_host-child}
+use Rattle.node_styles.proofs.DomModel.Links.{seen, parent_count}
+use Rattle.node_styles.proofs.DomModel.Within.{within_self, within_child, within_step, within_root, depth_of-parent}
 use Rattle.node_styles.specs.Lineage.{lineage}
 use Rattle.node_styles.proofs.Lineages.{ancestor, lineage-root, lineage-child}
 use Rattle.node_tests.specs.AffectedHost.{own_host, takes_commands, is_host_of, common_host, affected_host}

@@ -1,12 +1,12 @@
 -- The tree of a node, by its children and their later siblings.
 use Rattle.std.proofs.Common.{◌≡◌, ℕ, ◌+◌, ◌<◌, Option, Some, None, refl, sym, ap, ◌∙◌, arith}
-use Rattle.dom_model.specs.declared.Content.{Content}
-use Rattle.dom_model.specs.Forest.{Forest, join, tops, total, count_of, IsDistinct, tree_of, parent_of, content_of, first_of, next_of, first_in}
-use Rattle.dom_model.specs.Forest.Forest.{Nil, Tree}
-use Rattle.dom_model.specs.Places.{or_else, onward}
-use Rattle.dom_model.proofs.Totals.{total-join}
-use Rattle.dom_model.proofs.Links.{parent_count}
-use Rattle.dom_model.proofs.Parts.{onward_absent, at_label}
+use Rattle.node_styles.specs.DomModel.declared.Content.{Content}
+use Rattle.node_styles.specs.DomModel.Forest.{Forest, join, tops, total, count_of, IsDistinct, tree_of, parent_of, content_of, first_of, next_of, first_in}
+use Rattle.node_styles.specs.DomModel.Forest.Forest.{Nil, Tree}
+use Rattle.node_styles.specs.DomModel.Places.{or_else, onward}
+use Rattle.node_styles.proofs.DomModel.Totals.{total-join}
+use Rattle.node_styles.proofs.DomModel.Links.{parent_count}
+use Rattle.node_styles.proofs.DomModel.Parts.{onward_absent, at_label}
 use Rattle.node_tests.specs.Listing.{siblings}
 use Rattle.node_tests.proofs.Pieces.{find_where, once_kids, once_rest, tree-below, tree-after}
 use Rattle.node_tests.proofs.Pieces.Where.{Here, Below, After}

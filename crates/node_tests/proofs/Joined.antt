@@ -1,9 +1,9 @@
 -- Trees on a side of a node, the nearer first.
 use Rattle.std.proofs.Common.{◌≡◌, ℕ, refl, sym}
-use Rattle.dom_model.specs.declared.Content.{Content}
-use Rattle.dom_model.specs.Forest.{Forest, join}
-use Rattle.dom_model.specs.Forest.Forest.{Nil}
-use Rattle.dom_model.proofs.Links.{join-Nil}
+use Rattle.node_styles.specs.DomModel.declared.Content.{Content}
+use Rattle.node_styles.specs.DomModel.Forest.{Forest, join}
+use Rattle.node_styles.specs.DomModel.Forest.Forest.{Nil}
+use Rattle.node_styles.proofs.DomModel.Links.{join-Nil}
 use Rattle.node_tests.specs.declared.sides.Side.{Side}
 use Rattle.node_tests.specs.declared.sides.Side.TheVariants.{Before, After}
 use Rattle.node_tests.specs.Surroundings.{earlier, later}

@@ -1,12 +1,12 @@
 -- The indexes of the children that a walk passes.
 use Rattle.std.proofs.Common.{◌≡◌, ℕ, ◌+◌, Option, Some, None, IfSome, sym, ap, ◌∙◌}
-use Rattle.dom_model.specs.declared.Content.{Content}
-use Rattle.dom_model.specs.Forest.{Forest, first_of, next_of}
-use Rattle.dom_model.specs.Places.{index_of}
-use Rattle.dom_model.proofs.Neighbours.{parent_of-first, parent_of-next}
-use Rattle.node_arena.specs.declared.NodeRef.{NodeRef}
-use Rattle.node_arena.specs.Held.{label}
-use Rattle.node_arena.specs.Reads.{IsValid}
+use Rattle.node_styles.specs.DomModel.declared.Content.{Content}
+use Rattle.node_styles.specs.DomModel.Forest.{Forest, first_of, next_of}
+use Rattle.node_styles.specs.DomModel.Places.{index_of}
+use Rattle.node_styles.proofs.DomModel.Neighbours.{parent_of-first, parent_of-next}
+use Rattle.node_styles.specs.NodeArena.declared.NodeRef.{NodeRef}
+use Rattle.node_styles.specs.NodeArena.Held.{label}
+use Rattle.node_styles.specs.NodeArena.Reads.{IsValid}
 use Rattle.node_tests.proofs.Kids.{Kid}
 use Rattle.node_tests.proofs.Turning.{index_first, next_index}
 

@@ -1,11 +1,11 @@
 -- A walk over the children of a node.
 use Rattle.std.proofs.Common.{◌≡◌, ℕ, ◌<◌, Option, Some, None, IfSome, sym, arith}
-use Rattle.dom_model.specs.declared.Content.{Content}
-use Rattle.dom_model.specs.Forest.{Forest, tree_of, parent_of, first_of, next_of}
-use Rattle.dom_model.proofs.Neighbours.{parent_of-first, parent_of-next}
-use Rattle.node_arena.specs.declared.NodeRef.{NodeRef}
-use Rattle.node_arena.specs.Held.{label}
-use Rattle.node_arena.specs.Reads.{IsValid, Names}
+use Rattle.node_styles.specs.DomModel.declared.Content.{Content}
+use Rattle.node_styles.specs.DomModel.Forest.{Forest, tree_of, parent_of, first_of, next_of}
+use Rattle.node_styles.proofs.DomModel.Neighbours.{parent_of-first, parent_of-next}
+use Rattle.node_styles.specs.NodeArena.declared.NodeRef.{NodeRef}
+use Rattle.node_styles.specs.NodeArena.Held.{label}
+use Rattle.node_styles.specs.NodeArena.Reads.{IsValid, Names}
 use Rattle.node_tests.specs.Listing.{siblings}
 use Rattle.node_tests.proofs.Inside.{nodes, fewer_kids, fewer_onward, some_node}
 

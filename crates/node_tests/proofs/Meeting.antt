@@ -1,9 +1,9 @@
 -- What is met in trees one after another.
 use Rattle.std.proofs.Common.{◌≡◌, ℕ, Option, Some, None, refl, sym, ap, ◌∙◌}
 use Rattle.std.specs.Option.{option_or}
-use Rattle.dom_model.specs.declared.Content.{Content}
-use Rattle.dom_model.specs.Forest.{Forest, join}
-use Rattle.dom_model.specs.Forest.Forest.{Nil, Tree}
+use Rattle.node_styles.specs.DomModel.declared.Content.{Content}
+use Rattle.node_styles.specs.DomModel.Forest.{Forest, join}
+use Rattle.node_styles.specs.DomModel.Forest.Forest.{Nil, Tree}
 use Rattle.node_tests.specs.declared.neighbours.Neighbour.{Neighbour}
 use Rattle.node_tests.specs.SolidNeighbours.{met, nearer, first_met}
 use Rattle.node_tests.specs.declared.sides.Side.{Side}

@@ -2,10 +2,10 @@
 use Rattle.std.proofs.Common.{◌≡◌, ◌≢◌, ℕ, zero, suc, ◌⊎◌, ◌+◌, ◌<◌, ◌≤◌, true, false, cond, List, ◌∷◌, ◌++◌, refl, sym, ap, ◌∙◌, subst, inl, inr, arith, eqb, nat_lt}
 use Rattle.std.proofs.lemmas.Bool.{lt-ltb, le-ltb}
 use Rattle.std.proofs.lemmas.Bool.Decides.{eqb_tells}
-use Rattle.dom_model.specs.Forest.{Forest, join, tops, count_of, IsDistinct, times, tree_of, preorder_onto}
-use Rattle.dom_model.specs.Forest.Forest.{Nil, Tree}
-use Rattle.dom_model.proofs.Totals.{total-without, total-join}
-use Rattle.dom_model.proofs.Links.{join-Nil, tree_of_absent, eqb_refl_true}
+use Rattle.node_styles.specs.DomModel.Forest.{Forest, join, tops, count_of, IsDistinct, times, tree_of, preorder_onto}
+use Rattle.node_styles.specs.DomModel.Forest.Forest.{Nil, Tree}
+use Rattle.node_styles.proofs.DomModel.Totals.{total-without, total-join}
+use Rattle.node_styles.proofs.DomModel.Links.{join-Nil, tree_of_absent, eqb_refl_true}
 use Rattle.node_tests.specs.Surroundings.{earlier, later, labels_before_onto}
 
 pub has : (n : ℕ) → 0 < n → nat_lt 0 n ≡ true

@@ -1,10 +1,10 @@
 -- Which nodes are collapsed block props, by their children.
 use Rattle.std.proofs.Common.{◌≡◌, ℕ, ◌<◌, Bool, true, false, not, ◌&&◌, ◌||◌, Option, Some, None, refl, sym, ap, ◌∙◌}
-use Rattle.dom_model.specs.declared.Content.{Content}
-use Rattle.dom_model.specs.Forest.{Forest, join, count_of, IsDistinct, tree_of, parent_of, first_of, next_of}
-use Rattle.dom_model.specs.Forest.Forest.{Nil, Tree}
-use Rattle.dom_model.specs.Places.{onward}
-use Rattle.dom_model.proofs.Links.{parent_count}
+use Rattle.node_styles.specs.DomModel.declared.Content.{Content}
+use Rattle.node_styles.specs.DomModel.Forest.{Forest, join, count_of, IsDistinct, tree_of, parent_of, first_of, next_of}
+use Rattle.node_styles.specs.DomModel.Forest.Forest.{Nil, Tree}
+use Rattle.node_styles.specs.DomModel.Places.{onward}
+use Rattle.node_styles.proofs.DomModel.Links.{parent_count}
 use Rattle.node_tests.specs.Visible.{is_visible}
 use Rattle.node_tests.specs.BlockProps.{Props, is_break_prop, is_inline_element, is_prop, props_in, is_block_prop}
 use Rattle.node_tests.specs.Listing.{siblings}

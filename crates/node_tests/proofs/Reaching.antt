@@ -2,18 +2,18 @@
 use Rattle.std.proofs.Common.{◌≡◌, ◌≢◌, ℕ, zero, suc, ◌<◌, ◌≤◌, ◌⊎◌, true, false, Option, Some, None, refl, sym, ap, subst, ◌∙◌, inl, inr, arith}
 use Rattle.std.proofs.lemmas.Bool.{cases_lt, lt-ltb, le-ltb}
 use Rattle.std.proofs.lemmas.Bool.Decides.{eqb_tells}
-use Rattle.dom_model.specs.declared.Content.{Content}
-use Rattle.dom_model.specs.Forest.{Forest, IsDistinct, IsWithin, count_of, parent_of, children_of, first_of, next_of, depth_of}
+use Rattle.node_styles.specs.DomModel.declared.Content.{Content}
+use Rattle.node_styles.specs.DomModel.Forest.{Forest, IsDistinct, IsWithin, count_of, parent_of, children_of, first_of, next_of, depth_of}
 use Rattle.std.specs.Option.{option_map_or}
-use Rattle.dom_model.specs.Contents.{length_of}
-use Rattle.dom_model.specs.Places.{place_in, index_of}
-use Rattle.dom_model.proofs.Links.{parent_count, times-children_of, eqb_refl_true}
-use Rattle.dom_model.proofs.Neighbours.{parent_of-first, parent_of-next}
-use Rattle.dom_model.proofs.Within.{within_self, within_child, within_parent, depth_of-parent}
-use Rattle.live_range.specs.declared.places.Point.{Point}
-use Rattle.node_arena.specs.declared.NodeRef.{NodeRef}
-use Rattle.node_arena.specs.Held.{label}
-use Rattle.node_arena.specs.Reads.{IsValid, Names}
+use Rattle.node_styles.specs.DomModel.Contents.{length_of}
+use Rattle.node_styles.specs.DomModel.Places.{place_in, index_of}
+use Rattle.node_styles.proofs.DomModel.Links.{parent_count, times-children_of, eqb_refl_true}
+use Rattle.node_styles.proofs.DomModel.Neighbours.{parent_of-first, parent_of-next}
+use Rattle.node_styles.proofs.DomModel.Within.{within_self, within_child, within_parent, depth_of-parent}
+use Rattle.point_order.specs.LiveRange.declared.places.Point.{Point}
+use Rattle.node_styles.specs.NodeArena.declared.NodeRef.{NodeRef}
+use Rattle.node_styles.specs.NodeArena.Held.{label}
+use Rattle.node_styles.specs.NodeArena.Reads.{IsValid, Names}
 use Rattle.point_order.specs.PointOrder.{is_before, child_toward}
 use Rattle.node_tests.specs.BlockPoints.{child_at}
 use Rattle.node_tests.specs.declared.listing.Reach.{Reach}

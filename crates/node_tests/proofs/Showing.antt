@@ -1,9 +1,9 @@
 -- What shows in the tree of a node, by its children.
 use Rattle.std.proofs.Common.{◌≡◌, ℕ, ◌<◌, Bool, true, false, not, ◌&&◌, ◌||◌, Option, Some, refl, sym, ap, ◌∙◌}
-use Rattle.dom_model.specs.declared.Content.{Content}
-use Rattle.dom_model.specs.Forest.{Forest, join, count_of, IsDistinct, tree_of, parent_of, first_of, next_of}
-use Rattle.dom_model.specs.Forest.Forest.{Nil, Tree}
-use Rattle.dom_model.specs.Places.{onward}
+use Rattle.node_styles.specs.DomModel.declared.Content.{Content}
+use Rattle.node_styles.specs.DomModel.Forest.{Forest, join, count_of, IsDistinct, tree_of, parent_of, first_of, next_of}
+use Rattle.node_styles.specs.DomModel.Forest.Forest.{Nil, Tree}
+use Rattle.node_styles.specs.DomModel.Places.{onward}
 use Rattle.node_tests.specs.Visible.{is_boxless, shows, shows_in}
 use Rattle.node_tests.specs.Listing.{siblings}
 use Rattle.node_tests.proofs.Inside.{tree_is_kids, onward_is_tree}

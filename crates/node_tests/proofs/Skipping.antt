@@ -4,16 +4,16 @@ use Rattle.std.proofs.Common.{◌≡◌, ◌≢◌, ℕ, zero, suc, ◌<◌, ◌
 use Rattle.std.specs.Option.{option_map_or}
 use Rattle.std.proofs.lemmas.Bool.{lt-ltb, le-ltb, lt-leb, le-leb}
 use Rattle.std.proofs.lemmas.Bool.Decides.{eqb_tells}
-use Rattle.dom_model.specs.declared.Content.{Content}
-use Rattle.dom_model.specs.Contents.{length_of}
-use Rattle.dom_model.specs.Forest.{Forest, count_of, IsDistinct, IsWithin, tree_of, parent_of, children_of}
-use Rattle.dom_model.specs.Forest.Forest.{Nil, Tree}
-use Rattle.dom_model.specs.Places.{place_in, index_of, first_of_two}
-use Rattle.dom_model.proofs.Earlier.{first_of_two-siblings, first_of_two-swap}
-use Rattle.dom_model.proofs.Links.{tree_is, eqb_refl_true}
-use Rattle.dom_model.proofs.Move.{parent_apart}
-use Rattle.dom_model.proofs.Within.{within_self, within_up}
-use Rattle.live_range.specs.declared.places.Point.{Point}
+use Rattle.node_styles.specs.DomModel.declared.Content.{Content}
+use Rattle.node_styles.specs.DomModel.Contents.{length_of}
+use Rattle.node_styles.specs.DomModel.Forest.{Forest, count_of, IsDistinct, IsWithin, tree_of, parent_of, children_of}
+use Rattle.node_styles.specs.DomModel.Forest.Forest.{Nil, Tree}
+use Rattle.node_styles.specs.DomModel.Places.{place_in, index_of, first_of_two}
+use Rattle.node_styles.proofs.DomModel.Earlier.{first_of_two-siblings, first_of_two-swap}
+use Rattle.node_styles.proofs.DomModel.Links.{tree_is, eqb_refl_true}
+use Rattle.node_styles.proofs.DomModel.Move.{parent_apart}
+use Rattle.node_styles.proofs.DomModel.Within.{within_self, within_up}
+use Rattle.point_order.specs.LiveRange.declared.places.Point.{Point}
 use Rattle.point_order.specs.PointOrder.{is_before, child_toward}
 use Rattle.node_tests.specs.declared.listing.Wanted.{Wanted}
 use Rattle.node_tests.specs.declared.listing.Wanted.TheVariants.{Contained, Effective}

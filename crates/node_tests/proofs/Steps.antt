@@ -1,13 +1,13 @@
 -- The trees and the labels round a node in its nearest block, by one step to a sibling, to a child or to the parent.
 use Rattle.std.proofs.Common.{◌≡◌, ℕ, ◌<◌, Bool, true, false, cond, List, [], ◌∷◌, Some, None, refl, sym, ap, subst, ◌∙◌, arith, inl, inr}
 use Rattle.std.specs.Option.{option_and_then}
-use Rattle.dom_model.specs.declared.Content.{Content}
-use Rattle.dom_model.specs.Forest.{Forest, join, count_of, IsDistinct, tree_of, preorder, parent_of, children_of, next_of, prev_of, before_in, after_in}
-use Rattle.dom_model.specs.Forest.Forest.{Nil, Tree}
-use Rattle.dom_model.specs.Places.{kids_in}
-use Rattle.dom_model.proofs.Links.{tree_is, join-Nil, times-children_of, eqb_refl_true}
-use Rattle.dom_model.proofs.Within.{within_self}
-use Rattle.dom_model.proofs.Neighbours.{parent_of-next, parent_of-prev_sibling}
+use Rattle.node_styles.specs.DomModel.declared.Content.{Content}
+use Rattle.node_styles.specs.DomModel.Forest.{Forest, join, count_of, IsDistinct, tree_of, preorder, parent_of, children_of, next_of, prev_of, before_in, after_in}
+use Rattle.node_styles.specs.DomModel.Forest.Forest.{Nil, Tree}
+use Rattle.node_styles.specs.DomModel.Places.{kids_in}
+use Rattle.node_styles.proofs.DomModel.Links.{tree_is, join-Nil, times-children_of, eqb_refl_true}
+use Rattle.node_styles.proofs.DomModel.Within.{within_self}
+use Rattle.node_styles.proofs.DomModel.Neighbours.{parent_of-next, parent_of-prev_sibling}
 use Rattle.node_styles.specs.Blocks.{is_block}
 use Rattle.node_tests.specs.declared.sides.Side.{Side}
 use Rattle.node_tests.specs.declared.sides.Side.TheVariants.{Before, After}

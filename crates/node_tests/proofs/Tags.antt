@@ -3,21 +3,21 @@
 use Rattle.std.proofs.Common.{◌≡◌, ℕ, ◌+◌, ◌*◌, ◌-◌, ◌<◌, ◌≤◌, Option, Some, None, refl, sym, ap, ◌∙◌, inl, inr, arith}
 use Rattle.std.specs.Option.{option_map_or}
 use Rattle.std.proofs.lemmas.Bool.Decides.{eqb_tells}
-use Rattle.dom_model.specs.declared.Content.{Content}
-use Rattle.dom_model.specs.Forest.{Forest, either, count_of, IsDistinct, parent_of, first_of, last_of, next_of, depth_from, depth_of}
-use Rattle.dom_model.specs.Forest.Forest.{Nil, Tree}
-use Rattle.dom_model.specs.TreeOrder.{total_from, total_after}
-use Rattle.dom_model.proofs.Neighbours.{parent_of-first, parent_of-last, parent_of-next}
-use Rattle.dom_model.proofs.Walks.{total_from-first, total_after-next, total_after-last, total_from_le}
-use Rattle.dom_model.proofs.Within.{depth_absent, depth_of-parent}
+use Rattle.node_styles.specs.DomModel.declared.Content.{Content}
+use Rattle.node_styles.specs.DomModel.Forest.{Forest, either, count_of, IsDistinct, parent_of, first_of, last_of, next_of, depth_from, depth_of}
+use Rattle.node_styles.specs.DomModel.Forest.Forest.{Nil, Tree}
+use Rattle.node_styles.specs.DomModel.TreeOrder.{total_from, total_after}
+use Rattle.node_styles.proofs.DomModel.Neighbours.{parent_of-first, parent_of-last, parent_of-next}
+use Rattle.node_styles.proofs.DomModel.Walks.{total_from-first, total_after-next, total_after-last, total_from_le}
+use Rattle.node_styles.proofs.DomModel.Within.{depth_absent, depth_of-parent}
 use Rattle.node_tests.proofs.Around.{content_at}
 use Rattle.node_tests.proofs.Inside.{nodes}
 use Rattle.node_tests.proofs.Pieces.{has, hasnt}
-use Rattle.dom_model.proofs.Indexes.{index_of-first, index_of-last}
-use Rattle.dom_model.proofs.Links.{parent_count}
-use Rattle.dom_model.proofs.Parts.{at_label, total_from_Part, total_after_Part}
-use Rattle.node_arena.specs.declared.NodeRef.{NodeRef}
-use Rattle.node_arena.specs.Reads.{IsValid}
+use Rattle.node_styles.proofs.DomModel.Indexes.{index_of-first, index_of-last}
+use Rattle.node_styles.proofs.DomModel.Links.{parent_count}
+use Rattle.node_styles.proofs.DomModel.Parts.{at_label, total_from_Part, total_after_Part}
+use Rattle.node_styles.specs.NodeArena.declared.NodeRef.{NodeRef}
+use Rattle.node_styles.specs.NodeArena.Reads.{IsValid}
 use Rattle.node_tests.specs.declared.sides.Side.{Side}
 use Rattle.node_tests.specs.declared.sides.Side.TheVariants.{Before, After}
 use Rattle.node_tests.specs.Sides.{other, sibling, near_child}

@@ -3,12 +3,12 @@ use Rattle.std.proofs.Common.{◌≡◌, ◌≢◌, ℕ, zero, suc, ◌<◌, Boo
 use Rattle.std.specs.List.{find}
 use Rattle.std.specs.Option.{option_map_or}
 use Rattle.std.proofs.lemmas.Bool.Decides.{eqb_tells}
-use Rattle.dom_model.specs.declared.Content.{Content}
-use Rattle.dom_model.specs.Forest.{Forest, Seen, seek, times, count_of, IsDistinct, IsWithin, tree_of, parent_of, children_of, depth_of}
-use Rattle.dom_model.proofs.Links.{parent_count, parent_of_child, child_of_parent, found_stands, eqb_refl_true}
-use Rattle.dom_model.proofs.Move.{parent_apart}
-use Rattle.dom_model.proofs.Stands.{true_or_false}
-use Rattle.dom_model.proofs.Within.{within_parent, within_step, within_up, depth_of-parent}
+use Rattle.node_styles.specs.DomModel.declared.Content.{Content}
+use Rattle.node_styles.specs.DomModel.Forest.{Forest, Seen, seek, times, count_of, IsDistinct, IsWithin, tree_of, parent_of, children_of, depth_of}
+use Rattle.node_styles.proofs.DomModel.Links.{parent_count, parent_of_child, child_of_parent, found_stands, eqb_refl_true}
+use Rattle.node_styles.proofs.DomModel.Move.{parent_apart}
+use Rattle.node_styles.proofs.DomModel.Stands.{true_or_false}
+use Rattle.node_styles.proofs.DomModel.Within.{within_parent, within_step, within_up, depth_of-parent}
 use Rattle.point_order.specs.PointOrder.{is_within, child_toward}
 use Rattle.node_tests.proofs.Pieces.{has, hasnt, count_in_tree, tree_in_tree}
 

@@ -3,16 +3,16 @@ use Rattle.std.proofs.Common.{◌≡◌, ◌≢◌, ℕ, zero, suc, ◌+◌, ◌
 use Rattle.std.specs.Prelude.{slice_get}
 use Rattle.std.specs.Option.{option_map, option_map_or}
 use Rattle.std.proofs.lemmas.Bool.Decides.{eqb_tells}
-use Rattle.dom_model.specs.declared.Content.{Content}
-use Rattle.dom_model.specs.declared.Content.TheVariants.{Document, Element, Words, Remark}
-use Rattle.dom_model.specs.Contents.{may_have_children, length_in, length_of}
-use Rattle.dom_model.specs.Forest.{Forest, Seen, seek, content_of, times, count_of, IsDistinct, first_in, last_or, last_in, before_from, before_in, after_in, parent_of, children_of, first_of, last_of, prev_of, next_of}
-use Rattle.dom_model.specs.Places.{place_in, index_of}
-use Rattle.dom_model.proofs.Lists.{before_from_some}
-use Rattle.dom_model.proofs.Links.{parent_count, times-children_of}
-use Rattle.node_arena.specs.declared.NodeRef.{NodeRef}
-use Rattle.node_arena.specs.Held.{label}
-use Rattle.node_arena.specs.Reads.{IsValid}
+use Rattle.node_styles.specs.DomModel.declared.Content.{Content}
+use Rattle.node_styles.specs.DomModel.declared.Content.TheVariants.{Document, Element, Words, Remark}
+use Rattle.node_styles.specs.DomModel.Contents.{may_have_children, length_in, length_of}
+use Rattle.node_styles.specs.DomModel.Forest.{Forest, Seen, seek, content_of, times, count_of, IsDistinct, first_in, last_or, last_in, before_from, before_in, after_in, parent_of, children_of, first_of, last_of, prev_of, next_of}
+use Rattle.node_styles.specs.DomModel.Places.{place_in, index_of}
+use Rattle.node_styles.proofs.DomModel.Lists.{before_from_some}
+use Rattle.node_styles.proofs.DomModel.Links.{parent_count, times-children_of}
+use Rattle.node_styles.specs.NodeArena.declared.NodeRef.{NodeRef}
+use Rattle.node_styles.specs.NodeArena.Held.{label}
+use Rattle.node_styles.specs.NodeArena.Reads.{IsValid}
 use Rattle.node_tests.specs.BlockPoints.{child_before, child_at}
 use Rattle.node_tests.specs.Gaps.{StandsAt}
 use Rattle.node_tests.proofs.Around.{content_at, family, next_in, prev_in}

@@ -1,10 +1,10 @@
 -- Trees of which a range touches no node aren't effectively contained.
 use Rattle.std.proofs.Common.{◌≡◌, ℕ, ◌<◌, true, false, not, ◌&&◌, ◌||◌, Bool, refl, ap, ◌∙◌, arith}
-use Rattle.dom_model.specs.declared.Content.{Content}
-use Rattle.dom_model.specs.Forest.{Forest, count_of}
-use Rattle.dom_model.specs.Forest.Forest.{Nil, Tree}
-use Rattle.dom_model.proofs.Links.{eqb_refl_true}
-use Rattle.live_range.specs.declared.places.Point.{Point}
+use Rattle.node_styles.specs.DomModel.declared.Content.{Content}
+use Rattle.node_styles.specs.DomModel.Forest.{Forest, count_of}
+use Rattle.node_styles.specs.DomModel.Forest.Forest.{Nil, Tree}
+use Rattle.node_styles.proofs.DomModel.Links.{eqb_refl_true}
+use Rattle.point_order.specs.LiveRange.declared.places.Point.{Point}
 use Rattle.node_tests.specs.Ranges.{is_touched, is_cut, has_trees, all_effective}
 
 and_false : (a b : Bool) → ((a && false) && b) ≡ false

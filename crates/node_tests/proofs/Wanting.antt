@@ -4,12 +4,12 @@ use Rattle.std.specs.List.{filter}
 use Rattle.std.specs.Option.{option_map, option_and_then}
 use Rattle.std.proofs.lemmas.Bool.Decides.{eqb_tells}
 use Rattle.std.proofs.lemmas.List.Elements.{filter-append}
-use Rattle.dom_model.specs.declared.Content.{Content}
-use Rattle.dom_model.specs.Forest.{Forest, Seen, join, tops, times, count_of, IsDistinct, preorder, preorder_onto, tree_of, parent_of, first_of, next_of}
-use Rattle.dom_model.specs.Forest.Forest.{Nil, Tree}
-use Rattle.dom_model.specs.Places.{onward}
-use Rattle.dom_model.proofs.Links.{seen, eqb_refl_true}
-use Rattle.dom_model.proofs.Stands.{parent_stands, times-tops}
+use Rattle.node_styles.specs.DomModel.declared.Content.{Content}
+use Rattle.node_styles.specs.DomModel.Forest.{Forest, Seen, join, tops, times, count_of, IsDistinct, preorder, preorder_onto, tree_of, parent_of, first_of, next_of}
+use Rattle.node_styles.specs.DomModel.Forest.Forest.{Nil, Tree}
+use Rattle.node_styles.specs.DomModel.Places.{onward}
+use Rattle.node_styles.proofs.DomModel.Links.{seen, eqb_refl_true}
+use Rattle.node_styles.proofs.DomModel.Stands.{parent_stands, times-tops}
 use Rattle.node_tests.proofs.Pieces.{count_in_tree, once_rest, tree-after}
 use Rattle.node_tests.specs.Listing.{only_if}
 use Rattle.node_tests.specs.Listing.{siblings}

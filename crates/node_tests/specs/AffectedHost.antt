@@ -2,9 +2,9 @@
 use Rattle.std.specs.Prelude.{ℕ, Bool, ◌&&◌, ◌||◌, Option, Some, None, if◌then◌else◌, is_some, ◌==◌}
 use Rattle.std.specs.List.{find, list_any}
 use Rattle.std.specs.Option.{option_map}
-use Rattle.dom_model.specs.declared.Content.{Content}
-use Rattle.dom_model.specs.Editing.{is_host, is_true_state, editing_host}
-use Rattle.dom_model.specs.Forest.{Forest}
+use Rattle.node_styles.specs.DomModel.declared.Content.{Content}
+use Rattle.node_styles.specs.DomModel.Editing.{is_host, is_true_state, editing_host}
+use Rattle.node_styles.specs.DomModel.Forest.{Forest}
 use Rattle.node_styles.specs.Lineage.{Ancestor, lineage}
 
 -- editable, whatever its host, or a host

@@ -2,9 +2,9 @@
 -- "block boundary point").
 use Rattle.std.specs.Prelude.{ℕ, zero, suc, ◌==◌, Bool, false, ◌&&◌, ◌||◌, Option, None, is_none, slice_get}
 use Rattle.std.specs.Option.{option_map_or}
-use Rattle.dom_model.specs.declared.Content.{Content}
-use Rattle.dom_model.specs.Contents.{length_of, is_break}
-use Rattle.dom_model.specs.Forest.{Forest, parent_of, children_of}
+use Rattle.node_styles.specs.DomModel.declared.Content.{Content}
+use Rattle.node_styles.specs.DomModel.Contents.{length_of, is_break}
+use Rattle.node_styles.specs.DomModel.Forest.{Forest, parent_of, children_of}
 use Rattle.node_styles.specs.Blocks.{is_block}
 use Rattle.node_tests.specs.declared.sides.Side.{Side}
 use Rattle.node_tests.specs.declared.sides.Side.TheVariants.{Before, After}

@@ -1,10 +1,10 @@
 -- Collapsed block props (HTML Editing APIs): what holds a line open in a block and is seen in no
 -- other way.
 use Rattle.std.specs.Prelude.{ℕ, Bool, true, false, not, ◌&&◌, ◌||◌}
-use Rattle.dom_model.specs.declared.Content.{Content}
-use Rattle.dom_model.specs.Contents.{is_element_at}
-use Rattle.dom_model.specs.Forest.{Forest, tree_of}
-use Rattle.dom_model.specs.Forest.Forest.{Nil, Tree}
+use Rattle.node_styles.specs.DomModel.declared.Content.{Content}
+use Rattle.node_styles.specs.DomModel.Contents.{is_element_at}
+use Rattle.node_styles.specs.DomModel.Forest.{Forest, tree_of}
+use Rattle.node_styles.specs.DomModel.Forest.Forest.{Nil, Tree}
 use Rattle.node_styles.specs.Blocks.{is_block}
 use Rattle.node_tests.specs.SolidNeighbours.{is_extraneous_break, is_collapsed_break}
 use Rattle.node_tests.specs.Visible.{is_visible}

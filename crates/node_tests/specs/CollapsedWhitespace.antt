@@ -1,11 +1,11 @@
 -- Collapsed whitespace (HTML Editing APIs, "collapsed whitespace node").
 use Rattle.std.specs.Prelude.{ℕ, Bool, true, false, not, ◌&&◌, ◌||◌, List, [], ◌∷◌, Option, Some, None, if◌then◌else◌}
 use Rattle.std.specs.Option.{option_map_or, unwrap_or}
-use Rattle.dom_model.specs.declared.Content.{Content}
-use Rattle.dom_model.specs.declared.Content.TheVariants.{Words}
-use Rattle.dom_model.specs.Contents.{is_break, is_image}
-use Rattle.dom_model.specs.Forest.{Forest, content_of}
-use Rattle.css_value.specs.StyleText.{is_empty}
+use Rattle.node_styles.specs.DomModel.declared.Content.{Content}
+use Rattle.node_styles.specs.DomModel.declared.Content.TheVariants.{Words}
+use Rattle.node_styles.specs.DomModel.Contents.{is_break, is_image}
+use Rattle.node_styles.specs.DomModel.Forest.{Forest, content_of}
+use Rattle.node_styles.specs.CssValue.StyleText.{is_empty}
 use Rattle.node_styles.specs.Blocks.{is_block, is_hidden, is_whitespace}
 use Rattle.node_tests.specs.Surroundings.{nodes_before, nodes_after}
 

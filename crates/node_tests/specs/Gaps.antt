@@ -1,10 +1,10 @@
 -- Places told by the children beside them.
 use Rattle.std.specs.Prelude.{◌≡◌, ◌==◌, ◌||◌, ◌&&◌, Bool, Option, is_none, IfSome}
-use Rattle.dom_model.specs.declared.Content.{Content}
-use Rattle.dom_model.specs.Contents.{length_of}
-use Rattle.dom_model.specs.Forest.{Forest, parent_of}
-use Rattle.node_arena.specs.Held.{label}
-use Rattle.node_arena.specs.declared.NodeRef.{NodeRef}
+use Rattle.node_styles.specs.DomModel.declared.Content.{Content}
+use Rattle.node_styles.specs.DomModel.Contents.{length_of}
+use Rattle.node_styles.specs.DomModel.Forest.{Forest, parent_of}
+use Rattle.node_styles.specs.NodeArena.Held.{label}
+use Rattle.node_styles.specs.NodeArena.declared.NodeRef.{NodeRef}
 use Rattle.node_tests.specs.BlockPoints.{child_before, child_at, starts_after, ends_before}
 use Rattle.node_tests.specs.LineBreaks as line_breaks
 use Rattle.node_tests.specs.declared.breaks.Gap.{Gap}

@@ -2,9 +2,9 @@
 -- "precedes a line break"): the standard's walks from place to place. A walk takes at most so many
 -- turns as the document has places, and some.
 use Rattle.std.specs.Prelude.{ℕ, zero, suc, ◌+◌, Bool, true, false, Option, Some, None, if◌then◌else◌}
-use Rattle.dom_model.specs.declared.Content.{Content}
-use Rattle.dom_model.specs.Forest.{Forest, parent_of}
-use Rattle.dom_model.specs.Places.{index_of}
+use Rattle.node_styles.specs.DomModel.declared.Content.{Content}
+use Rattle.node_styles.specs.DomModel.Forest.{Forest, parent_of}
+use Rattle.node_styles.specs.DomModel.Places.{index_of}
 use Rattle.node_styles.specs.TurnBound.{turn_bound}
 use Rattle.node_tests.specs.declared.sides.Side.{Side}
 use Rattle.node_tests.specs.declared.sides.Side.TheVariants.{Before, After}

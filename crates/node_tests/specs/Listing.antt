@@ -1,13 +1,13 @@
 -- What a walk over a tree looks for. No public clause cites this module.
 use Rattle.std.specs.Prelude.{◌≡◌, ℕ, zero, suc, ◌<◌, ◌≤◌, ◌==◌, ◌⊎◌, Bool, true, false, List, [], ◌∷◌, Option, Some, None, IfSome, if◌then◌else◌}
 use Rattle.std.specs.List.{slice_get}
-use Rattle.dom_model.specs.declared.Content.{Content}
-use Rattle.dom_model.specs.Forest.{Forest, IsWithin, parent_of}
-use Rattle.dom_model.specs.Forest.Forest.{Nil}
-use Rattle.dom_model.specs.Places.{index_of, onward}
-use Rattle.live_range.specs.declared.places.Point.{Point}
-use Rattle.node_arena.specs.declared.NodeRef.{NodeRef}
-use Rattle.node_arena.specs.Held.{label}
+use Rattle.node_styles.specs.DomModel.declared.Content.{Content}
+use Rattle.node_styles.specs.DomModel.Forest.{Forest, IsWithin, parent_of}
+use Rattle.node_styles.specs.DomModel.Forest.Forest.{Nil}
+use Rattle.node_styles.specs.DomModel.Places.{index_of, onward}
+use Rattle.point_order.specs.LiveRange.declared.places.Point.{Point}
+use Rattle.node_styles.specs.NodeArena.declared.NodeRef.{NodeRef}
+use Rattle.node_styles.specs.NodeArena.Held.{label}
 use Rattle.node_tests.specs.declared.listing.Lines.{Lines}
 use Rattle.node_tests.specs.declared.listing.Reach.{Reach}
 use Rattle.node_tests.specs.declared.listing.Sides.{Sides}

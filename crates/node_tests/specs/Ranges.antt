@@ -2,11 +2,11 @@
 -- Editing APIs, "effectively contained").
 use Rattle.std.specs.Prelude.{ℕ, ◌==◌, Bool, true, false, not, ◌&&◌, ◌||◌, List}
 use Rattle.std.specs.List.{filter}
-use Rattle.dom_model.specs.declared.Content.{Content}
-use Rattle.dom_model.specs.Contents.{length_of}
-use Rattle.dom_model.specs.Forest.{Forest, preorder, tree_of}
-use Rattle.dom_model.specs.Forest.Forest.{Nil, Tree}
-use Rattle.live_range.specs.declared.places.Point.{Point}
+use Rattle.node_styles.specs.DomModel.declared.Content.{Content}
+use Rattle.node_styles.specs.DomModel.Contents.{length_of}
+use Rattle.node_styles.specs.DomModel.Forest.{Forest, preorder, tree_of}
+use Rattle.node_styles.specs.DomModel.Forest.Forest.{Nil, Tree}
+use Rattle.point_order.specs.LiveRange.declared.places.Point.{Point}
 use Rattle.node_tests.specs.CollapsedWhitespace.{is_words}
 use Rattle.point_order.specs.PointOrder.{is_before, is_within}
 

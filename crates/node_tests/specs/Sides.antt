@@ -1,8 +1,8 @@
 -- What stands on a side of a node.
 use Rattle.std.specs.Prelude.{ℕ, Option}
 use Rattle.std.specs.Option.{option_or}
-use Rattle.dom_model.specs.declared.Content.{Content}
-use Rattle.dom_model.specs.Forest.{Forest, first_of, last_of, prev_of, next_of}
+use Rattle.node_styles.specs.DomModel.declared.Content.{Content}
+use Rattle.node_styles.specs.DomModel.Forest.{Forest, first_of, last_of, prev_of, next_of}
 use Rattle.node_tests.specs.declared.sides.Side.{Side}
 use Rattle.node_tests.specs.declared.sides.Side.TheVariants.{Before, After}
 use Rattle.node_tests.specs.Surroundings.{trees_before, trees_after}

@@ -2,9 +2,9 @@
 -- break", "collapsed line break").
 use Rattle.std.specs.Prelude.{ℕ, Bool, true, false, not, ◌&&◌, List, [], ◌∷◌, Option, Some, None, if◌then◌else◌, codes}
 use Rattle.std.specs.Option.{option_map_or, option_or, unwrap_or}
-use Rattle.dom_model.specs.declared.Content.{Content}
-use Rattle.dom_model.specs.Forest.{Forest, parent_of, children_of}
-use Rattle.dom_model.specs.Forest.Forest.{Nil, Tree}
+use Rattle.node_styles.specs.DomModel.declared.Content.{Content}
+use Rattle.node_styles.specs.DomModel.Forest.{Forest, parent_of, children_of}
+use Rattle.node_styles.specs.DomModel.Forest.Forest.{Nil, Tree}
 use Rattle.node_styles.specs.Blocks.{is_block}
 use Rattle.node_tests.specs.declared.neighbours.Neighbour.{Neighbour}
 use Rattle.node_tests.specs.declared.neighbours.Neighbour.TheVariants.{BlockEdge, LineBreak, Solid}
@@ -12,7 +12,7 @@ use Rattle.node_tests.specs.declared.sides.Side.{Side}
 use Rattle.node_tests.specs.declared.sides.Side.TheVariants.{Before, After}
 use Rattle.node_tests.specs.Sides.{trees}
 use Rattle.node_tests.specs.CollapsedWhitespace.{is_solid}
-use Rattle.dom_model.specs.Contents.{has_name, is_break}
+use Rattle.node_styles.specs.DomModel.Contents.{has_name, is_break}
 
 -- what is met at a node: a block, a br, or Words that isn't whitespace or an image
 unfoldable pub met : Forest Content → ℕ → Option Neighbour

@@ -1,13 +1,13 @@
 -- Visible and formattable nodes (HTML Editing APIs, "visible", "formattable node").
 use Rattle.std.specs.Prelude.{ℕ, Bool, false, not, ◌&&◌, ◌||◌}
-use Rattle.dom_model.specs.declared.Content.{Content}
-use Rattle.dom_model.specs.Editing.{is_editable}
-use Rattle.dom_model.specs.Forest.{Forest, tree_of}
-use Rattle.dom_model.specs.Forest.Forest.{Nil, Tree}
+use Rattle.node_styles.specs.DomModel.declared.Content.{Content}
+use Rattle.node_styles.specs.DomModel.Editing.{is_editable}
+use Rattle.node_styles.specs.DomModel.Forest.{Forest, tree_of}
+use Rattle.node_styles.specs.DomModel.Forest.Forest.{Nil, Tree}
 use Rattle.node_styles.specs.Blocks.{is_block, is_no_box, is_hidden}
 use Rattle.node_styles.specs.Resolved.{display}
 use Rattle.node_tests.specs.CollapsedWhitespace.{is_words, is_collapsed_whitespace}
-use Rattle.dom_model.specs.Contents.{is_image, is_break}
+use Rattle.node_styles.specs.DomModel.Contents.{is_image, is_break}
 use Rattle.node_tests.specs.SolidNeighbours.{is_extraneous_break}
 
 -- a block, Words that is no collapsed whitespace, an image, or a br that isn't extraneous

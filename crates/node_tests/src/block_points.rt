@@ -1,17 +1,17 @@
 //! Places where a block starts or ends.
 
 ghost use Rattle.std.specs.Prelude.{◌≡◌, ◌<◌, IfSome, is_none};
-ghost use Rattle.dom_model.specs.Forest.{count_of, parent_of};
-ghost use Rattle.node_arena.specs.Held.{label};
-ghost use Rattle.node_arena.specs.Reads.{Names};
+ghost use Rattle.node_styles.specs.DomModel.Forest.{count_of, parent_of};
+ghost use Rattle.node_styles.specs.NodeArena.Held.{label};
+ghost use Rattle.node_styles.specs.NodeArena.Reads.{Names};
 ghost use Rattle.node_tests.specs.BlockPoints as points;
 
 use crate::neighbours::is_nothing;
 use crate::sides::Side;
 use crate::visible::is_visible;
-use live_range::Point;
-use node_arena::{NodeRef, Nodes, is_break};
+use node_styles::arena::{NodeRef, Nodes, is_break};
 use node_styles::is_block;
+use point_order::dom_ranges::Point;
 
 /// The child at an offset.
 pub fn child_at<N: Nodes>(nodes: &N, node: NodeRef, offset: u32) -> Option<NodeRef>

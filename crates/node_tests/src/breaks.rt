@@ -1,8 +1,8 @@
 //! Whether a node follows or precedes a line break.
 
 ghost use Rattle.std.specs.Prelude.{◌≡◌, ◌||◌, ◌&&◌, ◌+◌, ◌*◌, is_none, IfSome};
-ghost use Rattle.dom_model.specs.Forest.{parent_of};
-ghost use Rattle.node_arena.specs.Held.{label};
+ghost use Rattle.node_styles.specs.DomModel.Forest.{parent_of};
+ghost use Rattle.node_styles.specs.NodeArena.Held.{label};
 ghost use Rattle.node_tests.specs.Gaps as gaps;
 ghost use Rattle.node_tests.specs.LineBreaks as line_breaks;
 ghost use Rattle.node_tests.specs.declared.sides.Side as sides;
@@ -12,7 +12,7 @@ use crate::block_points::{ends_before, is_root, starts_after};
 use crate::neighbours::is_nothing;
 use crate::sides::{Side, other};
 use crate::visible::is_visible;
-use node_arena::{NodeRef, Nodes};
+use node_styles::arena::{NodeRef, Nodes};
 use node_styles::turn_bound;
 
 // A place in a node, by the children beside it.

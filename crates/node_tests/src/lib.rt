@@ -26,13 +26,15 @@ pub use block_points::{
 pub use breaks::{follows_break, precedes_break};
 pub use listing::{contained_nodes, effective_nodes};
 pub use neighbours::{is_collapsed_break, is_extraneous_break, is_words};
-pub use node_arena::{has_name, is_break, is_image};
+pub use node_styles as styles;
+pub use node_styles::arena::{has_name, is_break, is_image};
 pub use node_styles::{
-    allowed_in, allowed_in_name, is_block, is_editable, is_element, is_format_candidate,
-    is_formattable_block, is_host, is_indentation, is_non_list_single_line, is_simple_indentation,
-    is_single_line, is_whitespace, name_allowed_in, resolved,
+    allowed_in, allowed_in_name, element_names, is_block, is_editable, is_element,
+    is_format_candidate, is_formattable_block, is_host, is_indentation, is_non_list_single_line,
+    is_simple_indentation, is_single_line, is_whitespace, name_allowed_in, resolved,
 };
-pub use point_order::{is_ancestor, is_within};
+pub use point_order as boundary;
+pub use point_order::{dom_ranges, is_ancestor, is_within};
 pub use props::is_block_prop;
 pub use ranges::{is_contained, is_effectively_contained};
 pub use visible::{is_formattable, is_visible};

@@ -2,8 +2,8 @@
 
 ghost use Rattle.std.specs.Prelude.{◌≡◌, ◌≢◌, ◌<◌, ◌≤◌, ◌-◌, ℕ, length, not, ◌&&◌, ◌||◌, ◌++◌, Bool, Some, None, OnOk, IfOk, map};
 ghost use Rattle.std.specs.List.{All, filter, insert, slice_get};
-ghost use Rattle.dom_model.specs.Forest.{count_of, first_of, parent_of, preorder, tree_of, IsWithin};
-ghost use Rattle.node_arena.specs.Held.{label};
+ghost use Rattle.node_styles.specs.DomModel.Forest.{count_of, first_of, parent_of, preorder, tree_of, IsWithin};
+ghost use Rattle.node_styles.specs.NodeArena.Held.{label};
 ghost use Rattle.point_order.specs.PointOrder.{is_before};
 ghost use Rattle.node_tests.specs.BlockPoints.{child_at};
 ghost use Rattle.node_tests.specs.Listing.{is_at, is_listed, is_wanted, siblings, Leads, Lies, LiesAfter, LiesBefore, Lined, Reaches, Ends};
@@ -12,8 +12,8 @@ ghost use Rattle.node_tests.specs.Ranges as ranges;
 use crate::block_points::child_at;
 use crate::neighbours::is_nothing;
 use crate::ranges::{end_cuts, is_partial, start_cuts};
-use live_range::Point;
-use node_arena::{NodeList, NodeRef, Nodes};
+use node_styles::arena::{NodeList, NodeRef, Nodes};
+use point_order::dom_ranges::Point;
 use point_order::{comes_before, node_of, root_of};
 use std::alloc::{AllocError, Global};
 

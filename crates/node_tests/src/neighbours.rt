@@ -1,13 +1,13 @@
 //! The solid neighbours of a br, and which brs break no line.
 
 ghost use Rattle.std.specs.Prelude.{◌≡◌, ◌&&◌, is_none};
-ghost use Rattle.dom_model.specs.Forest.{tree_of, prev_of, next_of};
-ghost use Rattle.node_arena.specs.Held.{label};
+ghost use Rattle.node_styles.specs.DomModel.Forest.{tree_of, prev_of, next_of};
+ghost use Rattle.node_styles.specs.NodeArena.Held.{label};
 ghost use Rattle.node_tests.specs.CollapsedWhitespace as whitespace;
 ghost use Rattle.node_tests.specs.SolidNeighbours as neighbours;
 
 use crate::sides::{Side, inward, sibling};
-use node_arena::{Content, NodeRef, Nodes, has_name, is_break, is_image};
+use node_styles::arena::{Content, NodeRef, Nodes, has_name, is_break, is_image};
 use node_styles::{is_block, is_whitespace};
 
 /// What is met first beside a br in its nearest block.

@@ -5,7 +5,7 @@ ghost use Rattle.node_tests.specs.BlockProps as props;
 
 use crate::neighbours::{is_collapsed_break, is_extraneous_break};
 use crate::visible::is_visible;
-use node_arena::{NodeRef, Nodes};
+use node_styles::arena::{NodeRef, Nodes};
 use node_styles::{is_block, is_element};
 
 // Whether a node is a collapsed line break that isn't extraneous.

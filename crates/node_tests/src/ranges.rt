@@ -1,13 +1,13 @@
 //! Which nodes a range contains, and which it contains in effect.
 
 ghost use Rattle.std.specs.Prelude.{◌≡◌, ◌<◌, Bool};
-ghost use Rattle.dom_model.specs.Forest.{count_of, tree_of};
+ghost use Rattle.node_styles.specs.DomModel.Forest.{count_of, tree_of};
 ghost use Rattle.point_order.specs.PointOrder.{is_before};
 ghost use Rattle.node_tests.specs.Ranges as ranges;
 
 use crate::neighbours::is_words;
-use live_range::Point;
-use node_arena::{NodeRef, Nodes};
+use node_styles::arena::{NodeRef, Nodes};
+use point_order::dom_ranges::Point;
 use point_order::{comes_before, is_within, node_of};
 
 /// Whether a range contains a node: the node begins after the start and ends before the end.

@@ -1,10 +1,10 @@
 //! The two ways that a walk may go.
 
 ghost use Rattle.std.specs.Prelude.{◌≡◌};
-ghost use Rattle.node_arena.specs.Reads.{Names};
+ghost use Rattle.node_styles.specs.NodeArena.Reads.{Names};
 ghost use Rattle.node_tests.specs.Sides as sides;
 
-use node_arena::{NodeRef, Nodes};
+use node_styles::arena::{NodeRef, Nodes};
 
 /// A side of a node, to which a walk goes.
 #[derive(Clone, Copy)]

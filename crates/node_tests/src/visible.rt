@@ -1,14 +1,14 @@
 //! Visible and formattable nodes.
 
 ghost use Rattle.std.specs.Prelude.{◌≡◌};
-ghost use Rattle.dom_model.specs.Forest.{tree_of};
+ghost use Rattle.node_styles.specs.DomModel.Forest.{tree_of};
 ghost use Rattle.node_styles.specs.Blocks.{is_no_box};
 ghost use Rattle.node_tests.specs.Visible as visible;
 
 use crate::neighbours::{is_extraneous_break, is_words};
 use crate::whitespace::is_collapsed_whitespace;
-use css_value::Display;
-use node_arena::{NodeRef, Nodes, is_break, is_image};
+use node_styles::arena::{NodeRef, Nodes, is_break, is_image};
+use node_styles::css::Display;
 use node_styles::{display, is_block, is_editable, is_hidden};
 
 // Whether a node itself is seen, where no display none hides it.

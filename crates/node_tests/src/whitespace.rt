@@ -1,13 +1,13 @@
 //! Collapsed whitespace.
 
 ghost use Rattle.std.specs.Prelude.{◌≡◌, None};
-ghost use Rattle.dom_model.specs.Forest.{first_of};
+ghost use Rattle.node_styles.specs.DomModel.Forest.{first_of};
 ghost use Rattle.node_tests.specs.CollapsedWhitespace as whitespace;
 ghost use Rattle.node_tests.specs.Surroundings as before;
 
 use crate::neighbours::{is_solid_neighbour, met_at, neighbour_on};
 use crate::sides::Side;
-use node_arena::{Content, NodeRef, Nodes};
+use node_styles::arena::{Content, NodeRef, Nodes};
 use node_styles::{is_hidden, is_whitespace};
 
 // Whether whitespace collapses at what stands before it: at the first node on the way back that

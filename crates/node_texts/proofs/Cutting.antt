@@ -1,11 +1,11 @@
 -- What a walk between two limits shows at a node.
 use Rattle.std.proofs.Common.{◌≡◌, ℕ, ◌<◌, true, false, Option, Some, refl, sym, ap, ◌∙◌, inl, inr}
 use Rattle.std.proofs.lemmas.Bool.Decides.{eqb_tells}
-use Rattle.dom_model.specs.declared.Content.{Content}
-use Rattle.dom_model.specs.Forest.{Forest, count_of, content_of, first_of, next_of, tree_of, IsDistinct}
-use Rattle.dom_model.specs.Forest.Forest.{Nil, Tree}
-use Rattle.node_paths.specs.Onward.{onward_at}
-use Rattle.node_paths.proofs.Visiting.{Visit}
+use Rattle.node_styles.specs.DomModel.declared.Content.{Content}
+use Rattle.node_styles.specs.DomModel.Forest.{Forest, count_of, content_of, first_of, next_of, tree_of, IsDistinct}
+use Rattle.node_styles.specs.DomModel.Forest.Forest.{Nil, Tree}
+use Rattle.page_write.specs.NodePaths.Onward.{onward_at}
+use Rattle.page_write.proofs.NodePaths.Visiting.{Visit}
 use Rattle.node_texts.specs.declared.between.Limit.{Limit}
 use Rattle.node_texts.specs.declared.between.Limit.TheVariants.{Open, Past, Inside}
 use Rattle.node_texts.specs.Between.{is_over, is_ahead, stands_in, passed, below, content_between, between, IsThere}

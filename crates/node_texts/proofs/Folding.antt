@@ -1,10 +1,10 @@
 -- What a walk makes of those to whom it shows trees.
 use Rattle.std.proofs.Common.{◌≡◌, ℕ, List, ◌++◌, sym, ap, append_assoc, append-nil}
-use Rattle.dom_model.specs.declared.Content.{Content}
-use Rattle.dom_model.specs.Forest.{Forest}
-use Rattle.dom_model.specs.Forest.Forest.{Nil, Tree}
+use Rattle.node_styles.specs.DomModel.declared.Content.{Content}
+use Rattle.node_styles.specs.DomModel.Forest.{Forest}
+use Rattle.node_styles.specs.DomModel.Forest.Forest.{Nil, Tree}
 use Rattle.page_write.specs.Html.{opening, closing, html_of}
-use Rattle.live_range.specs.declared.places.Point.{Point}
+use Rattle.point_order.specs.LiveRange.declared.places.Point.{Point}
 use Rattle.node_texts.specs.Occurrences.{occurrences, points_in}
 use Rattle.node_texts.specs.Walk.{walked}
 

@@ -1,11 +1,11 @@
 -- The innermost node that holds two points, and the contents of their range.
 use Rattle.std.proofs.Common.{◌≡◌, ℕ, ◌<◌, true, false, List, [], ◌∷◌, Option, Some, None, refl, ap, ◌∙◌}
-use Rattle.dom_model.specs.declared.Content.{Content}
-use Rattle.dom_model.specs.Contents.{has_chars}
-use Rattle.dom_model.specs.Forest.{Forest, count_of, content_of, parent_of, first_of, tree_of, IsDistinct}
-use Rattle.dom_model.proofs.Parts.{at_label}
-use Rattle.live_range.specs.declared.places.Point.{Point}
-use Rattle.node_paths.specs.Onward.{onward_at}
+use Rattle.node_styles.specs.DomModel.declared.Content.{Content}
+use Rattle.node_styles.specs.DomModel.Contents.{has_chars}
+use Rattle.node_styles.specs.DomModel.Forest.{Forest, count_of, content_of, parent_of, first_of, tree_of, IsDistinct}
+use Rattle.node_styles.proofs.DomModel.Parts.{at_label}
+use Rattle.point_order.specs.LiveRange.declared.places.Point.{Point}
+use Rattle.page_write.specs.NodePaths.Onward.{onward_at}
 use Rattle.node_styles.specs.Lineage.{Ancestor, lineage}
 use Rattle.node_styles.proofs.Lineages.{ancestor, lineage-root, lineage-child}
 use Rattle.point_order.specs.PointOrder.{is_within}

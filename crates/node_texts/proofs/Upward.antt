@@ -2,16 +2,16 @@
 use Rattle.std.proofs.Common.{◌≡◌, ℕ, suc, List, [], ◌∷◌, ◌++◌, Option, Some, None, refl, sym, ap, subst, ◌∙◌, inl, inr}
 use Rattle.std.proofs.lemmas.Bool.Decides.{eqb_tells}
 use Rattle.std.specs.Option.{option_map}
-use Rattle.dom_model.specs.declared.Content.{Content}
-use Rattle.dom_model.specs.Forest.{Forest, either, parent_of, IsDistinct, IsWithin}
-use Rattle.dom_model.specs.Forest.Forest.{Nil, Tree}
-use Rattle.dom_model.specs.Places.{kids_in, index_of}
-use Rattle.dom_model.proofs.Walks.{document_first}
-use Rattle.dom_model.proofs.Within.{within_step}
-use Rattle.node_arena.specs.declared.NodeRef.{NodeRef}
-use Rattle.node_arena.specs.Reads.{IsValid}
-use Rattle.node_paths.specs.Paths.{node_in, path_in, label_at, path_of, stepped}
-use Rattle.node_paths.proofs.Ways.{path_of-child, root_is}
+use Rattle.node_styles.specs.DomModel.declared.Content.{Content}
+use Rattle.node_styles.specs.DomModel.Forest.{Forest, either, parent_of, IsDistinct, IsWithin}
+use Rattle.node_styles.specs.DomModel.Forest.Forest.{Nil, Tree}
+use Rattle.node_styles.specs.DomModel.Places.{kids_in, index_of}
+use Rattle.node_styles.proofs.DomModel.Walks.{document_first}
+use Rattle.node_styles.proofs.DomModel.Within.{within_step}
+use Rattle.node_styles.specs.NodeArena.declared.NodeRef.{NodeRef}
+use Rattle.node_styles.specs.NodeArena.Reads.{IsValid}
+use Rattle.page_write.specs.NodePaths.Paths.{node_in, path_in, label_at, path_of, stepped}
+use Rattle.page_write.proofs.NodePaths.Ways.{path_of-child, root_is}
 
 -- ---- a path leads to its node
 

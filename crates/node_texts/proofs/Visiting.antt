@@ -1,19 +1,19 @@
 -- What a walk needs at a node of any nodes that can be read.
 use Rattle.std.proofs.Common.{◌≡◌, ◌⊎◌, ℕ, zero, suc, ◌+◌, ◌<◌, ◌≤◌, ◌^◌, Option, Some, IfSome, refl, sym, ap, ◌∙◌, inl, inr, arith}
 use Rattle.std.proofs.lemmas.Bool.Decides.{eqb_tells}
-use Rattle.dom_model.specs.declared.Content.{Content}
-use Rattle.dom_model.specs.Contents.{char_length, IsNode}
-use Rattle.dom_model.specs.Forest.{Forest, join, count_of, content_of, first_of, next_of, tree_of, IsDistinct}
-use Rattle.dom_model.specs.Forest.Forest.{Nil, Tree}
-use Rattle.dom_model.specs.Places.{onward, or_else}
-use Rattle.dom_model.proofs.Links.{tree_of_absent, seen}
-use Rattle.dom_model.proofs.Parts.{onward_absent, at_label}
-use Rattle.node_arena.specs.declared.NodeRef.{NodeRef}
-use Rattle.node_arena.specs.Held.{label}
-use Rattle.node_arena.specs.Reads.{IsValid, Names}
-use Rattle.node_paths.specs.Onward.{onward_at, IsInner}
-use Rattle.node_paths.proofs.Onward.{children_led}
-use Rattle.node_paths.proofs.Visiting.{Visit, visit, size_from, inner_first}
+use Rattle.node_styles.specs.DomModel.declared.Content.{Content}
+use Rattle.node_styles.specs.DomModel.Contents.{char_length, IsNode}
+use Rattle.node_styles.specs.DomModel.Forest.{Forest, join, count_of, content_of, first_of, next_of, tree_of, IsDistinct}
+use Rattle.node_styles.specs.DomModel.Forest.Forest.{Nil, Tree}
+use Rattle.node_styles.specs.DomModel.Places.{onward, or_else}
+use Rattle.node_styles.proofs.DomModel.Links.{tree_of_absent, seen}
+use Rattle.node_styles.proofs.DomModel.Parts.{onward_absent, at_label}
+use Rattle.node_styles.specs.NodeArena.declared.NodeRef.{NodeRef}
+use Rattle.node_styles.specs.NodeArena.Held.{label}
+use Rattle.node_styles.specs.NodeArena.Reads.{IsValid, Names}
+use Rattle.page_write.specs.NodePaths.Onward.{onward_at, IsInner}
+use Rattle.page_write.proofs.NodePaths.Onward.{children_led}
+use Rattle.page_write.proofs.NodePaths.Visiting.{Visit, visit, size_from, inner_first}
 use Rattle.node_texts.specs.Walk.{walked}
 
 -- ---- the tree of a node

@@ -2,12 +2,12 @@
 use Rattle.std.specs.Prelude.{ℕ, ◌-◌, ◌<◌, ◌==◌, nat_lt, not, List, take, drop, Bool, false, Option, Some, None, if◌then◌else◌}
 use Rattle.std.specs.List.{find}
 use Rattle.std.specs.Option.{option_map, option_map_or}
-use Rattle.dom_model.specs.declared.Content.{Content}
-use Rattle.dom_model.specs.declared.Content.TheVariants.{Words, Remark}
-use Rattle.dom_model.specs.Contents.{has_chars}
-use Rattle.dom_model.specs.Forest.{Forest, count_of, tree_of}
-use Rattle.dom_model.specs.Forest.Forest.{Nil, Tree}
-use Rattle.live_range.specs.declared.places.Point.{Point}
+use Rattle.node_styles.specs.DomModel.declared.Content.{Content}
+use Rattle.node_styles.specs.DomModel.declared.Content.TheVariants.{Words, Remark}
+use Rattle.node_styles.specs.DomModel.Contents.{has_chars}
+use Rattle.node_styles.specs.DomModel.Forest.{Forest, count_of, tree_of}
+use Rattle.node_styles.specs.DomModel.Forest.Forest.{Nil, Tree}
+use Rattle.point_order.specs.LiveRange.declared.places.Point.{Point}
 use Rattle.node_styles.specs.Lineage.{lineage}
 use Rattle.point_order.specs.PointOrder.{is_within}
 use Rattle.node_texts.specs.declared.between.Limit.{Limit}

@@ -1,8 +1,8 @@
 -- The HTML of a node, and of a range.
 use Rattle.std.specs.Prelude.{ℕ, List}
-use Rattle.dom_model.specs.declared.Content.{Content}
-use Rattle.dom_model.specs.Forest.{Forest, tree_of}
-use Rattle.live_range.specs.declared.places.Point.{Point}
+use Rattle.node_styles.specs.DomModel.declared.Content.{Content}
+use Rattle.node_styles.specs.DomModel.Forest.{Forest, tree_of}
+use Rattle.point_order.specs.LiveRange.declared.places.Point.{Point}
 use Rattle.page_write.specs.Html.{html_of}
 use Rattle.node_texts.specs.Between.{range_contents}
 

@@ -1,11 +1,11 @@
 -- Where characters occur in the texts of trees.
 use Rattle.std.specs.Prelude.{ℕ, zero, suc, ◌-◌, ◌++◌, List, [], ◌∷◌, length, map, if◌then◌else◌, nat_eq}
 use Rattle.std.specs.List.{starts_with}
-use Rattle.dom_model.specs.declared.Content.{Content}
-use Rattle.dom_model.specs.declared.Content.TheVariants.{Words}
-use Rattle.dom_model.specs.Forest.{Forest, tree_of}
-use Rattle.dom_model.specs.Forest.Forest.{Nil, Tree}
-use Rattle.live_range.specs.declared.places.Point.{Point}
+use Rattle.node_styles.specs.DomModel.declared.Content.{Content}
+use Rattle.node_styles.specs.DomModel.declared.Content.TheVariants.{Words}
+use Rattle.node_styles.specs.DomModel.Forest.{Forest, tree_of}
+use Rattle.node_styles.specs.DomModel.Forest.Forest.{Nil, Tree}
+use Rattle.point_order.specs.LiveRange.declared.places.Point.{Point}
 
 -- the offsets at which `wanted` occurs in characters that begin at an offset. The first `within` of
 -- them belong to an occurrence before them, and none begins there.

@@ -1,7 +1,7 @@
 -- A part of a text or a comment is left as the whole is.
 use Rattle.std.specs.Prelude.{◌≡◌, ℕ, Option, refl}
-use Rattle.dom_model.specs.declared.Content.{Content}
-use Rattle.dom_model.specs.declared.Content.TheVariants.{Document, Element, Words, Remark}
+use Rattle.node_styles.specs.DomModel.declared.Content.{Content}
+use Rattle.node_styles.specs.DomModel.declared.Content.TheVariants.{Document, Element, Words, Remark}
 use Rattle.node_styles.specs.Blocks.{is_block_content}
 use Rattle.page_write.specs.Html.{closing}
 use Rattle.node_texts.specs.Between.{part_of}

@@ -4,12 +4,12 @@
 use Rattle.std.specs.Prelude.{ℕ, ◌-◌, ◌++◌, ◌||◌, ◌&&◌, ◌==◌, not, List, [], ◌∷◌, length, Bool, true, false, if◌then◌else◌, codes}
 use Rattle.std.specs.List.{slice_get}
 use Rattle.std.specs.Option.{option_map_or}
-use Rattle.dom_model.specs.declared.Content.{Content}
-use Rattle.dom_model.specs.declared.Content.TheVariants.{Words}
-use Rattle.dom_model.specs.Forest.{Forest, tree_of}
+use Rattle.node_styles.specs.DomModel.declared.Content.{Content}
+use Rattle.node_styles.specs.DomModel.declared.Content.TheVariants.{Words}
+use Rattle.node_styles.specs.DomModel.Forest.{Forest, tree_of}
 use Rattle.node_styles.specs.Blocks.{is_block_content}
 use Rattle.node_styles.specs.OwnStyles.{is_named}
-use Rattle.live_range.specs.declared.places.Point.{Point}
+use Rattle.point_order.specs.LiveRange.declared.places.Point.{Point}
 use Rattle.node_texts.specs.Between.{range_contents}
 use Rattle.node_texts.specs.Walk.{walked}
 

@@ -1,7 +1,7 @@
 -- A walk over trees.
 use Rattle.std.specs.Prelude.{ℕ}
-use Rattle.dom_model.specs.Forest.{Forest}
-use Rattle.dom_model.specs.Forest.Forest.{Nil, Tree}
+use Rattle.node_styles.specs.DomModel.Forest.{Forest}
+use Rattle.node_styles.specs.DomModel.Forest.Forest.{Nil, Tree}
 
 -- what a walk makes of something that changes as each node is entered before its children, and as
 -- it is left after them

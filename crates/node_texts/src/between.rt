@@ -1,17 +1,17 @@
 //! What stands between two points (DOM Standard, "clone the contents" of a range).
 
 ghost use Rattle.std.specs.Prelude.{◌≡◌, ◌<◌, ◌^◌, OnOk, IfSome};
-ghost use Rattle.dom_model.specs.Contents.{has_chars};
-ghost use Rattle.dom_model.specs.Forest.{count_of, tree_of};
-ghost use Rattle.node_arena.specs.Held.{label};
-ghost use Rattle.node_arena.specs.Reads.{Names};
-ghost use Rattle.node_paths.specs.Onward.{onward_at, IsInner};
+ghost use Rattle.node_styles.specs.DomModel.Contents.{has_chars};
+ghost use Rattle.node_styles.specs.DomModel.Forest.{count_of, tree_of};
+ghost use Rattle.node_styles.specs.NodeArena.Held.{label};
+ghost use Rattle.node_styles.specs.NodeArena.Reads.{Names};
+ghost use Rattle.page_write.specs.NodePaths.Onward.{onward_at, IsInner};
 ghost use Rattle.node_texts.specs.Between as cut;
 ghost use Rattle.node_texts.specs.Walk.{walked};
 
 use crate::walk::Visitor;
-use live_range::Point;
-use node_arena::{Content, NodeRef, Nodes};
+use node_styles::arena::{Content, NodeRef, Nodes};
+use point_order::dom_ranges::Point;
 use point_order::{is_within, node_of};
 use std::alloc::AllocError;
 
@@ -97,7 +97,7 @@ pub(crate) fn chars_part(chars: &[char], from: u32, to: Option<u32>) -> &[char]
 /// One to whom a part of a text or a comment can be shown.
 pub(crate) trait PartVisitor: Visitor {
     ghost use Rattle.std.specs.Prelude.{ℕ, Option};
-    ghost use Rattle.dom_model.specs.declared.Content.{Content};
+    ghost use Rattle.node_styles.specs.DomModel.declared.Content.{Content};
     ghost use Rattle.node_texts.specs.Between.{part_of};
 
     /// Shows a node whose children come next, of a text or a comment the characters from an offset

@@ -2,17 +2,17 @@
 
 ghost use Rattle.std.specs.Prelude.{◌≡◌, ◌<◌, ◌++◌, OnOk, IfOk};
 ghost use Rattle.page_write.specs.Html.{text_char, text_html, end_tag, comment_html, opening, closing};
-ghost use Rattle.dom_model.specs.Forest.{count_of};
+ghost use Rattle.node_styles.specs.DomModel.Forest.{count_of};
 ghost use Rattle.node_texts.specs.NodeHtml.{node_html, range_html};
 
 use crate::between::{PartVisitor, chars_part, walk_range};
 use crate::walk::{Visitor, walk};
-use dom_model::{Content, Name};
-use escaped_text::{push_char, push_chars};
-use html_names::is_void;
-use live_range::Point;
-use node_arena::{NodeRef, Nodes};
+use node_styles::arena::{NodeRef, Nodes};
+use node_styles::dom::{Content, Name};
+use page_write::element_names::is_void;
+use page_write::escapes::{push_char, push_chars};
 use page_write::push_start_tag;
+use point_order::dom_ranges::Point;
 use std::alloc::{AllocError, Global};
 use std::marker::Model;
 

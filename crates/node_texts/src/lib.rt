@@ -10,6 +10,8 @@ mod walk;
 mod ways;
 
 pub use html::{node_html, range_html};
+pub use node_styles as styles;
+pub use node_styles::{css, properties};
 pub use occurrences::find;
 pub use plain::{plain_text, range_text};
 pub use ways::path_of;

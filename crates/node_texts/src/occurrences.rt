@@ -4,9 +4,9 @@ ghost use Rattle.std.specs.Prelude.{◌≡◌, ◌<◌, ◌^◌, ◌++◌, lengt
 ghost use Rattle.node_texts.specs.Occurrences.{offsets, points_at, points_in, found_in};
 
 use crate::walk::{Visitor, walk};
-use dom_model::Content;
-use live_range::Point;
-use node_arena::{NodeRef, Nodes};
+use node_styles::arena::{NodeRef, Nodes};
+use node_styles::dom::Content;
+use point_order::dom_ranges::Point;
 use std::alloc::{AllocError, Global};
 use std::marker::Model;
 
@@ -19,7 +19,7 @@ struct Finder<'a> {
 
 impl<'a> Model for Finder<'a> {
     ghost use Rattle.std.specs.Prelude.{ℕ, List};
-    ghost use Rattle.live_range.specs.declared.places.Point.{Point};
+    ghost use Rattle.point_order.specs.LiveRange.declared.places.Point.{Point};
 
     ghost Value = { List ℕ × List Point };
 

@@ -3,14 +3,14 @@
 ghost use Rattle.std.specs.Prelude.{◌≡◌, ◌<◌, ◌^◌, ◌++◌, ◌||◌, OnOk, IfOk};
 ghost use Rattle.node_texts.specs.Between.{part_of};
 ghost use Rattle.node_texts.specs.PlainText.{own_text, is_line_start, with_text, plain_text, range_text};
-ghost use Rattle.dom_model.specs.Forest.{count_of};
+ghost use Rattle.node_styles.specs.DomModel.Forest.{count_of};
 
 use crate::between::{PartVisitor, chars_part, walk_range};
 use crate::walk::{Visitor, walk};
-use dom_model::Content;
-use live_range::Point;
-use node_arena::{NodeRef, Nodes};
+use node_styles::arena::{NodeRef, Nodes};
+use node_styles::dom::Content;
 use node_styles::{is_block_content, is_element_named};
+use point_order::dom_ranges::Point;
 use std::alloc::{AllocError, Global};
 use std::marker::Model;
 

@@ -1,19 +1,19 @@
 //! A walk over trees in tree order.
 
 ghost use Rattle.std.specs.Prelude.{◌≡◌, ◌<◌, ◌^◌, OnOk, IfSome};
-ghost use Rattle.dom_model.specs.Contents.{char_length};
-ghost use Rattle.dom_model.specs.Forest.{tree_of};
-ghost use Rattle.node_arena.specs.Held.{label};
-ghost use Rattle.node_paths.specs.Onward.{onward_at, IsInner};
+ghost use Rattle.node_styles.specs.DomModel.Contents.{char_length};
+ghost use Rattle.node_styles.specs.DomModel.Forest.{tree_of};
+ghost use Rattle.node_styles.specs.NodeArena.Held.{label};
+ghost use Rattle.page_write.specs.NodePaths.Onward.{onward_at, IsInner};
 ghost use Rattle.node_texts.specs.Walk.{walked};
 
-use node_arena::{Content, NodeRef, Nodes};
+use node_styles::arena::{Content, NodeRef, Nodes};
 use std::alloc::AllocError;
 
 /// One to whom the nodes of trees are shown: each before its children, and again after them.
 pub(crate) trait Visitor {
     ghost use Rattle.std.specs.Prelude.{ℕ};
-    ghost use Rattle.dom_model.specs.declared.Content.{Content};
+    ghost use Rattle.node_styles.specs.DomModel.declared.Content.{Content};
 
     // what it is after it has entered a node, and after it has left one
     ghost entered: { Self → ℕ → Content → Self };

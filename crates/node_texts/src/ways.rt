@@ -1,10 +1,10 @@
 //! The path to a node.
 
 ghost use Rattle.std.specs.Prelude.{◌≡◌, IfOk, Some};
-ghost use Rattle.dom_model.specs.Forest.{IsWithin};
-ghost use Rattle.node_paths.specs.Paths.{path_of, label_at};
+ghost use Rattle.node_styles.specs.DomModel.Forest.{IsWithin};
+ghost use Rattle.page_write.specs.NodePaths.Paths.{path_of, label_at};
 
-use node_arena::{NodeRef, Nodes};
+use node_styles::arena::{NodeRef, Nodes};
 use std::alloc::{AllocError, Global};
 
 /// The path to a node of the document: the index of a child in each node on the way.

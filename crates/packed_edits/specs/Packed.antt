@@ -2,9 +2,9 @@
 -- after the count of its bytes.
 use Rattle.std.specs.Prelude.{ℕ, List, [], ◌∷◌, ◌++◌, length, flat_map, Option, Some, None, encode_utf8_all}
 use Rattle.std.specs.Int.{w64, to_le_bytes}
-use Rattle.dom_model.specs.declared.attributes.Attribute.{Attribute}
-use Rattle.dom_model.specs.declared.Content.{Content}
-use Rattle.dom_model.specs.declared.Content.TheVariants.{Document, Element, Words, Remark}
+use Rattle.document_edits.specs.DomModel.declared.attributes.Attribute.{Attribute}
+use Rattle.document_edits.specs.DomModel.declared.Content.{Content}
+use Rattle.document_edits.specs.DomModel.declared.Content.TheVariants.{Document, Element, Words, Remark}
 use Rattle.document_edits.specs.declared.edit.DocumentEdit.{DocumentEdit}
 use Rattle.document_edits.specs.declared.edit.DocumentEdit.TheVariants.{Remove, Insert, Move, Replace, SetAttributes}
 use Rattle.document_edits.specs.declared.edit.TreeNode.{TreeNode}

@@ -4,12 +4,13 @@
 
 ghost use Rattle.std.specs.Prelude.{◌≡◌, ◌++◌, OnOk, IfOk, Some, slice_get};
 ghost use Rattle.std.specs.Prelude.{encode_utf8_all};
-ghost use Rattle.dom_model.specs.declared.attributes.Attribute.{Attribute};
+ghost use Rattle.document_edits.specs.DomModel.declared.attributes.Attribute.{Attribute};
 ghost use Rattle.packed_edits.specs.Packed as spec;
 
+use document_edits::dom::{Attributes, Content};
 use document_edits::{DocumentEdit, TreeNode};
-use dom_model::{Attributes, Content};
-use escaped_text::push_chars;
+use page_write::escapes::push_chars;
+pub use page_write::{element_names, escapes};
 use std::alloc::{AllocError, Global};
 
 /// The label that stands where there is none: no node has it.

@@ -23,3 +23,4 @@ pub mod Labels
 pub mod Due
 pub mod TreeConstructionLemmas
 pub mod ReaderAnswers
+pub use Rattle.dom_model.proofs as DomModel

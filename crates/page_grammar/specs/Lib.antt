@@ -11,3 +11,5 @@ pub mod Rows
 pub mod Nodes
 pub mod Reading
 pub mod TreeConstruction
+pub use Rattle.dom_model.specs as DomModel
+pub use Rattle.html_names.specs as HtmlNames

@@ -22,6 +22,9 @@ ghost use Rattle.page_grammar.specs.Reading.{Reading, Children, Refused, page_re
 
 pub mod classes;
 
+pub use dom_model as dom;
+pub use html_names as element_names;
+
 /// The machine reads each page to its end, and emits its children.
 pub fn pages_are_read()
     ensures { (d c : ℕ) (s : List ℕ) (f : Siblings) → Page d c s f → (m : Machine)

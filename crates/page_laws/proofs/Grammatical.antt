@@ -5,7 +5,7 @@ use Rattle.std.specs.List.{AllByRecursion}
 use Rattle.std.proofs.lemmas.Bool.{cases_Bool}
 use Rattle.std.proofs.lemmas.Bool.Decides.{nat_tests}
 use Rattle.std.proofs.Math.Utf8.{scalar, scalars}
-use Rattle.dom_model.specs.Forest.Forest.{Nil as Empty}
+use Rattle.page_grammar.specs.DomModel.Forest.Forest.{Nil as Empty}
 use Rattle.page_grammar.specs.Chars.{is_space, lower, is_letter, is_digit, is_name_char, is_control, is_attribute_name_char, entities, is_referable}
 use Rattle.page_grammar.specs.Names.{is_void, is_refused}
 use Rattle.page_grammar.specs.Page.{Attribute, Siblings, Nil, TextNode, CommentNode, ElementNode, size, NotText, IsNil, Spaces, IsEntity, IsBody, OneChar, Text, NameChars, ElementName, AttributeNameChars, AttributeValue, Attributes, StartTag, NameAgain, EndTag, starts_close, CommentText, Content}

@@ -7,7 +7,7 @@ use Rattle.std.proofs.lemmas.List.Folds.{list_any-append}
 use Rattle.std.proofs.lemmas.Slice.Eq.{bytes_eq-Decides}
 use Rattle.std.proofs.lemmas.Str.{encodes_same}
 use Rattle.std.proofs.Math.Utf8.{scalars, encodes}
-use Rattle.dom_model.specs.AttributeList.{names_of, IsDistinctNames}
+use Rattle.page_grammar.specs.DomModel.AttributeList.{names_of, IsDistinctNames}
 use Rattle.page_grammar.specs.Names.{same_text}
 use Rattle.page_grammar.specs.Page.{Attribute, has_attribute}
 use Rattle.page_grammar.specs.Nodes.{attributes_of}

@@ -2,12 +2,12 @@
 use Rattle.std.proofs.Common.{◌≡◌, ℕ, pred, ◌≤◌, List, [], ◌∷◌, length, refl, sym, ap, ◌∙◌, subst}
 use Rattle.std.specs.List.{AllByRecursion}
 use Rattle.std.proofs.lemmas.List.{append-nil}
-use Rattle.dom_model.specs.declared.attributes.Attribute.{Attribute}
-use Rattle.dom_model.specs.declared.Content.{Content}
-use Rattle.dom_model.specs.declared.Content.TheVariants.{Document, Element, Words, Remark}
-use Rattle.dom_model.specs.Forest.{Forest}
-use Rattle.dom_model.specs.Forest.Forest.{Nil, Tree}
-use Rattle.dom_model.specs.Places.{kids_in}
+use Rattle.page_grammar.specs.DomModel.declared.attributes.Attribute.{Attribute}
+use Rattle.page_grammar.specs.DomModel.declared.Content.{Content}
+use Rattle.page_grammar.specs.DomModel.declared.Content.TheVariants.{Document, Element, Words, Remark}
+use Rattle.page_grammar.specs.DomModel.Forest.{Forest}
+use Rattle.page_grammar.specs.DomModel.Forest.Forest.{Nil, Tree}
+use Rattle.page_grammar.specs.DomModel.Places.{kids_in}
 use Rattle.page_grammar.specs.Page as page
 use Rattle.page_grammar.specs.Bytes.{PageBytes}
 use Rattle.page_grammar.specs.Kind.{page_limit}

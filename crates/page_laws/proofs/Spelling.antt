@@ -4,9 +4,9 @@ use Rattle.std.specs.Prelude.{◌==◌, if◌then◌else◌, codes}
 use Rattle.std.specs.Bool.{MatchBool}
 use Rattle.std.specs.List.{AllByRecursion}
 use Rattle.std.proofs.lemmas.Bool.{cases_Bool, eqb-false}
-use Rattle.dom_model.specs.declared.Content.{Content as NodeContent}
-use Rattle.dom_model.specs.Forest.{Forest}
-use Rattle.dom_model.specs.Forest.Forest.{Nil as Empty}
+use Rattle.page_grammar.specs.DomModel.declared.Content.{Content as NodeContent}
+use Rattle.page_grammar.specs.DomModel.Forest.{Forest}
+use Rattle.page_grammar.specs.DomModel.Forest.Forest.{Nil as Empty}
 use Rattle.page_grammar.specs.Chars.{entities}
 use Rattle.page_grammar.specs.Names.{is_void}
 use Rattle.page_grammar.specs.Page.{Attribute, Siblings, Nil, TextNode, CommentNode, ElementNode, size, NotText, IsNil, IsEntity, OneChar, Text, NameChars, ElementName, AttributeNameChars, Attributes, StartTag, NameAgain, EndTag, starts_close, CommentText, Content}

@@ -3,11 +3,11 @@
 use Rattle.std.proofs.Common.{◌≡◌, ℕ, suc, pred, ◌<◌, ◌≤◌, true, List, [], ◌∷◌, ◌++◌, length, refl, sym, ap, ◌∙◌, subst, append_assoc, arith}
 use Rattle.std.proofs.lemmas.Grind.{flat_map-append}
 use Rattle.std.proofs.Math.Utf8.{scalars}
-use Rattle.dom_model.specs.declared.attributes.Attribute.{Attribute}
-use Rattle.dom_model.specs.declared.Content.{Content}
-use Rattle.dom_model.specs.declared.Content.TheVariants.{Document, Element, Words, Remark}
-use Rattle.dom_model.specs.Forest.{Forest}
-use Rattle.dom_model.specs.Forest.Forest.{Nil, Tree}
+use Rattle.page_grammar.specs.DomModel.declared.attributes.Attribute.{Attribute}
+use Rattle.page_grammar.specs.DomModel.declared.Content.{Content}
+use Rattle.page_grammar.specs.DomModel.declared.Content.TheVariants.{Document, Element, Words, Remark}
+use Rattle.page_grammar.specs.DomModel.Forest.{Forest}
+use Rattle.page_grammar.specs.DomModel.Forest.Forest.{Nil, Tree}
 use Rattle.page_grammar.proofs.Facts.{scalars_app}
 use Rattle.page_write.specs.Html.{text_char, text_html, opening, closing, html_of}
 use Rattle.page_laws.specs.Writable.{IsElement, IsWritableNode, IsWritable}

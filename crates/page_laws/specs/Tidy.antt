@@ -1,10 +1,10 @@
 -- Trees as reading leaves them: texts are maximal runs, and labels are drawn in tree order. And any
 -- tree made so.
 use Rattle.std.specs.Prelude.{◌≡◌, ℕ, suc, ◌<◌, List, [], ◌∷◌, ◌++◌, length}
-use Rattle.dom_model.specs.declared.Content.{Content}
-use Rattle.dom_model.specs.declared.Content.TheVariants.{Document, Element, Words, Remark}
-use Rattle.dom_model.specs.Forest.{Forest}
-use Rattle.dom_model.specs.Forest.Forest.{Nil, Tree}
+use Rattle.page_grammar.specs.DomModel.declared.Content.{Content}
+use Rattle.page_grammar.specs.DomModel.declared.Content.TheVariants.{Document, Element, Words, Remark}
+use Rattle.page_grammar.specs.DomModel.Forest.{Forest}
+use Rattle.page_grammar.specs.DomModel.Forest.Forest.{Nil, Tree}
 
 -- its first tree is no text
 abbrev pub NotWords : Forest Content → Type 0

@@ -4,9 +4,9 @@
 #![tactic(auto)]
 
 ghost use Rattle.std.specs.Prelude.{◌≡◌, ◌≤◌, ℕ, List, length};
-ghost use Rattle.dom_model.specs.declared.Content.{Content};
-ghost use Rattle.dom_model.specs.Forest.{Forest};
-ghost use Rattle.dom_model.specs.Places.{kids_in};
+ghost use Rattle.page_grammar.specs.DomModel.declared.Content.{Content};
+ghost use Rattle.page_grammar.specs.DomModel.Forest.{Forest};
+ghost use Rattle.page_grammar.specs.DomModel.Places.{kids_in};
 ghost use Rattle.page_grammar.specs.Page.{Siblings};
 ghost use Rattle.page_grammar.specs.Bytes.{PageBytes};
 ghost use Rattle.page_grammar.specs.Kind.{page_limit};

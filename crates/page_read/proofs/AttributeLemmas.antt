@@ -6,8 +6,8 @@ use Rattle.std.proofs.lemmas.Slice.Eq.{bytes_eq-Decides}
 use Rattle.std.proofs.lemmas.Str.{chars-encodes, encodes-append}
 use Rattle.std.specs.Char.{encode_utf8}
 use Rattle.std.proofs.lemmas.List.{map-append, take_more}
-use Rattle.dom_model.specs.declared.attributes.Attribute.{Attribute}
-use Rattle.dom_model.specs.AttributeList.{value_of, set_in}
+use Rattle.node_arena.specs.DomModel.declared.attributes.Attribute.{Attribute}
+use Rattle.node_arena.specs.DomModel.AttributeList.{value_of, set_in}
 use Rattle.page_grammar.specs.Page.{has_attribute}
 use Rattle.page_grammar.specs.Names.{same_text}
 use Rattle.page_read.specs.View.{read_attributes, read_attribute, EachText}

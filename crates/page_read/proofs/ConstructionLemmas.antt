@@ -2,14 +2,14 @@
 use Rattle.std.proofs.Common.{◌≡◌, ◌≢◌, ℕ, zero, suc, ◌+◌, ◌<◌, true, cond, Option, Some, None, refl, ◌∙◌, inl, inr, arith, eqb, add-one}
 use Rattle.std.proofs.lemmas.Bool.Decides.{eqb_tells, nat_tests}
 use Rattle.std.specs.Option.{option_map}
-use Rattle.dom_model.specs.declared.Content.{Content}
-use Rattle.dom_model.specs.Contents.{is_parent_at, may_have_children}
-use Rattle.dom_model.specs.Forest.{Forest, Seen, with_leaf, count_of, IsDistinct, seek, tree_of, without, put_under, link, CanPut, relinked}
-use Rattle.dom_model.specs.Forest.Forest.{Nil, Tree}
-use Rattle.dom_model.specs.ArenaState.{ArenaState, IsValid, CanLink}
-use Rattle.dom_model.proofs.Links.{tree_of_absent, seek-link, seek-with_leaf_other, seek-with_leaf_new, parent_of-with_leaf, eqb_refl_true}
-use Rattle.dom_model.proofs.Totals.{total-join}
-use Rattle.dom_model.proofs.Stands.{seek_absent}
+use Rattle.node_arena.specs.DomModel.declared.Content.{Content}
+use Rattle.node_arena.specs.DomModel.Contents.{is_parent_at, may_have_children}
+use Rattle.node_arena.specs.DomModel.Forest.{Forest, Seen, with_leaf, count_of, IsDistinct, seek, tree_of, without, put_under, link, CanPut, relinked}
+use Rattle.node_arena.specs.DomModel.Forest.Forest.{Nil, Tree}
+use Rattle.node_arena.specs.DomModel.ArenaState.{ArenaState, IsValid, CanLink}
+use Rattle.node_arena.proofs.DomModel.Links.{tree_of_absent, seek-link, seek-with_leaf_other, seek-with_leaf_new, parent_of-with_leaf, eqb_refl_true}
+use Rattle.node_arena.proofs.DomModel.Totals.{total-join}
+use Rattle.node_arena.proofs.DomModel.Stands.{seek_absent}
 use Rattle.node_arena.specs.declared.NodeRef.{NodeRef}
 use Rattle.node_arena.specs.Held.{Holds, Makes}
 use Rattle.page_read.specs.Construction.{IsOpen, Appends}

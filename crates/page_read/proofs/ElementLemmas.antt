@@ -3,8 +3,8 @@ use Rattle.std.proofs.Common.{◌≡◌, ℕ, suc, ◌+◌, true, false, List, [
 use Rattle.std.specs.Prelude.{Vec}
 use Rattle.std.specs.Global.{Global}
 use Rattle.std.proofs.Math.Utf8.{scalars}
-use Rattle.dom_model.specs.declared.attributes.Attribute.{Attribute}
-use Rattle.dom_model.specs.declared.Content.TheVariants.{Element}
+use Rattle.node_arena.specs.DomModel.declared.attributes.Attribute.{Attribute}
+use Rattle.node_arena.specs.DomModel.declared.Content.TheVariants.{Element}
 use Rattle.node_arena.specs.declared.NodeRef.{NodeRef}
 use Rattle.page_grammar.specs.Machine as machine
 use Rattle.page_grammar.specs.Names.{is_void}

@@ -5,3 +5,5 @@ pub mod ElementLemmas
 pub mod AttributeLemmas
 pub mod EndLemmas
 pub mod ReadLemmas
+pub use Rattle.node_arena.proofs.DomModel
+pub use Rattle.page_grammar.proofs as PageGrammar

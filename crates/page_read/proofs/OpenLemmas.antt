@@ -2,12 +2,12 @@
 use Rattle.std.proofs.Common.{◌≡◌, ◌-◌, List, [], ◌∷◌, ◌++◌, length, map, Some, None, slice_get, refl, sym, ap, subst, ◌∙◌, arith}
 use native.Mathlib.Numerals.{unary_clauses}
 use Rattle.std.proofs.lemmas.List.{reverse-append, map-append}
-use Rattle.dom_model.specs.ArenaState.{ArenaState, IsValid}
-use Rattle.dom_model.specs.Forest.{seek, Seen}
-use Rattle.dom_model.specs.Contents.{IsNode}
-use Rattle.dom_model.specs.declared.Content.{Content}
-use Rattle.dom_model.specs.declared.Content.TheVariants.{Document}
-use Rattle.dom_model.proofs.Links.{seen}
+use Rattle.node_arena.specs.DomModel.ArenaState.{ArenaState, IsValid}
+use Rattle.node_arena.specs.DomModel.Forest.{seek, Seen}
+use Rattle.node_arena.specs.DomModel.Contents.{IsNode}
+use Rattle.node_arena.specs.DomModel.declared.Content.{Content}
+use Rattle.node_arena.specs.DomModel.declared.Content.TheVariants.{Document}
+use Rattle.node_arena.proofs.DomModel.Links.{seen}
 use Rattle.node_arena.specs.declared.NodeRef.{NodeRef}
 use Rattle.node_arena.specs.Held.{Holds}
 use Rattle.page_read.specs.declared.scanner.Scanner.{Scanner}

@@ -1,7 +1,7 @@
 -- From the reader's bytes to the answer.
 use Rattle.std.proofs.Common.{◌≡◌, ℕ, suc, ◌+◌, ◌<◌, ◌≤◌, Bool, true, false, if◌then◌else◌, List, [], ◌∷◌, ◌++◌, length, take, drop, append-nil, drop-cons, length-take-le, get_or, Option, Some, None, refl, sym, ap, subst, ◌∙◌, arith}
 use Rattle.std.proofs.lemmas.List.{take_more, take_all, take-append-drop}
-use Rattle.dom_model.specs.ArenaState.{ArenaState}
+use Rattle.node_arena.specs.DomModel.ArenaState.{ArenaState}
 use Rattle.page_grammar.specs.Machine.{Machine, Lexical, Data, InText, Event, step, quiet, emitted, after_emitting}
 use Rattle.page_grammar.specs.Kind.{Kind, page_limit, kind_of_byte, kind_decoded, begins_node, Unclosed}
 use Rattle.page_grammar.specs.Decoder.{Pending, Decoded, Bad, Part, Whole, decode}

@@ -1,6 +1,6 @@
 -- What reading a page answers.
 use Rattle.std.specs.Prelude.{◌≡◌, ℕ, suc, List, Option, Some, None, Result, Ok, Err}
-use Rattle.dom_model.specs.ArenaState.{ArenaState}
+use Rattle.node_arena.specs.DomModel.ArenaState.{ArenaState}
 use Rattle.page_grammar.specs.Kind.{Kind}
 use Rattle.page_grammar.specs.Nodes.{document_of}
 use Rattle.page_grammar.specs.Page.{Siblings, size}

@@ -1,10 +1,10 @@
 -- Arenas that grow at the end of a parent's children.
 use Rattle.std.specs.Prelude.{◌≡◌, ℕ, suc, true, None}
-use Rattle.dom_model.specs.declared.Content.{Content}
-use Rattle.dom_model.specs.Contents.{is_parent_at}
-use Rattle.dom_model.specs.Forest.{put_under}
-use Rattle.dom_model.specs.Forest.Forest.{Nil, Tree}
-use Rattle.dom_model.specs.ArenaState.{ArenaState}
+use Rattle.node_arena.specs.DomModel.declared.Content.{Content}
+use Rattle.node_arena.specs.DomModel.Contents.{is_parent_at}
+use Rattle.node_arena.specs.DomModel.Forest.{put_under}
+use Rattle.node_arena.specs.DomModel.Forest.Forest.{Nil, Tree}
+use Rattle.node_arena.specs.DomModel.ArenaState.{ArenaState}
 use Rattle.node_arena.specs.declared.NodeRef.{NodeRef}
 use Rattle.node_arena.specs.Held.{Holds}
 

@@ -2,7 +2,7 @@
 -- that grows.
 use Rattle.std.specs.Prelude.{◌≡◌, ℕ, List, [], Option, Some, None, IfSome}
 use Rattle.std.specs.Option.{option_map}
-use Rattle.dom_model.specs.ArenaState.{ArenaState}
+use Rattle.node_arena.specs.DomModel.ArenaState.{ArenaState}
 use Rattle.page_grammar.specs.Machine.{Event, IsEnd, quiet}
 use Rattle.page_grammar.specs.Kind.{kind_of_byte}
 use Rattle.page_grammar.specs.TreeConstruction.{TreeConstruction, construct_all}

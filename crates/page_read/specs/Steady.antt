@@ -1,9 +1,9 @@
 -- What holds of the scanner between characters.
 use Rattle.std.specs.Prelude.{◌≡◌, ℕ, ◌+◌, ◌<◌, ◌≤◌, ◌^◌, Bool, true, false, List, [], ◌∷◌, length, is_some}
 use Rattle.std.proofs.Math.Utf8.{scalars, encodes}
-use Rattle.dom_model.specs.declared.attributes.Attribute.{Attribute}
-use Rattle.dom_model.specs.AttributeList.{value_of}
-use Rattle.dom_model.specs.ArenaState.{ArenaState}
+use Rattle.node_arena.specs.DomModel.declared.attributes.Attribute.{Attribute}
+use Rattle.node_arena.specs.DomModel.AttributeList.{value_of}
+use Rattle.node_arena.specs.DomModel.ArenaState.{ArenaState}
 use Rattle.page_read.specs.declared.scanner.Scanner.{Scanner}
 use Rattle.page_read.specs.declared.scanner.Open.{Open}
 use Rattle.page_read.specs.declared.scanner.Lexical.{Lexical}

@@ -3,9 +3,9 @@
 use Rattle.std.specs.Prelude.{◌≡◌, ℕ, ◌+◌, ◌<◌, Bool, true, false, List, [], ◌∷◌, length, drop, map, reverse, Option, Some, None}
 use Rattle.std.specs.Str.{chars}
 use Rattle.std.proofs.Math.Utf8.{encodes}
-use Rattle.dom_model.specs.declared.attributes.Attribute.{Attribute}
-use Rattle.dom_model.specs.declared.Content.TheVariants.{Element}
-use Rattle.dom_model.specs.ArenaState.{ArenaState}
+use Rattle.node_arena.specs.DomModel.declared.attributes.Attribute.{Attribute}
+use Rattle.node_arena.specs.DomModel.declared.Content.TheVariants.{Element}
+use Rattle.node_arena.specs.DomModel.ArenaState.{ArenaState}
 use Rattle.node_arena.specs.declared.NodeRef.{NodeRef}
 use Rattle.page_grammar.specs.Page as page
 use Rattle.page_grammar.specs.Machine as machine

@@ -1,18 +1,18 @@
 //! Puts new nodes at the end of a parent's children.
 
 ghost use Rattle.std.specs.Prelude.{◌≡◌, ◌<◌, IfOk, OnOk, None};
-ghost use Rattle.dom_model.specs.declared.Content.TheVariants.{Element, Words, Remark};
-ghost use Rattle.dom_model.specs.Forest.{link};
-ghost use Rattle.dom_model.specs.ArenaState.{CanLink};
+ghost use Rattle.node_arena.specs.DomModel.declared.Content.TheVariants.{Element, Words, Remark};
+ghost use Rattle.node_arena.specs.DomModel.Forest.{link};
+ghost use Rattle.node_arena.specs.DomModel.ArenaState.{CanLink};
 ghost use Rattle.node_arena.specs.Held.{Holds};
 ghost use Rattle.page_read.specs.Construction.{IsOpen, Appends, AppendsElement};
 
-use dom_model::{Attributes, Chars, Name};
+use node_arena::dom::{Attributes, Chars, Name};
+use node_arena::stepping::Steps;
 use node_arena::{Arena, NodeRef};
 use std::alloc::AllocError;
 use std::marker::Brand;
 use std::sync::ledger::{Blank, Ledger};
-use step_count::Steps;
 
 fn link_counted<L: Ledger>(arena: &mut Arena, parent: NodeRef, node: NodeRef, blank: Blank)
     requires name { blank.name ≡ L.name }

@@ -15,7 +15,9 @@ mod reference;
 mod scanner;
 
 pub use faults::{PageFault, PageKind};
+pub use node_arena as arena;
 use node_arena::Arena;
+pub use node_arena::{dom, stepping};
 use page_grammar::the_reading_is_the_pages;
 use reader::Reader;
 use std::alloc::Global;

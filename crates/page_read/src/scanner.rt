@@ -17,7 +17,7 @@ use crate::construction::{append_remark, append_words};
 use crate::faults::PageKind;
 use crate::names::is_refused;
 use crate::reference::{Reference, Turn};
-use dom_model::{Attributes, Chars};
+use node_arena::dom::{Attributes, Chars};
 use node_arena::{Arena, NodeRef};
 use page_grammar::classes::{is_letter, is_space, lower};
 use std::alloc::{AllocError, Global};

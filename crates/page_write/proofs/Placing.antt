@@ -4,8 +4,8 @@ use Rattle.std.specs.List.{All}
 use Rattle.std.proofs.lemmas.List.Elements.{All-get_or}
 use Rattle.std.proofs.lemmas.Option.{slice_get_within, get_or_from_slice_get, slice_get_cases}
 use Rattle.std.proofs.Math.Seq.{take-length}
-use Rattle.dom_model.specs.Forest.{Forest, count_of, IsWithin}
-use Rattle.dom_model.proofs.Totals.{total-without}
+use Rattle.node_paths.specs.DomModel.Forest.{Forest, count_of, IsWithin}
+use Rattle.node_paths.proofs.DomModel.Totals.{total-without}
 
 -- what stands below a node of a forest stands in the forest
 pub within_count : {C : Type 0} (f : Forest C) (n l : ℕ) → IsWithin f n l → 0 < count_of f l

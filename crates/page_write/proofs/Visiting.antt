@@ -2,13 +2,13 @@
 use Rattle.std.proofs.Common.{◌≡◌, ℕ, ◌+◌, ◌<◌, ◌≤◌, Option, Some, refl, ap, ◌∙◌, arith, List, [], ◌++◌, append_assoc, codes, ◌^◌}
 use Rattle.page_write.specs.Listing.{lines_of, node_line, indent, document_lines}
 use Rattle.page_write.specs.Html.{opening, closing, html_of, document_html}
-use Rattle.dom_model.specs.declared.Content.{Content}
-use Rattle.dom_model.specs.Forest.{Forest, total, first_of, next_of}
-use Rattle.dom_model.specs.Forest.Forest.{Nil, Tree}
-use Rattle.dom_model.specs.ArenaState.{ArenaState, IsValid}
-use Rattle.dom_model.specs.Places.{kids_in}
-use Rattle.node_arena.specs.declared.NodeRef.{NodeRef}
-use Rattle.node_arena.specs.Held.{NamesHeld, label}
+use Rattle.node_paths.specs.DomModel.declared.Content.{Content}
+use Rattle.node_paths.specs.DomModel.Forest.{Forest, total, first_of, next_of}
+use Rattle.node_paths.specs.DomModel.Forest.Forest.{Nil, Tree}
+use Rattle.node_paths.specs.DomModel.ArenaState.{ArenaState, IsValid}
+use Rattle.node_paths.specs.DomModel.Places.{kids_in}
+use Rattle.node_paths.specs.NodeArena.declared.NodeRef.{NodeRef}
+use Rattle.node_paths.specs.NodeArena.Held.{NamesHeld, label}
 use Rattle.node_paths.specs.Onward.{onward_at, IsInner}
 use Rattle.node_paths.proofs.Visiting.{Visit, size_from, led, size_led, size_here, document_leads, document_inner}
 

@@ -2,12 +2,12 @@
 -- that a page may have).
 use Rattle.std.specs.Prelude.{ℕ, List, [], ◌++◌, if◌then◌else◌, ◌==◌, codes, encode_utf8, encode_utf8_all}
 use Rattle.std.specs.List.{flat_map}
-use Rattle.dom_model.specs.declared.attributes.Attribute.{Attribute}
-use Rattle.dom_model.specs.declared.Content.{Content}
-use Rattle.dom_model.specs.declared.Content.TheVariants.{Document, Element, Words, Remark}
-use Rattle.dom_model.specs.Forest.{Forest}
-use Rattle.dom_model.specs.Forest.Forest.{Nil, Tree}
-use Rattle.dom_model.specs.Places.{kids_in}
+use Rattle.node_paths.specs.DomModel.declared.attributes.Attribute.{Attribute}
+use Rattle.node_paths.specs.DomModel.declared.Content.{Content}
+use Rattle.node_paths.specs.DomModel.declared.Content.TheVariants.{Document, Element, Words, Remark}
+use Rattle.node_paths.specs.DomModel.Forest.{Forest}
+use Rattle.node_paths.specs.DomModel.Forest.Forest.{Nil, Tree}
+use Rattle.node_paths.specs.DomModel.Places.{kids_in}
 use Rattle.html_names.specs.ElementNames.{is_void}
 
 -- a character of a text, and one of an attribute's value

@@ -1,11 +1,11 @@
 -- The listing of trees: a line for each node in tree order, indented by its depth.
 use Rattle.std.specs.Prelude.{ℕ, zero, suc, ◌+◌, List, [], ◌∷◌, ◌++◌, if◌then◌else◌, ◌==◌, codes}
 use Rattle.std.specs.List.{flat_map}
-use Rattle.dom_model.specs.declared.Content.{Content}
-use Rattle.dom_model.specs.declared.Content.TheVariants.{Document, Element, Words, Remark}
-use Rattle.dom_model.specs.Forest.{Forest}
-use Rattle.dom_model.specs.Forest.Forest.{Nil, Tree}
-use Rattle.dom_model.specs.Places.{kids_in}
+use Rattle.node_paths.specs.DomModel.declared.Content.{Content}
+use Rattle.node_paths.specs.DomModel.declared.Content.TheVariants.{Document, Element, Words, Remark}
+use Rattle.node_paths.specs.DomModel.Forest.{Forest}
+use Rattle.node_paths.specs.DomModel.Forest.Forest.{Nil, Tree}
+use Rattle.node_paths.specs.DomModel.Places.{kids_in}
 use Rattle.escaped_text.specs.Escaped.{escaped_bytes}
 use Rattle.page_write.specs.Html.{start_tag}
 

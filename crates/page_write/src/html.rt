@@ -1,15 +1,15 @@
 //! HTML text (HTML Standard, "Serializing HTML fragments").
 
 ghost use Rattle.std.specs.Prelude.{◌≡◌, ◌+◌, ◌<◌, ◌^◌, ◌++◌, OnOk, IfOk, IfSome, IsSome, Some, slice_get};
-ghost use Rattle.dom_model.specs.declared.attributes.Attribute.{Attribute};
-ghost use Rattle.node_arena.specs.Held.{Holds, label};
+ghost use Rattle.node_paths.specs.DomModel.declared.attributes.Attribute.{Attribute};
+ghost use Rattle.node_paths.specs.NodeArena.Held.{Holds, label};
 ghost use Rattle.node_paths.specs.Onward.{onward_at, IsInner};
 ghost use Rattle.page_write.specs.Html.{text_char, value_char, text_html, value_html, attribute_html, attributes_html, start_tag, end_tag, comment_html, opening, closing, html_of, document_html};
 
-use dom_model::{Attributes, Chars, Content, Name};
 use escaped_text::{push_char, push_chars};
 use html_names::is_void;
-use node_arena::{Arena, NodeRef};
+use node_paths::arena::{Arena, NodeRef};
+use node_paths::dom::{Attributes, Chars, Content, Name};
 use std::alloc::{AllocError, Global};
 
 fn push_text_char(bytes: &mut Vec<u8>, c: char) -> Result<(), AllocError>

@@ -1,16 +1,16 @@
 //! Listings: a line for each node in tree order, indented by its depth.
 
 ghost use Rattle.std.specs.Prelude.{◌≡◌, ◌+◌, ◌<◌, ◌^◌, ◌++◌, OnOk, IfOk, IfSome, codes};
-ghost use Rattle.dom_model.specs.Forest.{total};
-ghost use Rattle.node_arena.specs.Held.{Holds, label};
+ghost use Rattle.node_paths.specs.DomModel.Forest.{total};
+ghost use Rattle.node_paths.specs.NodeArena.Held.{Holds, label};
 ghost use Rattle.node_paths.specs.Onward.{onward_at, IsInner};
 ghost use Rattle.escaped_text.specs.Escaped.{escaped_bytes};
 ghost use Rattle.page_write.specs.Listing.{line_byte, on_one_line, node_line, indent, lines_of, document_lines};
 
 use crate::html::push_start_tag;
-use dom_model::{Chars, Content};
 use escaped_text::push_escaped;
-use node_arena::{Arena, NodeRef};
+use node_paths::arena::{Arena, NodeRef};
+use node_paths::dom::{Chars, Content};
 use std::alloc::{AllocError, Global};
 
 fn push_line_byte(bytes: &mut Vec<u8>, byte: u8) -> Result<(), AllocError>

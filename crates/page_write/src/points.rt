@@ -1,11 +1,11 @@
 //! The listing of the kept points.
 
 ghost use Rattle.std.specs.Prelude.{◌≡◌, ◌++◌, OnOk, IfOk, IfSome, Some};
-ghost use Rattle.dom_model.specs.Forest.{IsWithin};
+ghost use Rattle.node_paths.specs.DomModel.Forest.{IsWithin};
 ghost use Rattle.page_write.specs.PointLines.{point_text, selection_lines, mark_line, mark_lines, point_lines, IsIn, AreIn};
 
 use live_range::{Pair, Point, Points};
-use node_arena::Arena;
+use node_paths::arena::Arena;
 use node_paths::{push_decimal, push_path};
 use std::alloc::{AllocError, Global};
 

@@ -3,10 +3,10 @@ use Rattle.std.proofs.Common.{◌≡◌, ℕ, ◌+◌, ◌-◌, ◌<◌, List, [
 use Rattle.std.proofs.lemmas.Bool.{le-leb, lt-leb}
 use Rattle.std.proofs.lemmas.List.{append_assoc, length-append}
 use Rattle.std.specs.Option.{option_and_then}
-use Rattle.dom_model.specs.declared.Content.{Content}
-use Rattle.dom_model.specs.Forest.{Forest, IsDistinct, children_of, first_of, next_of, first_in, after_in, times}
-use Rattle.dom_model.proofs.Lists.{times-append, after_in-middle}
-use Rattle.dom_model.proofs.Links.{times-children_of, eqb_refl_true}
+use Rattle.node_arena.specs.DomModel.declared.Content.{Content}
+use Rattle.node_arena.specs.DomModel.Forest.{Forest, IsDistinct, children_of, first_of, next_of, first_in, after_in, times}
+use Rattle.node_arena.proofs.DomModel.Lists.{times-append, after_in-middle}
+use Rattle.node_arena.proofs.DomModel.Links.{times-children_of, eqb_refl_true}
 use Rattle.point_order.proofs.Toward.{parent_among}
 
 -- a walk over a list that has come to o, with so many of its steps left

@@ -1,10 +1,10 @@
 -- Which labels are in the document.
 use Rattle.std.proofs.Common.{◌≡◌, ◌↔◌, ℕ, Bool, true, false, cond, ◌&&◌, refl, sym, arith, eqb, nat_le}
 use Rattle.std.proofs.lemmas.Bool.{le-ltb, ltb_from_iff}
-use Rattle.dom_model.specs.declared.Content.{Content}
-use Rattle.dom_model.specs.Forest.{Forest, count_of, tree_of, IsWithin}
-use Rattle.dom_model.specs.Contents.{length_of}
-use Rattle.dom_model.proofs.Totals.{total-without}
+use Rattle.node_arena.specs.DomModel.declared.Content.{Content}
+use Rattle.node_arena.specs.DomModel.Forest.{Forest, count_of, tree_of, IsWithin}
+use Rattle.node_arena.specs.DomModel.Contents.{length_of}
+use Rattle.node_arena.proofs.DomModel.Totals.{total-without}
 use Rattle.live_range.specs.declared.places.Point.{Point}
 use Rattle.point_order.specs.PointOrder.{is_in_document, is_placed}
 

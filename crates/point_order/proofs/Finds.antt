@@ -2,8 +2,8 @@
 use Rattle.std.proofs.Common.{◌≡◌, ◌≢◌, ℕ, ◌<◌, Bool, true, false, cond, List, [], ◌∷◌, Some, None, refl, ap, ◌∙◌, inl, inr, arith}
 use Rattle.std.proofs.lemmas.Bool.Decides.{eqb_tells}
 use Rattle.std.specs.List.{find}
-use Rattle.dom_model.specs.Forest.{times}
-use Rattle.dom_model.proofs.Links.{eqb_refl_true}
+use Rattle.node_arena.specs.DomModel.Forest.{times}
+use Rattle.node_arena.proofs.DomModel.Links.{eqb_refl_true}
 
 head_in : (x : ℕ) (xs : List ℕ) → 0 < times (x ∷ xs) x
 head_in x xs = let t = eqb_refl_true x in rw t (omega arith)

@@ -1,9 +1,9 @@
 -- Which of two points comes first, by what is known of the children toward their nodes.
 use Rattle.std.proofs.Common.{◌≡◌, ◌≢◌, ℕ, Option, Some, None, refl, ap, ◌∙◌, inl, inr, nat_lt, nat_le}
 use Rattle.std.proofs.lemmas.Bool.Decides.{eqb_tells}
-use Rattle.dom_model.specs.declared.Content.{Content}
-use Rattle.dom_model.specs.Forest.{Forest, is_label}
-use Rattle.dom_model.specs.Places.{index_of, first_of_two}
+use Rattle.node_arena.specs.DomModel.declared.Content.{Content}
+use Rattle.node_arena.specs.DomModel.Forest.{Forest, is_label}
+use Rattle.node_arena.specs.DomModel.Places.{index_of, first_of_two}
 use Rattle.live_range.specs.declared.places.Point.{Point}
 use Rattle.point_order.specs.PointOrder.{child_toward, is_before, is_before_apart, is_before_below}
 

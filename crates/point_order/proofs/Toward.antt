@@ -2,11 +2,11 @@
 use Rattle.std.proofs.Common.{◌≡◌, ◌≢◌, ℕ, ◌<◌, true, false, [], Option, Some, None, refl, sym, ap, ◌∙◌, arith, nat_lt}
 use Rattle.std.proofs.lemmas.Bool.{lt-ltb, le-ltb}
 use Rattle.std.specs.Option.{option_map_or}
-use Rattle.dom_model.specs.declared.Content.{Content}
-use Rattle.dom_model.specs.Forest.{Forest, Seen, seek, IsDistinct, IsWithin, times, count_of, tree_of, parent_of, children_of}
-use Rattle.dom_model.proofs.Links.{parent_of_child, child_of_parent, parent_count, found_stands}
-use Rattle.dom_model.proofs.Within.{within_self, within_child, within_step, within_root}
-use Rattle.dom_model.proofs.Move.{parent_apart}
+use Rattle.node_arena.specs.DomModel.declared.Content.{Content}
+use Rattle.node_arena.specs.DomModel.Forest.{Forest, Seen, seek, IsDistinct, IsWithin, times, count_of, tree_of, parent_of, children_of}
+use Rattle.node_arena.proofs.DomModel.Links.{parent_of_child, child_of_parent, parent_count, found_stands}
+use Rattle.node_arena.proofs.DomModel.Within.{within_self, within_child, within_step, within_root}
+use Rattle.node_arena.proofs.DomModel.Move.{parent_apart}
 use Rattle.point_order.specs.PointOrder.{is_within, child_toward}
 use Rattle.point_order.proofs.Finds.{find-same, find-none, find-one}
 

@@ -1,10 +1,10 @@
 -- Which of two points comes first (DOM Standard, "boundary point position"), and whether a point
 -- stands in the document.
 use Rattle.std.specs.Prelude.{ℕ, Bool, not, ◌&&◌, ◌==◌, nat_lt, nat_le, Option, Some, None, if◌then◌else◌, find}
-use Rattle.dom_model.specs.declared.Content.{Content}
-use Rattle.dom_model.specs.Forest.{Forest, is_label, count_of, tree_of, children_of}
-use Rattle.dom_model.specs.Contents.{length_of}
-use Rattle.dom_model.specs.Places.{index_of, first_of_two}
+use Rattle.node_arena.specs.DomModel.declared.Content.{Content}
+use Rattle.node_arena.specs.DomModel.Forest.{Forest, is_label, count_of, tree_of, children_of}
+use Rattle.node_arena.specs.DomModel.Contents.{length_of}
+use Rattle.node_arena.specs.DomModel.Places.{index_of, first_of_two}
 use Rattle.live_range.specs.declared.places.Point.{Point}
 
 -- a node is another, or stands below it

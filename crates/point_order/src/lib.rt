@@ -5,13 +5,16 @@
 #![tactic(auto)]
 
 ghost use Rattle.std.specs.Prelude.{◌≡◌, ◌<◌, None, length, nat_le};
-ghost use Rattle.dom_model.specs.Contents.{length_of};
-ghost use Rattle.dom_model.specs.Forest.{IsWithin, children_of, count_of, parent_of};
+ghost use Rattle.node_arena.specs.DomModel.Contents.{length_of};
+ghost use Rattle.node_arena.specs.DomModel.Forest.{IsWithin, children_of, count_of, parent_of};
 ghost use Rattle.node_arena.specs.Reads.{Names};
 ghost use Rattle.point_order.specs.PointOrder.{child_toward, is_ancestor, is_before, is_earlier, is_in_document, is_placed, is_within};
 
+pub use live_range as dom_ranges;
 use live_range::Point;
+pub use node_arena as arena;
 use node_arena::{Content, NodeRef, Nodes};
+pub use node_arena::{dom, stepping};
 
 /// The child of `top` that the node is, or stands below; `None` where the node is `top` or isn't in
 /// its tree.

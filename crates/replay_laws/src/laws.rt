@@ -6,8 +6,8 @@ ghost use Rattle.replay_laws.specs.ReadBack.{LabelsSuffice, SessionReadsBack};
 ghost use Rattle.replay_laws.specs.Steps.{SessionReplays};
 ghost use Rattle.replay_laws.specs.Texts.{SessionTextReplays};
 
-use edit_engine::Editor;
-use node_arena::Arena;
+use edit_session::arena::Arena;
+use edit_session::engine::Editor;
 
 /// The text of steps has a line for each of them, and where steps that lines stand for are replayed
 /// `replay` takes their lines.

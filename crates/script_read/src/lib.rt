@@ -11,6 +11,7 @@ mod value;
 mod verb;
 
 pub use act::{Act, LineFault, Path, Place};
+pub use dom_model as dom;
 pub use laws::printed_texts_are_read_back;
 pub use line::read_line;
 pub use parts::{cut, is_name, read_number};

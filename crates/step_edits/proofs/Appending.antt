@@ -2,16 +2,16 @@
 use Rattle.std.proofs.Common.{◌≡◌, ℕ, ◌+◌, ◌<◌, ◌^◌, ◌⊎◌, List, [], ◌∷◌, ◌++◌, Option, Some, refl, sym, ap, ◌∙◌, inl, inr, arith, append_assoc}
 use Rattle.std.proofs.lemmas.Bool.Decides.{eqb_tells}
 use Rattle.std.proofs.lemmas.List.{append-nil}
-use Rattle.dom_model.specs.declared.Content.{Content}
-use Rattle.dom_model.specs.Forest.{Forest, total, count_of, content_of, IsDistinct, tree_of, first_of, next_of}
-use Rattle.dom_model.specs.Forest.Forest.{Nil, Tree}
-use Rattle.dom_model.specs.ArenaState.{ArenaState, IsValid}
-use Rattle.dom_model.specs.Places.{onward, or_else}
-use Rattle.dom_model.proofs.Links.{tree_of_absent, join-Nil}
-use Rattle.dom_model.proofs.Parts.{at_label, onward_absent}
-use Rattle.dom_model.proofs.Totals.{total-without}
-use Rattle.node_arena.specs.declared.NodeRef.{NodeRef}
-use Rattle.node_arena.specs.Held.{Holds, NamesHeld, label}
+use Rattle.document_edits.specs.DomModel.declared.Content.{Content}
+use Rattle.document_edits.specs.DomModel.Forest.{Forest, total, count_of, content_of, IsDistinct, tree_of, first_of, next_of}
+use Rattle.document_edits.specs.DomModel.Forest.Forest.{Nil, Tree}
+use Rattle.document_edits.specs.DomModel.ArenaState.{ArenaState, IsValid}
+use Rattle.document_edits.specs.DomModel.Places.{onward, or_else}
+use Rattle.document_edits.proofs.DomModel.Links.{tree_of_absent, join-Nil}
+use Rattle.document_edits.proofs.DomModel.Parts.{at_label, onward_absent}
+use Rattle.document_edits.proofs.DomModel.Totals.{total-without}
+use Rattle.node_paths.specs.NodeArena.declared.NodeRef.{NodeRef}
+use Rattle.node_paths.specs.NodeArena.Held.{Holds, NamesHeld, label}
 use Rattle.node_paths.specs.Onward.{onward_at, IsInner}
 use Rattle.node_paths.proofs.Onward.{children_led}
 use Rattle.node_paths.proofs.Visiting.{Visit, size_from, led, size_led, size_here, inner_first}

@@ -1,8 +1,8 @@
 -- What a recorder has kept after many steps.
 use Rattle.std.proofs.Common.{◌≡◌, true, List, [], ◌∷◌, ◌++◌, sym, ap, ◌∙◌, append_assoc}
 use Rattle.std.proofs.lemmas.List.{append-nil}
-use Rattle.dom_model.specs.ArenaState.{ArenaState}
-use Rattle.undo_log.specs.Watching.{Seen}
+use Rattle.document_edits.specs.DomModel.ArenaState.{ArenaState}
+use Rattle.edit_steps.specs.UndoLog.Watching.{Seen}
 use Rattle.edit_steps.specs.declared.step.Step.{Step}
 use Rattle.edit_steps.specs.Step.{change_of, changes_of, step_applied}
 use Rattle.document_edits.specs.Told.{told, told_all}

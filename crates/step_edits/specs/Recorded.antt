@@ -1,6 +1,6 @@
 -- What a recorder keeps of the steps that it sees.
 use Rattle.std.specs.Prelude.{◌≡◌, Bool, true, List, ◌++◌}
-use Rattle.dom_model.specs.ArenaState.{ArenaState}
+use Rattle.document_edits.specs.DomModel.ArenaState.{ArenaState}
 use Rattle.edit_steps.specs.declared.step.Step.{Step}
 use Rattle.edit_steps.specs.Step.{change_of}
 use Rattle.document_edits.specs.declared.edit.DocumentEdit.{DocumentEdit}

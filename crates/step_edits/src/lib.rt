@@ -7,6 +7,9 @@ mod splicing;
 mod telling;
 mod trees;
 
+pub use document_edits as document;
+pub use edit_steps as steps;
+pub use edit_steps::history;
 pub use recorder::EditRecorder;
 pub use splicing::spliced_words;
 pub use trees::copy_content;

@@ -6,10 +6,10 @@ ghost use Rattle.step_edits.specs.Recorded.{Recorded, Records};
 use crate::telling::push_told;
 use document_edits::DocumentEdit;
 use edit_steps::Step;
-use node_arena::Arena;
+use edit_steps::history::Watch;
+use node_paths::arena::Arena;
 use std::alloc::{AllocError, Global};
 use std::marker::Model;
-use undo_log::Watch;
 
 /// The edits of the document that steps make, in their order, kept by one who looks on as the steps
 /// are applied to an arena. They are whole as long as memory suffices.

@@ -1,9 +1,9 @@
 //! The characters of a node after a splice.
 
 ghost use Rattle.std.specs.Prelude.{◌≡◌, ◌+◌, ◌≤◌, length, IfOk};
-ghost use Rattle.dom_model.specs.Room.{spliced};
+ghost use Rattle.document_edits.specs.DomModel.Room.{spliced};
 
-use dom_model::{Chars, room};
+use document_edits::dom::{Chars, room};
 use edit_steps::Splice;
 use std::alloc::{AllocError, Global};
 

@@ -1,22 +1,22 @@
 //! The edit of the document that a step makes.
 
 ghost use Rattle.std.specs.Prelude.{◌≡◌, ◌++◌, IfOk, OnOk, true};
-ghost use Rattle.dom_model.specs.Change.{listed};
-ghost use Rattle.dom_model.specs.Change as change;
-ghost use Rattle.dom_model.specs.Contents.{has_chars_at};
-ghost use Rattle.node_arena.specs.Held.{Holds, label};
-ghost use Rattle.forest_changes.specs.Change.{HasPart};
+ghost use Rattle.document_edits.specs.DomModel.Change.{listed};
+ghost use Rattle.document_edits.specs.DomModel.Change as change;
+ghost use Rattle.document_edits.specs.DomModel.Contents.{has_chars_at};
+ghost use Rattle.node_paths.specs.NodeArena.Held.{Holds, label};
+ghost use Rattle.edit_steps.specs.ForestChanges.Change.{HasPart};
 ghost use Rattle.edit_steps.specs.Step.{StepFits, change_of};
 ghost use Rattle.edit_steps.specs.declared.step.Step.TheVariants as step;
 ghost use Rattle.document_edits.specs.Told.{told, told_tree};
 
 use crate::splicing::spliced_words;
 use crate::trees::tree_nodes;
+use document_edits::boundary::is_in_document;
+use document_edits::dom::{Attributes, Chars};
 use document_edits::{DocumentEdit, replaced};
-use dom_model::{Attributes, Chars};
 use edit_steps::{Splice, Step};
-use node_arena::{Arena, NodeRef};
-use point_order::is_in_document;
+use node_paths::arena::{Arena, NodeRef};
 use std::alloc::{AllocError, Global};
 
 fn label_of(node: Option<NodeRef>) -> Option<u32>

@@ -1,14 +1,14 @@
 //! The nodes of a tree as one list.
 
 ghost use Rattle.std.specs.Prelude.{◌≡◌, ◌+◌, ◌<◌, ◌^◌, [], ◌∷◌, ◌++◌, OnOk, IfOk, IfSome};
-ghost use Rattle.dom_model.specs.Forest.{content_of, total, tree_of};
-ghost use Rattle.node_arena.specs.Held.{Holds, label};
+ghost use Rattle.document_edits.specs.DomModel.Forest.{content_of, total, tree_of};
+ghost use Rattle.node_paths.specs.NodeArena.Held.{Holds, label};
 ghost use Rattle.node_paths.specs.Onward.{onward_at, IsInner};
 ghost use Rattle.document_edits.specs.Flat.{flat};
 
 use document_edits::TreeNode;
-use dom_model::{Content, Items};
-use node_arena::{Arena, NodeRef};
+use document_edits::dom::{Content, Items};
+use node_paths::arena::{Arena, NodeRef};
 use std::alloc::{AllocError, Global};
 
 /// A copy of what a node is, with its name and attributes, or its characters.

@@ -3,17 +3,17 @@ use Rattle.std.proofs.Common.{◌≡◌, ◌⊎◌, ℕ, ◌+◌, ◌<◌, ◌�
 use Rattle.std.proofs.lemmas.Bool.{ne_eqb}
 use Rattle.std.proofs.lemmas.Bool.Decides.{eqb_tells}
 use Rattle.std.specs.Option.{option_map_or}
-use Rattle.dom_model.specs.declared.Content.{Content}
-use Rattle.dom_model.specs.Document.{page_depth}
-use Rattle.dom_model.specs.Forest.{Forest, join, tree_of, without, is_label, count_of, IsDistinct, IsWithin, parent_of, put_before, put_under, link, unlink, depth_of}
-use Rattle.dom_model.specs.Forest.Forest.{Nil, Tree}
-use Rattle.dom_model.specs.Places.{levels, kids_in}
-use Rattle.dom_model.proofs.DropTree.{depth_of-without, without-unlink}
-use Rattle.dom_model.proofs.Heights.{page_depth-link, page_depth-unlink}
-use Rattle.dom_model.proofs.Move.{tree_of-unlink}
-use Rattle.dom_model.proofs.Totals.{total-join, total-without, put_under_nowhere}
-use Rattle.dom_model.proofs.Within.{Sits, count_of-Sits, depth_Sits}
-use Rattle.edit_model.proofs.Documents.{document_of-link, document_of-unlink}
+use Rattle.page_grammar.specs.DomModel.declared.Content.{Content}
+use Rattle.page_grammar.specs.DomModel.Document.{page_depth}
+use Rattle.page_grammar.specs.DomModel.Forest.{Forest, join, tree_of, without, is_label, count_of, IsDistinct, IsWithin, parent_of, put_before, put_under, link, unlink, depth_of}
+use Rattle.page_grammar.specs.DomModel.Forest.Forest.{Nil, Tree}
+use Rattle.page_grammar.specs.DomModel.Places.{levels, kids_in}
+use Rattle.page_grammar.proofs.DomModel.DropTree.{depth_of-without, without-unlink}
+use Rattle.page_grammar.proofs.DomModel.Heights.{page_depth-link, page_depth-unlink}
+use Rattle.page_grammar.proofs.DomModel.Move.{tree_of-unlink}
+use Rattle.page_grammar.proofs.DomModel.Totals.{total-join, total-without, put_under_nowhere}
+use Rattle.page_grammar.proofs.DomModel.Within.{Sits, count_of-Sits, depth_Sits}
+use Rattle.edit_parts.proofs.EditModel.Documents.{document_of-link, document_of-unlink}
 
 module _ {C : Type 0} where
   -- ---- a tree that is put somewhere is no higher than all

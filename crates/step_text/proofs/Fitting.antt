@@ -3,25 +3,25 @@ use Rattle.std.proofs.Common.{◌≡◌, ◌≢◌, ℕ, ◌<◌, ◌^◌, Bool,
 use Rattle.std.specs.Prelude.{is_some, is_none}
 use Rattle.std.specs.Option.{option_map_or, option_and_then}
 use Rattle.std.proofs.lemmas.Bool.{and_parts, not-true, ltb-true, eqb-false}
-use Rattle.dom_model.specs.declared.attributes.Attribute.{Attribute}
-use Rattle.dom_model.specs.declared.Content.{Content}
-use Rattle.dom_model.specs.declared.Content.TheVariants as content
-use Rattle.dom_model.specs.AttributeList.{IsDistinctNames}
-use Rattle.dom_model.specs.Contents.{has_chars, has_name, is_element, is_parent_at, name_in}
-use Rattle.dom_model.specs.Forest.{Forest, is_label, count_of, parent_of, content_of, tree_of}
-use Rattle.dom_model.specs.ArenaState.{ArenaState, IsValid, IsSlotted}
-use Rattle.edit_model.specs.Confined.{is_there, is_place}
-use Rattle.edit_model.proofs.Tests.{label_is, none_is, not_zero, not_within, parent_there}
+use Rattle.page_grammar.specs.DomModel.declared.attributes.Attribute.{Attribute}
+use Rattle.page_grammar.specs.DomModel.declared.Content.{Content}
+use Rattle.page_grammar.specs.DomModel.declared.Content.TheVariants as content
+use Rattle.page_grammar.specs.DomModel.AttributeList.{IsDistinctNames}
+use Rattle.page_grammar.specs.DomModel.Contents.{has_chars, has_name, is_element, is_parent_at, name_in}
+use Rattle.page_grammar.specs.DomModel.Forest.{Forest, is_label, count_of, parent_of, content_of, tree_of}
+use Rattle.page_grammar.specs.DomModel.ArenaState.{ArenaState, IsValid, IsSlotted}
+use Rattle.edit_parts.specs.EditModel.Confined.{is_there, is_place}
+use Rattle.edit_parts.proofs.EditModel.Tests.{label_is, none_is, not_zero, not_within, parent_there}
 use Rattle.edit_steps.specs.declared.step.Step.{Step}
 use Rattle.edit_steps.specs.declared.step.Step.TheVariants as step
 use Rattle.edit_steps.specs.Step.{change_of, nodes_of}
-use Rattle.forest_changes.specs.Change.{Fits, IsForest, applied}
-use Rattle.dom_model.specs.Change as change
-use Rattle.forest_changes.specs.Named.{Each, listed}
-use Rattle.forest_changes.proofs.Twice.{forest_of, given_parent, can_shift}
-use Rattle.node_arena.specs.declared.NodeRef.{NodeRef}
-use Rattle.node_arena.specs.Held.{Holds, label}
-use Rattle.point_order.specs.PointOrder.{is_within}
+use Rattle.edit_steps.specs.ForestChanges.Change.{Fits, IsForest, applied}
+use Rattle.page_grammar.specs.DomModel.Change as change
+use Rattle.edit_steps.specs.ForestChanges.Named.{Each, listed}
+use Rattle.edit_steps.proofs.ForestChanges.Twice.{forest_of, given_parent, can_shift}
+use Rattle.edit_steps.specs.NodeArena.declared.NodeRef.{NodeRef}
+use Rattle.edit_steps.specs.NodeArena.Held.{Holds, label}
+use Rattle.edit_parts.specs.PointOrder.PointOrder.{is_within}
 use Rattle.step_text.specs.declared.apply.Origin.{Origin}
 use Rattle.step_text.specs.declared.apply.Origin.TheVariants.{Loose, Child}
 use Rattle.step_text.specs.declared.apply.Placing.{Placing}

@@ -3,25 +3,25 @@ use Rattle.std.proofs.Common.{◌≡◌, ℕ, ◌+◌, ◌<◌, ◌≤◌, ◌^�
 use Rattle.std.specs.Prelude.{nat_lt, nat_le}
 use Rattle.std.proofs.lemmas.Bool.{le-leb, lt-leb}
 use Rattle.std.proofs.lemmas.Bool.Decides.{eqb_tells}
-use Rattle.dom_model.specs.declared.attributes.Attribute.{Attribute}
-use Rattle.dom_model.specs.declared.Content.{Content}
-use Rattle.dom_model.specs.Contents.{with_chars, with_attributes}
-use Rattle.dom_model.specs.Forest.{Forest, join, tree_of, without, count_of, IsDistinct, parent_of, put_rising, put_under, link, unlink, with_leaf, depth_of}
-use Rattle.dom_model.specs.Forest.Forest.{Nil, Tree}
-use Rattle.dom_model.specs.Places.{levels}
-use Rattle.dom_model.specs.ArenaState.{ArenaState, IsValid}
-use Rattle.dom_model.proofs.DropTree.{without-unlink}
-use Rattle.dom_model.proofs.Heights.{levels-link, levels-revised, levels_low, levels_within}
-use Rattle.dom_model.proofs.Links.{eqb_refl_true, tree_of_absent}
-use Rattle.dom_model.proofs.Move.{tree_of-unlink}
-use Rattle.dom_model.proofs.Stands.{seek_absent}
+use Rattle.page_grammar.specs.DomModel.declared.attributes.Attribute.{Attribute}
+use Rattle.page_grammar.specs.DomModel.declared.Content.{Content}
+use Rattle.page_grammar.specs.DomModel.Contents.{with_chars, with_attributes}
+use Rattle.page_grammar.specs.DomModel.Forest.{Forest, join, tree_of, without, count_of, IsDistinct, parent_of, put_rising, put_under, link, unlink, with_leaf, depth_of}
+use Rattle.page_grammar.specs.DomModel.Forest.Forest.{Nil, Tree}
+use Rattle.page_grammar.specs.DomModel.Places.{levels}
+use Rattle.page_grammar.specs.DomModel.ArenaState.{ArenaState, IsValid}
+use Rattle.page_grammar.proofs.DomModel.DropTree.{without-unlink}
+use Rattle.page_grammar.proofs.DomModel.Heights.{levels-link, levels-revised, levels_low, levels_within}
+use Rattle.page_grammar.proofs.DomModel.Links.{eqb_refl_true, tree_of_absent}
+use Rattle.page_grammar.proofs.DomModel.Move.{tree_of-unlink}
+use Rattle.page_grammar.proofs.DomModel.Stands.{seek_absent}
 use Rattle.edit_steps.specs.declared.step.Step.{Step}
 use Rattle.edit_steps.specs.Step.{change_of, step_applied}
-use Rattle.edit_model.specs.Heights.{reach_of}
-use Rattle.forest_changes.specs.Change.{applied}
-use Rattle.forest_changes.proofs.Twice.{given_parent}
-use Rattle.node_arena.specs.Held.{label}
-use Rattle.point_order.specs.PointOrder.{is_in_document}
+use Rattle.edit_parts.specs.EditModel.Heights.{reach_of}
+use Rattle.edit_steps.specs.ForestChanges.Change.{applied}
+use Rattle.edit_steps.proofs.ForestChanges.Twice.{given_parent}
+use Rattle.edit_steps.specs.NodeArena.Held.{label}
+use Rattle.edit_parts.specs.PointOrder.PointOrder.{is_in_document}
 use Rattle.step_text.specs.declared.apply.Origin.{Origin}
 use Rattle.step_text.specs.declared.apply.Origin.TheVariants.{Loose, Child}
 use Rattle.step_text.specs.declared.apply.Placing.{Placing}

@@ -8,3 +8,5 @@ pub mod Steps
 pub mod Loops
 pub mod SoundSteps
 pub mod Levels
+pub use Rattle.page_write.proofs as PageWrite
+pub use Rattle.script_read.proofs as ScriptRead

@@ -3,8 +3,8 @@ use Rattle.std.proofs.Common.{◌≡◌, ℕ, ◌+◌, ◌<◌, ◌≤◌, Bool,
 use Rattle.std.specs.Option.{option_map}
 use Rattle.std.specs.Result.{IsErrAnd}
 use Rattle.std.specs.Str.{all_scalars, bytes_eq}
-use Rattle.dom_model.specs.declared.attributes.Attribute.{Attribute}
-use Rattle.dom_model.specs.AttributeList.{set_in}
+use Rattle.page_grammar.specs.DomModel.declared.attributes.Attribute.{Attribute}
+use Rattle.page_grammar.specs.DomModel.AttributeList.{set_in}
 use Rattle.script_read.specs.Reading.{◌>>=◌, cut, split}
 use Rattle.std.proofs.Math.ListN.{drop_of_length-le}
 use Rattle.script_read.proofs.Tests.{some-is}

@@ -5,26 +5,26 @@ use Rattle.std.specs.Option.{option_map_or, option_and_then}
 use Rattle.std.proofs.lemmas.Bool.{and_parts, lt-ltb, le-leb, ltb-true, ne_eqb}
 use Rattle.std.proofs.lemmas.Bool.Decides.{eqb_tells, nat_tests}
 use Rattle.std.proofs.lemmas.Slice.Eq.{bytes_eq-Decides}
-use Rattle.dom_model.specs.declared.Content.{Content}
-use Rattle.dom_model.specs.Contents.{has_name, is_parent_at, may_have_children, name_of, with_attributes, with_chars}
-use Rattle.dom_model.specs.Document.{page_depth}
-use Rattle.dom_model.specs.Forest.{Forest, Seen, is_label, count_of, parent_of, tree_of, link, unlink, with_leaf}
-use Rattle.dom_model.specs.Revised.{revised}
-use Rattle.dom_model.specs.ArenaState.{CanLink}
-use Rattle.dom_model.proofs.Heights.{page_depth-revised, page_depth-unlink, page_depth-with_leaf}
-use Rattle.dom_model.proofs.Kept.{content_of-unlink}
-use Rattle.dom_model.proofs.Links.{seen, eqb_refl_true, parent_count, parent_of-unlink, IsDistinct-unlink}
-use Rattle.dom_model.proofs.Move.{tree_of-unlink}
-use Rattle.dom_model.proofs.Stands.{true_or_false}
-use Rattle.dom_model.proofs.Totals.{total-unlink}
-use Rattle.dom_model.proofs.Walks.{document_first}
-use Rattle.edit_model.specs.Confined.{is_there, is_place}
-use Rattle.edit_model.specs.Heights.{reach_of}
-use Rattle.forest_changes.specs.Change.{Change, Fits, IsForest, applied}
-use Rattle.dom_model.specs.Change as change
-use Rattle.forest_changes.proofs.Contents.{stands as there_by}
-use Rattle.forest_changes.proofs.Twice.{given_parent}
-use Rattle.point_order.specs.PointOrder.{is_within, is_in_document}
+use Rattle.page_grammar.specs.DomModel.declared.Content.{Content}
+use Rattle.page_grammar.specs.DomModel.Contents.{has_name, is_parent_at, may_have_children, name_of, with_attributes, with_chars}
+use Rattle.page_grammar.specs.DomModel.Document.{page_depth}
+use Rattle.page_grammar.specs.DomModel.Forest.{Forest, Seen, is_label, count_of, parent_of, tree_of, link, unlink, with_leaf}
+use Rattle.page_grammar.specs.DomModel.Revised.{revised}
+use Rattle.page_grammar.specs.DomModel.ArenaState.{CanLink}
+use Rattle.page_grammar.proofs.DomModel.Heights.{page_depth-revised, page_depth-unlink, page_depth-with_leaf}
+use Rattle.page_grammar.proofs.DomModel.Kept.{content_of-unlink}
+use Rattle.page_grammar.proofs.DomModel.Links.{seen, eqb_refl_true, parent_count, parent_of-unlink, IsDistinct-unlink}
+use Rattle.page_grammar.proofs.DomModel.Move.{tree_of-unlink}
+use Rattle.page_grammar.proofs.DomModel.Stands.{true_or_false}
+use Rattle.page_grammar.proofs.DomModel.Totals.{total-unlink}
+use Rattle.page_grammar.proofs.DomModel.Walks.{document_first}
+use Rattle.edit_parts.specs.EditModel.Confined.{is_there, is_place}
+use Rattle.edit_parts.specs.EditModel.Heights.{reach_of}
+use Rattle.edit_steps.specs.ForestChanges.Change.{Change, Fits, IsForest, applied}
+use Rattle.page_grammar.specs.DomModel.Change as change
+use Rattle.edit_steps.proofs.ForestChanges.Contents.{stands as there_by}
+use Rattle.edit_steps.proofs.ForestChanges.Twice.{given_parent}
+use Rattle.edit_parts.specs.PointOrder.PointOrder.{is_within, is_in_document}
 use Rattle.step_text.specs.declared.line.Made.{Made}
 use Rattle.step_text.specs.declared.line.StepFault.{StepFault}
 use Rattle.step_text.specs.declared.line.StepFault.TheVariants.{TooDeep}

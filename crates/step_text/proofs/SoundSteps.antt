@@ -5,9 +5,9 @@ use Rattle.std.specs.Option.{option_map}
 use Rattle.std.specs.Str.{all_scalars, bytes_eq, chars, is_utf8}
 use Rattle.std.proofs.lemmas.Slice.Eq.{bytes_eq-Decides}
 use Rattle.std.proofs.lemmas.Str.{scalars-chars, IsUtf8-from_is_utf8}
-use Rattle.dom_model.specs.declared.attributes.Attribute.{Attribute}
-use Rattle.dom_model.specs.AttributeList.{IsDistinctNames}
-use Rattle.dom_model.proofs.AttributeLemmas.{distinct-nothing, distinct-set}
+use Rattle.page_grammar.specs.DomModel.declared.attributes.Attribute.{Attribute}
+use Rattle.page_grammar.specs.DomModel.AttributeList.{IsDistinctNames}
+use Rattle.page_grammar.proofs.DomModel.AttributeLemmas.{distinct-nothing, distinct-set}
 use Rattle.script_read.specs.Reading.{◌>>=◌, cut, split, number_of}
 use Rattle.script_read.proofs.Tests.{some-is}
 use Rattle.script_read.proofs.Values.{text_sound, spelled_scalars}

@@ -12,8 +12,8 @@ use Rattle.std.proofs.lemmas.Bool.Decides.{nat_tests}
 use Rattle.std.proofs.lemmas.Fmt.{decimal_nonempty, length-decimal-le, digits_decimal, digits_value-decimal}
 use Rattle.std.proofs.lemmas.Slice.Eq.{bytes_eq-Decides}
 use Rattle.std.proofs.lemmas.Str.Parse.{IsNumeralModel, numerals_by_value, digits_value_short}
-use Rattle.dom_model.specs.declared.attributes.Attribute.{Attribute}
-use Rattle.escaped_text.specs.Escaped.{escape_of, escaped, escaped_bytes}
+use Rattle.page_grammar.specs.DomModel.declared.attributes.Attribute.{Attribute}
+use Rattle.page_write.specs.EscapedText.Escaped.{escape_of, escaped, escaped_bytes}
 use Rattle.script_read.specs.Acts.{IsNumber}
 use Rattle.script_read.specs.Reading.{number_of, printed_of}
 use Rattle.script_read.proofs.Tests.{and-true, some-is}

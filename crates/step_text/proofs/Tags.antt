@@ -7,8 +7,8 @@ use Rattle.std.proofs.Math.Seq.{drop-append_seam}
 use Rattle.std.proofs.lemmas.Bool.Decides.{Decides-eqb}
 use Rattle.std.proofs.lemmas.Slice.Eq.{bytes_eq-Decides}
 use Rattle.std.proofs.lemmas.Str.{IsUtf8-from_is_utf8, encodes-chars}
-use Rattle.dom_model.specs.declared.attributes.Attribute.{Attribute}
-use Rattle.dom_model.specs.AttributeList.{value_of, set_in, names_of, IsDistinctNames}
+use Rattle.page_grammar.specs.DomModel.declared.attributes.Attribute.{Attribute}
+use Rattle.page_grammar.specs.DomModel.AttributeList.{value_of, set_in, names_of, IsDistinctNames}
 use Rattle.page_grammar.specs.Chars.{lower, is_space, is_control, is_letter, is_digit, is_name_char, is_attribute_name_char}
 use Rattle.page_write.specs.Html.{text_char, value_char, value_html, attribute_html, attributes_html, start_tag}
 use Rattle.script_read.specs.Reading.{cut, split}

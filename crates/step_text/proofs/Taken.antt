@@ -2,11 +2,11 @@
 use Rattle.std.proofs.Common.{◌≡◌, ℕ, true, false, true≢false, ◌&&◌, Some, None, IfSome, Result, Ok, Err, refl, sym, ap, subst, ◌∙◌}
 use Rattle.std.specs.Prelude.{IfNone, IfOk, OnErr, IsErrOf, IsOkUnless, nat_le, nat_lt}
 use Rattle.std.specs.Result.{is_err}
-use Rattle.dom_model.specs.ArenaState.{ArenaState}
+use Rattle.page_grammar.specs.DomModel.ArenaState.{ArenaState}
 use Rattle.edit_steps.specs.declared.step.Step.{Step}
 use Rattle.edit_steps.specs.Step.{step_applied}
-use Rattle.node_arena.specs.declared.NodeRef.{NodeRef}
-use Rattle.node_arena.specs.Held.{Makes}
+use Rattle.edit_steps.specs.NodeArena.declared.NodeRef.{NodeRef}
+use Rattle.edit_steps.specs.NodeArena.Held.{Makes}
 use Rattle.step_text.specs.declared.line.Made.{Made}
 use Rattle.step_text.specs.declared.line.StepFault.{StepFault}
 use Rattle.step_text.specs.declared.line.StepFault.TheVariants.{BadLabel, Memory}

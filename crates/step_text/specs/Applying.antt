@@ -1,16 +1,16 @@
 -- What the step lines of a log do to a labelled document, and which lines don't fit it.
 use Rattle.std.specs.Prelude.{ℕ, ◌+◌, Bool, true, false, not, ◌&&◌, ◌==◌, nat_lt, nat_le, List, [], ◌∷◌, length, Option, Some, None, is_some, is_none, Result, Ok, Err, if◌then◌else◌}
 use Rattle.std.specs.Option.{option_map_or}
-use Rattle.dom_model.specs.declared.Content.{Content}
-use Rattle.dom_model.specs.declared.Content.TheVariants as content
-use Rattle.dom_model.specs.Contents.{has_name, is_parent_at}
-use Rattle.dom_model.specs.Forest.{Forest, content_of, parent_of, with_leaf}
-use Rattle.dom_model.specs.ArenaState.{ArenaState}
-use Rattle.edit_model.specs.Confined.{is_there, is_place}
-use Rattle.edit_model.specs.Heights.{reach_of}
-use Rattle.forest_changes.specs.Change.{applied}
-use Rattle.dom_model.specs.Change as change
-use Rattle.point_order.specs.PointOrder.{is_within, is_in_document}
+use Rattle.page_grammar.specs.DomModel.declared.Content.{Content}
+use Rattle.page_grammar.specs.DomModel.declared.Content.TheVariants as content
+use Rattle.page_grammar.specs.DomModel.Contents.{has_name, is_parent_at}
+use Rattle.page_grammar.specs.DomModel.Forest.{Forest, content_of, parent_of, with_leaf}
+use Rattle.page_grammar.specs.DomModel.ArenaState.{ArenaState}
+use Rattle.edit_parts.specs.EditModel.Confined.{is_there, is_place}
+use Rattle.edit_parts.specs.EditModel.Heights.{reach_of}
+use Rattle.edit_steps.specs.ForestChanges.Change.{applied}
+use Rattle.page_grammar.specs.DomModel.Change as change
+use Rattle.edit_parts.specs.PointOrder.PointOrder.{is_within, is_in_document}
 use Rattle.step_text.specs.declared.line.Made.{Made}
 use Rattle.step_text.specs.declared.line.Made.TheVariants.{Element, Words as OfWords}
 use Rattle.step_text.specs.declared.line.StepFault.{StepFault}

@@ -1,15 +1,15 @@
 -- How a step line is turned into a step of the arena before it is applied. Only `labelled` and the
 -- rest of `Applying` stand in public clauses.
 use Rattle.std.specs.Prelude.{◌≡◌, ℕ, Bool, Option, Some, None, is_some, IfSome, IfNone, Result, Ok, Err, OnOk, OnErr, IsErrOf, IsOkUnless, ◌≤◌}
-use Rattle.dom_model.specs.declared.Content.{Content}
-use Rattle.dom_model.specs.Forest.{Forest, parent_of}
-use Rattle.dom_model.specs.Places.{levels}
-use Rattle.dom_model.specs.ArenaState.{ArenaState}
+use Rattle.page_grammar.specs.DomModel.declared.Content.{Content}
+use Rattle.page_grammar.specs.DomModel.Forest.{Forest, parent_of}
+use Rattle.page_grammar.specs.DomModel.Places.{levels}
+use Rattle.page_grammar.specs.DomModel.ArenaState.{ArenaState}
 use Rattle.edit_steps.specs.declared.step.Step.{Step}
 use Rattle.edit_steps.specs.declared.step.Step.TheVariants as step
 use Rattle.edit_steps.specs.Step.{StepFits, change_of}
-use Rattle.forest_changes.specs.Change.{applied}
-use Rattle.node_arena.specs.Held.{Holds, KeepsHeld, label}
+use Rattle.edit_steps.specs.ForestChanges.Change.{applied}
+use Rattle.edit_steps.specs.NodeArena.Held.{Holds, KeepsHeld, label}
 use Rattle.step_text.specs.Applying.{labelled, fault_of, is_loose, line_applied, trees_after, next_after}
 use Rattle.step_text.specs.declared.apply.Origin.{Origin}
 use Rattle.step_text.specs.declared.apply.Origin.TheVariants.{Loose, Child}

@@ -1,10 +1,10 @@
 -- The lines that stand for changes of the trees, as a log has them.
 use Rattle.std.specs.Prelude.{◌≡◌, ℕ, List, true, Some, None}
-use Rattle.dom_model.specs.declared.Content.{Content}
-use Rattle.dom_model.specs.Contents.{name_of}
-use Rattle.dom_model.specs.Forest.{Forest}
-use Rattle.forest_changes.specs.Change.{Change}
-use Rattle.dom_model.specs.Change as change
+use Rattle.page_grammar.specs.DomModel.declared.Content.{Content}
+use Rattle.page_grammar.specs.DomModel.Contents.{name_of}
+use Rattle.page_grammar.specs.DomModel.Forest.{Forest}
+use Rattle.edit_steps.specs.ForestChanges.Change.{Change}
+use Rattle.page_grammar.specs.DomModel.Change as change
 use Rattle.step_text.specs.Applying.{Labelled, fault_of, is_text_at, line_applied}
 use Rattle.step_text.specs.declared.line.StepLine.{StepLine}
 use Rattle.step_text.specs.declared.line.StepLine.TheVariants.{Insert, Remove, Move, Words, Tag}

@@ -4,9 +4,9 @@ use Rattle.std.specs.Fmt.{decimal}
 use Rattle.std.specs.List.{flat_map, list_all}
 use Rattle.std.specs.Option.{IfSome}
 use Rattle.std.specs.Str.{all_scalars, chars, is_utf8}
-use Rattle.dom_model.specs.declared.attributes.Attribute.{Attribute}
-use Rattle.dom_model.specs.AttributeList.{IsDistinctNames}
-use Rattle.escaped_text.specs.Escaped.{escaped_bytes}
+use Rattle.page_grammar.specs.DomModel.declared.attributes.Attribute.{Attribute}
+use Rattle.page_grammar.specs.DomModel.AttributeList.{IsDistinctNames}
+use Rattle.page_write.specs.EscapedText.Escaped.{escaped_bytes}
 use Rattle.page_grammar.specs.Chars.{lower, is_letter, is_name_char, is_attribute_name_char}
 use Rattle.page_write.specs.Html.{start_tag}
 use Rattle.step_text.specs.declared.line.Made.{Made}

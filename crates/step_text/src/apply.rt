@@ -1,22 +1,22 @@
 //! Step lines applied to the nodes of an arena.
 
 ghost use Rattle.std.specs.Prelude.{◌≡◌, ◌^◌, ◌<◌, ◌≤◌, ◌&&◌, ℕ, nat_le, nat_lt, IfOk, IfSome, IfNone, IsOkUnless, OnOk, OnErr, is_ok, is_some, length, Err};
-ghost use Rattle.dom_model.specs.Contents.{has_name, is_parent_at};
-ghost use Rattle.dom_model.specs.Forest.{parent_of};
-ghost use Rattle.dom_model.specs.Places.{levels};
-ghost use Rattle.edit_model.specs.Confined.{is_there, is_place};
+ghost use Rattle.page_grammar.specs.DomModel.Contents.{has_name, is_parent_at};
+ghost use Rattle.page_grammar.specs.DomModel.Forest.{parent_of};
+ghost use Rattle.page_grammar.specs.DomModel.Places.{levels};
+ghost use Rattle.edit_parts.specs.EditModel.Confined.{is_there, is_place};
 ghost use Rattle.edit_steps.specs.Step.{StepFits};
-ghost use Rattle.node_arena.specs.Held.{Holds, KeepsHeld, Makes, label};
+ghost use Rattle.edit_steps.specs.NodeArena.Held.{Holds, KeepsHeld, Makes, label};
 ghost use Rattle.step_text.specs.Applying.{labelled, fault_of, line_applied, made_content, made_length, text_length, is_text_at, is_there_or_end, can_stand, is_loose};
 ghost use Rattle.step_text.specs.Planning.{Applies, IsBound, Places, Plans, StaysWithin, comes_from, line_to, step_to};
 
 use crate::line::{Made, StepFault, StepLine};
 use crate::room::{Room, has_room_under};
-use dom_model::{Attributes, Chars, Name};
+use edit_parts::boundary::is_within;
 use edit_steps::Step;
-use node_arena::{Arena, Content, Kind, MakeFault, NodeRef, has_name};
-use point_order::is_within;
-use undo_log::Invertible;
+use edit_steps::arena::{Arena, Content, Kind, MakeFault, NodeRef, has_name};
+use edit_steps::history::Invertible;
+use page_grammar::dom::{Attributes, Chars, Name};
 
 /// Does to the nodes of an arena what a step line says. The line is taken by value, since its
 /// contents become those of the node. Whether it fits is looked at before memory; a line that

@@ -2,9 +2,9 @@
 //! nothing.
 
 ghost use Rattle.std.specs.Prelude.{◌≡◌, ◌+◌, ◌<◌, ◌≤◌, ◌↔◌, ℕ, List, ◌∷◌, ◌++◌, length, true, Some, Ok};
-ghost use Rattle.dom_model.specs.Document.{page_depth};
-ghost use Rattle.dom_model.specs.Forest.{with_leaf};
-ghost use Rattle.forest_changes.specs.Change.{Change, Fits, IsForest, applied};
+ghost use Rattle.page_grammar.specs.DomModel.Document.{page_depth};
+ghost use Rattle.page_grammar.specs.DomModel.Forest.{with_leaf};
+ghost use Rattle.edit_steps.specs.ForestChanges.Change.{Change, Fits, IsForest, applied};
 ghost use Rattle.step_text.specs.declared.line.Made.{Made};
 ghost use Rattle.step_text.specs.declared.line.StepFault.TheVariants.{TooDeep};
 ghost use Rattle.step_text.specs.declared.line.StepLine.{StepLine};

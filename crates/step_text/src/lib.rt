@@ -13,9 +13,15 @@ mod room;
 mod tag;
 
 pub use apply::apply_step;
-pub use dom_model::{Attributes, Chars, Name};
+pub use edit_parts as parts;
+pub use edit_parts::model;
+pub use edit_steps as steps;
 pub use laws::lines_have_one_step;
 pub use line::{Made, StepFault, StepLine};
+pub use page_grammar::dom::{Attributes, Chars, Name};
+pub use page_write as writer;
+pub use page_write::{dom_ranges, element_names, escapes};
 pub use print::{print_step, push_step};
 pub use read::read_step;
 pub use replay::Replay;
+pub use script_read as script;

@@ -2,7 +2,7 @@
 
 ghost use Rattle.std.specs.Prelude.{◌≡◌};
 
-use dom_model::{Attributes, Chars, Name};
+use page_grammar::dom::{Attributes, Chars, Name};
 use std::alloc::AllocError;
 use thiserror::Error;
 

@@ -8,8 +8,8 @@ ghost use Rattle.step_text.specs.StepLine as names;
 ghost use Rattle.step_text.specs.StepReading.{Reads, element_name_of, attribute_name_of};
 
 use crate::line::StepFault;
-use dom_model::Name;
 use page_grammar::classes::{is_attribute_name_char, is_letter, is_name_char, lower};
+use page_grammar::dom::Name;
 use std::alloc::Global;
 
 fn is_lowered(c: char) -> bool

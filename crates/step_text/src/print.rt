@@ -5,9 +5,9 @@ ghost use Rattle.std.specs.Fmt.{decimal};
 ghost use Rattle.step_text.specs.StepLine.{quoted, tag_byte, tag_bytes, tag_text, made_text, before_text, line_text};
 
 use crate::line::{Made, StepLine};
-use dom_model::{Attributes, Chars, Name};
-use escaped_text::push_escaped;
-use node_paths::push_decimal;
+use page_grammar::dom::{Attributes, Chars, Name};
+use page_write::escapes::push_escaped;
+use page_write::node_place::push_decimal;
 use page_write::push_start_tag;
 use std::alloc::{AllocError, Global};
 

@@ -12,7 +12,7 @@ ghost use Rattle.step_text.specs.StepReading.{Reads};
 use crate::line::{Made, StepFault, StepLine};
 use crate::print::print_step;
 use crate::tag::{read_tag, within};
-use dom_model::Chars;
+use page_grammar::dom::Chars;
 use script_read::{LineFault, cut, read_number, read_printed};
 use std::alloc::Global;
 

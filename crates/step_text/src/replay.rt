@@ -1,13 +1,13 @@
 //! An arena on whose nodes step lines are applied one after another.
 
 ghost use Rattle.std.specs.Prelude.{◌≡◌, ◌^◌, ◌<◌, IfSome, IfNone, IsOkUnless, OnOk, OnErr, Err};
-ghost use Rattle.node_arena.specs.Held.{KeepsHeld};
+ghost use Rattle.edit_steps.specs.NodeArena.Held.{KeepsHeld};
 ghost use Rattle.step_text.specs.Applying.{labelled, fault_of, line_applied, text_length};
 
 use crate::apply::apply_within;
 use crate::line::{StepFault, StepLine};
 use crate::room::Room;
-use node_arena::Arena;
+use edit_steps::arena::Arena;
 use std::marker::Model;
 
 /// An arena on whose nodes step lines are applied one after another. Contracts see the arena alone.
@@ -20,7 +20,7 @@ pub struct Replay {
 }
 
 impl Model for Replay {
-    ghost use Rattle.dom_model.specs.ArenaState.{ArenaState, state_code};
+    ghost use Rattle.page_grammar.specs.DomModel.ArenaState.{ArenaState, state_code};
 
     ghost Value = { ArenaState };
 

@@ -1,16 +1,16 @@
 //! How deep nodes come to stand where trees are put under others.
 
 ghost use Rattle.std.specs.Prelude.{◌≡◌, ◌<◌, ◌≤◌, ◌+◌, true, None};
-ghost use Rattle.dom_model.specs.Forest.{count_of, parent_of, tree_of};
-ghost use Rattle.dom_model.specs.Places.{levels};
-ghost use Rattle.edit_model.specs.Heights.{reach_of};
-ghost use Rattle.node_arena.specs.Held.{Holds};
+ghost use Rattle.page_grammar.specs.DomModel.Forest.{count_of, parent_of, tree_of};
+ghost use Rattle.page_grammar.specs.DomModel.Places.{levels};
+ghost use Rattle.edit_parts.specs.EditModel.Heights.{reach_of};
+ghost use Rattle.edit_steps.specs.NodeArena.Held.{Holds};
 ghost use Rattle.step_text.specs.Applying.{has_room_under};
 ghost use Rattle.step_text.specs.Planning.{IsBound};
 
+use edit_parts::boundary::is_in_document;
 use edit_parts::tree_counts;
-use node_arena::{Arena, NodeRef};
-use point_order::is_in_document;
+use edit_steps::arena::{Arena, NodeRef};
 
 // No node of a document may be deeper.
 const DEEPEST: u64 = 1_000;

@@ -9,8 +9,8 @@ ghost use Rattle.step_text.specs.StepReading.{Reads};
 
 use crate::line::StepFault;
 use crate::names::{read_attribute_name, read_element_name};
-use dom_model::{Attributes, Chars, Name};
-use escaped_text::push_char;
+use page_grammar::dom::{Attributes, Chars, Name};
+use page_write::escapes::push_char;
 use script_read::cut;
 use std::alloc::{AllocError, Global};
 use std::marker::Copy;

@@ -2,18 +2,18 @@
 -- command", steps 3 and 7). The steps are those of docs/ALGORITHMS.md.
 use Rattle.std.specs.Prelude.{ℕ, ◌-◌, ◌==◌, Bool, true, false, ◌||◌, ◌&&◌, not, codes, Option, Some, None, if◌then◌else◌}
 use Rattle.std.specs.Option.{option_and_then}
-use Rattle.dom_model.specs.Contents.{has_name, is_break, is_image}
-use Rattle.dom_model.specs.Forest.{is_label, prev_of}
-use Rattle.live_range.specs.declared.places.Point.{Point}
-use Rattle.node_styles.specs.Blocks.{is_block}
-use Rattle.node_tests.specs.BlockPoints.{child_before}
-use Rattle.node_tests.specs.Visible.{is_visible}
+use Rattle.edit_model.specs.DomModel.Contents.{has_name, is_break, is_image}
+use Rattle.edit_model.specs.DomModel.Forest.{is_label, prev_of}
+use Rattle.edit_model.specs.LiveRange.declared.places.Point.{Point}
+use Rattle.text_insertion.specs.NodeStyles.Blocks.{is_block}
+use Rattle.text_insertion.specs.NodeTests.BlockPoints.{child_before}
+use Rattle.text_insertion.specs.NodeTests.Visible.{is_visible}
 use Rattle.edit_model.specs.State.{State}
 use Rattle.edit_model.specs.Confined.{is_editable_for}
 use Rattle.edit_model.specs.Run.{Run, ◌>>◌, answer, look, given, while_at_most, remove}
-use Rattle.wrap_split.specs.Split.{remove_keeping_children}
-use Rattle.wrap_split.specs.Walks.{turn_bound}
-use Rattle.delete_core.specs.Places.{at, end_in, before_node}
+use Rattle.text_insertion.specs.WrapSplit.Split.{remove_keeping_children}
+use Rattle.text_insertion.specs.WrapSplit.Walks.{turn_bound}
+use Rattle.text_insertion.specs.DeleteCore.Places.{at, end_in, before_node}
 use Rattle.text_deletion.specs.declared.approach.Approach.{Approach}
 
 abbrev pub moved_to : Approach → Point → Approach

@@ -1,19 +1,19 @@
 //! Delete, steps 3 and 7: the ways back from a caret. The steps are those of docs/ALGORITHMS.md.
 
 ghost use Rattle.std.specs.Prelude.{◌≡◌, ◌<◌, IfOk, IfSome};
-ghost use Rattle.dom_model.specs.Forest.{count_of};
+ghost use Rattle.edit_model.specs.DomModel.Forest.{count_of};
 ghost use Rattle.edit_model.specs.Gives.{Gives, label_of};
-ghost use Rattle.edit_doc.specs.Whole.{IsOpen};
-ghost use Rattle.edit_doc.specs.Held.{Holds, IfHeld, Finds, Keeps};
+ghost use Rattle.text_insertion.specs.EditDoc.Whole.{IsOpen};
+ghost use Rattle.text_insertion.specs.EditDoc.Held.{Holds, IfHeld, Finds, Keeps};
 ghost use Rattle.text_deletion.specs.Approach as back;
 
 use crate::places::{is_affected_host, one_before};
-use delete_core::{before_node, child_before, end_in};
-use edit_doc::{Doc, EditFault, NodeRef, Point};
-use node_tests::{has_name, is_block, is_break, is_image, is_visible};
-use point_order::node_of;
+use edit_model::boundary::node_of;
 use std::alloc::Global;
-use wrap_split::{remove_keeping_children, turn_bound};
+use text_insertion::deleting::{before_node, child_before, end_in};
+use text_insertion::doc::{Doc, EditFault, NodeRef, Point};
+use text_insertion::questions::{has_name, is_block, is_break, is_image, is_visible};
+use text_insertion::wrap::{remove_keeping_children, turn_bound};
 
 /// How far a way back from a caret has come.
 #[derive(Clone, Copy)]

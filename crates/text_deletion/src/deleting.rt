@@ -2,8 +2,8 @@
 
 ghost use Rattle.std.specs.Prelude.{◌≡◌, IfOk, true};
 ghost use Rattle.edit_model.specs.Gives.{Gives};
-ghost use Rattle.edit_doc.specs.Whole.{IsOpen};
-ghost use Rattle.edit_doc.specs.Held.{Holds, Keeps};
+ghost use Rattle.text_insertion.specs.EditDoc.Whole.{IsOpen};
+ghost use Rattle.text_insertion.specs.EditDoc.Held.{Holds, Keeps};
 ghost use Rattle.text_deletion.specs.Delete as command;
 
 use crate::approach::{climb, go_back};
@@ -12,14 +12,14 @@ use crate::erasing::{erase_line, extend, follows_single};
 use crate::joining::{follows_line, follows_table, is_kept_from, joined};
 use crate::outdents::{outdent_line, starts_indented};
 use crate::places::one_before;
-use delete_core::{Manner, canonicalize_start, select};
-use edit_actions::ends_of;
-use edit_doc::{Doc, EditFault, NodeRef, Point};
-use edit_query::is_caret;
-use node_tests::is_block;
-use point_order::node_of;
+use edit_model::boundary::node_of;
 use std::alloc::Global;
+use text_insertion::actions::ends_of;
+use text_insertion::deleting::{Manner, canonicalize_start, select};
+use text_insertion::doc::{Doc, EditFault, NodeRef, Point};
 use text_insertion::erase;
+use text_insertion::query::is_caret;
+use text_insertion::questions::is_block;
 
 // Steps 7 to 13, with a caret in a node.
 #[tactic(auto, using(edit_model::proofs::Steps::steps, edit_model::proofs::Steps::exits, edit_model::proofs::Steps::actions), unfolding(crate::specs::Delete::join, crate::specs::Delete::delete_across))]
@@ -54,7 +54,7 @@ fn delete_across(alloc: Global, doc: &mut Doc, node: NodeRef, caret: Point) -> R
 }
 
 // Steps 2 to 13.
-#[tactic(auto, using(edit_model::proofs::Steps::steps, edit_model::proofs::Steps::exits, edit_model::proofs::Steps::actions, edit_actions::proofs::Placed::placed_here), unfolding(crate::specs::Delete::erase_single, crate::specs::Delete::delete_from, crate::specs::Delete::delete_at_caret))]
+#[tactic(auto, using(edit_model::proofs::Steps::steps, edit_model::proofs::Steps::exits, edit_model::proofs::Steps::actions, crate::proofs::Below::placed_here), unfolding(crate::specs::Delete::erase_single, crate::specs::Delete::delete_from, crate::specs::Delete::delete_at_caret))]
 fn delete_at_caret(alloc: Global, doc: &mut Doc) -> Result<(), EditFault>
     requires open { IsOpen doc.old }
     ensures gives { Gives result doc.old.state doc.new.state command.delete_at_caret }

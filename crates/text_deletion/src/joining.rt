@@ -3,15 +3,15 @@
 
 ghost use Rattle.std.specs.Prelude.{◌≡◌};
 ghost use Rattle.edit_model.specs.Gives.{label_of};
-ghost use Rattle.edit_doc.specs.Held.{Holds, IfHeld};
+ghost use Rattle.text_insertion.specs.EditDoc.Held.{Holds, IfHeld};
 ghost use Rattle.text_deletion.specs.Delete as command;
 
 use crate::places::is_affected_host;
-use delete_core::{child_at, child_before, end_in, start_in};
-use edit_doc::{Doc, NodeRef, Point};
-use node_tests::{has_name, is_block, is_break};
+use text_insertion::deleting::{child_at, child_before, end_in, start_in};
+use text_insertion::doc::{Doc, NodeRef, Point};
 use text_insertion::is_entry;
-use wrap_split::turn_bound;
+use text_insertion::questions::{has_name, is_block, is_break};
+use text_insertion::wrap::turn_bound;
 
 // Step 9: a node that is a table.
 fn is_table(doc: &Doc, node: Option<NodeRef>) -> bool
@@ -73,7 +73,7 @@ pub(crate) fn follows_line(doc: &Doc, caret: Point, node: NodeRef, at: Point) ->
 }
 
 // Step 12: to the end of the child before a point.
-#[tactic(auto, using(delete_core::proofs::Absent::absent), unfolding(crate::specs::Delete::into_last))]
+#[tactic(auto, using(crate::proofs::Below::absent), unfolding(crate::specs::Delete::into_last))]
 fn into_last(doc: &Doc, at: Point) -> Option<Point>
     ensures { result ≡ command.into_last doc.now.state at }
 {
@@ -83,7 +83,7 @@ fn into_last(doc: &Doc, at: Point) -> Option<Point>
 }
 
 // Step 12: down to the end of what stands before a point.
-#[tactic(auto, using(delete_core::proofs::Turns::point_walks), unfolding(crate::specs::Delete::deepest_before))]
+#[tactic(auto, using(crate::proofs::Below::point_walks), unfolding(crate::specs::Delete::deepest_before))]
 fn deepest_before(doc: &Doc, at: Point) -> Point
     ensures { result ≡ command.deepest_before doc.now.state at }
 {

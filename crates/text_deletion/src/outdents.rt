@@ -1,19 +1,19 @@
 //! Delete, step 8: an indented line. The steps are those of docs/ALGORITHMS.md.
 
 ghost use Rattle.std.specs.Prelude.{◌≡◌, ◌<◌, IfOk};
-ghost use Rattle.dom_model.specs.Forest.{count_of};
+ghost use Rattle.edit_model.specs.DomModel.Forest.{count_of};
 ghost use Rattle.edit_model.specs.Gives.{Gives, labels_of};
 ghost use Rattle.edit_model.specs.Run.{for_each};
-ghost use Rattle.edit_doc.specs.Whole.{IsOpen};
-ghost use Rattle.edit_doc.specs.Held.{Holds, EachHeld, Keeps};
-ghost use Rattle.list_indent.specs.Outdenting as outdenting;
+ghost use Rattle.text_insertion.specs.EditDoc.Whole.{IsOpen};
+ghost use Rattle.text_insertion.specs.EditDoc.Held.{Holds, EachHeld, Keeps};
+ghost use Rattle.text_insertion.specs.ListIndent.Outdenting as outdenting;
 ghost use Rattle.text_deletion.specs.Entries as entries;
 
-use block_extend::{Choice, block_extend, gather_in};
-use edit_doc::{Doc, EditFault, NodeList, NodeRef, Point};
-use list_indent::{has_editable_below, outdent_node};
-use node_tests::is_indentation;
 use std::alloc::{AllocError, Global};
+use text_insertion::doc::{Doc, EditFault, NodeList, NodeRef, Point};
+use text_insertion::extend::{Choice, block_extend, gather_in};
+use text_insertion::indents::{has_editable_below, outdent_node};
+use text_insertion::questions::is_indentation;
 
 #[tactic(auto, unfolding(crate::specs::Entries::indents_line))]
 fn indents_line(doc: &Doc, node: NodeRef) -> bool

@@ -1,12 +1,12 @@
 -- A turn of the loop that lists the contents of a line, and its end; and lists of at most one node.
 use Rattle.std.proofs.Common.{◌≡◌, ◌≢◌, ℕ, zero, suc, ◌-◌, ◌<◌, ◌≤◌, true, false, List, [], ◌∷◌, length, get_or, refl, arith}
-use Rattle.dom_model.specs.declared.Content.{Content}
-use Rattle.dom_model.specs.Contents.{is_break}
-use Rattle.dom_model.specs.Forest.{Forest, next_of}
-use Rattle.node_arena.specs.declared.NodeRef.{NodeRef}
+use Rattle.edit_model.specs.DomModel.declared.Content.{Content}
+use Rattle.edit_model.specs.DomModel.Contents.{is_break}
+use Rattle.edit_model.specs.DomModel.Forest.{Forest, next_of}
+use Rattle.edit_model.specs.NodeArena.declared.NodeRef.{NodeRef}
 use Rattle.edit_model.specs.Gives.{labels_of}
 use Rattle.edit_model.specs.State.{State}
-use Rattle.wrap_split.specs.Wrap.{list_on}
+use Rattle.list_indent.specs.WrapSplit.Wrap.{list_on}
 use Rattle.text_insertion.specs.Containers.{if_paragraph_child, contents_after}
 use Rattle.text_insertion.specs.Halves.{is_break_alone}
 

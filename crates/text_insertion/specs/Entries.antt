@@ -1,14 +1,14 @@
 -- Entries of lists: li, dt and dd. The steps are those of docs/ALGORITHMS.md.
 use Rattle.std.specs.Prelude.{ℕ, Bool, false, ◌||◌, ◌&&◌, not, [], ◌∷◌, is_none, if◌then◌else◌}
 use Rattle.std.specs.Option.{option_map_or}
-use Rattle.dom_model.specs.Contents.{is_break}
-use Rattle.dom_model.specs.Forest.{next_of, first_of}
+use Rattle.edit_model.specs.DomModel.Contents.{is_break}
+use Rattle.edit_model.specs.DomModel.Forest.{next_of, first_of}
 use Rattle.edit_model.specs.State.{State}
 use Rattle.edit_model.specs.Compositions.{set_tag_name}
 use Rattle.edit_model.specs.Run.{Run, ◌>>=◌, ◌>>◌, answer, look}
-use Rattle.edit_query.specs.Rows.{container_name}
-use Rattle.wrap_split.specs.Split.{split_parent}
-use Rattle.inline_value.specs.Ancestors.{is_description, has_place, fix_ancestors}
+use Rattle.list_indent.specs.EditQuery.Rows.{container_name}
+use Rattle.list_indent.specs.WrapSplit.Split.{split_parent}
+use Rattle.list_indent.specs.InlineValue.Ancestors.{is_description, has_place, fix_ancestors}
 use Rattle.list_indent.specs.Sublists.{is_item}
 use Rattle.delete_core.specs.Merging.{fill_empty}
 

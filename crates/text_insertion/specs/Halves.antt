@@ -2,21 +2,21 @@
 -- to 9). The steps are those of docs/ALGORITHMS.md.
 use Rattle.std.specs.Prelude.{ℕ, ◌==◌, Bool, true, false, ◌&&◌, not, List, [], ◌∷◌, codes, Option, Some, None, if◌then◌else◌}
 use Rattle.std.specs.Option.{option_map_or}
-use Rattle.dom_model.specs.AttributeList.{unset_in}
-use Rattle.dom_model.specs.declared.Content.{Content}
-use Rattle.dom_model.specs.Contents.{has_name, is_break, length_of, name_of}
-use Rattle.dom_model.specs.Forest.{Forest, last_of}
-use Rattle.html_names.specs.ElementNames as names
-use Rattle.live_range.specs.declared.places.Point.{Point}
+use Rattle.edit_model.specs.DomModel.AttributeList.{unset_in}
+use Rattle.edit_model.specs.DomModel.declared.Content.{Content}
+use Rattle.edit_model.specs.DomModel.Contents.{has_name, is_break, length_of, name_of}
+use Rattle.edit_model.specs.DomModel.Forest.{Forest, last_of}
+use Rattle.edit_model.specs.HtmlNames.ElementNames as names
+use Rattle.edit_model.specs.LiveRange.declared.places.Point.{Point}
 use Rattle.edit_model.specs.State.{State}
 use Rattle.edit_model.specs.Compositions.{tag_of, attribute_list_of}
 use Rattle.edit_model.specs.Moves.{insert_after}
 use Rattle.edit_model.specs.Run.{Run, ◌>>=◌, ◌>>◌, done, look, given, make_element, collapse, extract_tail}
-use Rattle.edit_query.specs.Leaves.{nodes_in}
-use Rattle.edit_query.specs.Rows.{container_name}
-use Rattle.inline_value.specs.Ancestors.{is_prohibited}
-use Rattle.wrap_split.specs.Walks.{walk, turn_bound}
-use Rattle.wrap_split.specs.Wrap.{append_break}
+use Rattle.list_indent.specs.EditQuery.Leaves.{nodes_in}
+use Rattle.list_indent.specs.EditQuery.Rows.{container_name}
+use Rattle.list_indent.specs.InlineValue.Ancestors.{is_prohibited}
+use Rattle.list_indent.specs.WrapSplit.Walks.{walk, turn_bound}
+use Rattle.list_indent.specs.WrapSplit.Wrap.{append_break}
 use Rattle.delete_core.specs.Erasing.{shows_child}
 use Rattle.delete_core.specs.Places.{start_in, end_in, before_node, after_node, walk_points}
 use Rattle.text_insertion.specs.Start.{active_start}

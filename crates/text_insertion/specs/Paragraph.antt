@@ -1,16 +1,16 @@
 -- Inserting a paragraph (HTML Editing APIs, "the insertParagraph command"): what is selected goes,
 -- and the line is parted there. The steps are those of docs/ALGORITHMS.md. It answers true.
 use Rattle.std.specs.Prelude.{ℕ, ◌+◌, ◌==◌, Bool, true, ◌||◌, ◌&&◌, codes, Option, None, if◌then◌else◌, unwrap_or}
-use Rattle.dom_model.specs.declared.Content.{Content}
-use Rattle.dom_model.specs.Contents.{has_name, has_chars_at, length_of}
-use Rattle.dom_model.specs.Forest.{Forest}
-use Rattle.live_range.specs.declared.places.Point.{Point}
-use Rattle.node_tests.specs.CollapsedWhitespace.{is_words}
+use Rattle.edit_model.specs.DomModel.declared.Content.{Content}
+use Rattle.edit_model.specs.DomModel.Contents.{has_name, has_chars_at, length_of}
+use Rattle.edit_model.specs.DomModel.Forest.{Forest}
+use Rattle.edit_model.specs.LiveRange.declared.places.Point.{Point}
+use Rattle.list_indent.specs.NodeTests.CollapsedWhitespace.{is_words}
 use Rattle.edit_model.specs.State.{State}
 use Rattle.edit_model.specs.Compositions.{split_words}
 use Rattle.edit_model.specs.Moves.{make_break}
 use Rattle.edit_model.specs.Run.{Run, ◌>>=◌, ◌>>◌, answer, done, look, given, collapse}
-use Rattle.wrap_split.specs.Breaks.{last_below}
+use Rattle.list_indent.specs.WrapSplit.Breaks.{last_below}
 use Rattle.delete_core.specs.declared.deletion.TheConstants.Manner.{DEFAULT}
 use Rattle.delete_core.specs.Places.{at, before_node, after_node}
 use Rattle.text_insertion.specs.Containers.{container_of, own_container}

@@ -2,16 +2,16 @@
 -- are put there.
 use Rattle.std.specs.Prelude.{ℕ, ◌==◌, Bool, ◌&&◌, not, Option, Some, None, if◌then◌else◌}
 use Rattle.std.specs.Option.{option_map}
-use Rattle.dom_model.specs.declared.Content.{Content}
-use Rattle.dom_model.specs.Contents.{length_of}
-use Rattle.dom_model.specs.Forest.{Forest}
-use Rattle.live_range.specs.declared.places.Point.{Point}
-use Rattle.node_tests.specs.BlockPoints.{child_at}
-use Rattle.node_tests.specs.CollapsedWhitespace.{is_words}
+use Rattle.edit_model.specs.DomModel.declared.Content.{Content}
+use Rattle.edit_model.specs.DomModel.Contents.{length_of}
+use Rattle.edit_model.specs.DomModel.Forest.{Forest}
+use Rattle.edit_model.specs.LiveRange.declared.places.Point.{Point}
+use Rattle.list_indent.specs.NodeTests.BlockPoints.{child_at}
+use Rattle.list_indent.specs.NodeTests.CollapsedWhitespace.{is_words}
 use Rattle.edit_model.specs.State.{State}
 use Rattle.edit_model.specs.Confined.{is_inside}
 use Rattle.edit_model.specs.Run.{Run, ◌>>=◌, ◌>>◌, done, look, given, insert}
-use Rattle.edit_actions.specs.ActiveRange.{start_of}
+use Rattle.list_indent.specs.EditActions.ActiveRange.{start_of}
 use Rattle.inline_commands.specs.RestoringStates.{restore_states}
 use Rattle.delete_core.specs.declared.deletion.Manner.{Manner}
 use Rattle.delete_core.specs.Deletion.{delete_selection}

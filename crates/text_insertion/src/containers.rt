@@ -4,14 +4,14 @@
 ghost use Rattle.std.specs.Prelude.{◌≡◌, true, IfSome};
 ghost use Rattle.edit_model.specs.Confined.{is_editable_for, is_inside};
 ghost use Rattle.edit_model.specs.Gives.{label_of};
-ghost use Rattle.edit_doc.specs.Held.{Holds, IfHeld, Finds};
+ghost use Rattle.list_indent.specs.EditDoc.Held.{Holds, IfHeld, Finds};
 ghost use Rattle.text_insertion.specs.Containers as containers;
 
 use crate::entries::is_entry;
-use edit_doc::{Doc, NodeRef};
-use edit_query::is_editable_inside;
-use node_tests::{has_name, is_single_line};
-use wrap_split::turn_bound;
+use list_indent::doc::{Doc, NodeRef};
+use list_indent::query::is_editable_inside;
+use list_indent::questions::{has_name, is_single_line};
+use list_indent::wrap::turn_bound;
 
 // A node, if there is one, that is editable.
 fn if_editable(doc: &Doc, inside: bool, node: Option<NodeRef>) -> Option<NodeRef>
@@ -43,7 +43,7 @@ fn up_to_container(doc: &Doc, editable: bool, node: NodeRef) -> Option<NodeRef>
 }
 
 // Step 3: up to a single-line container, as far as it goes.
-#[tactic(auto, using(wrap_split::proofs::Turns::walks, crate::proofs::Upward::container_editable), unfolding(crate::specs::Containers::nearest_container))]
+#[tactic(auto, using(crate::proofs::Below::walks, crate::proofs::Upward::container_editable), unfolding(crate::specs::Containers::nearest_container))]
 fn nearest_container(doc: &Doc, node: NodeRef) -> NodeRef
     requires { Holds doc.now node }
     ensures gives { result.label ≡ containers.nearest_container doc.now.state node.label }
@@ -79,7 +79,7 @@ fn up_to_entry(doc: &Doc, editable: bool, node: NodeRef) -> Option<NodeRef>
 }
 
 // Step 3: up to an entry of a list, as far as it goes.
-#[tactic(auto, using(wrap_split::proofs::Turns::walks, crate::proofs::Upward::entry_editable), unfolding(crate::specs::Containers::nearest_entry))]
+#[tactic(auto, using(crate::proofs::Below::walks, crate::proofs::Upward::entry_editable), unfolding(crate::specs::Containers::nearest_entry))]
 fn nearest_entry(doc: &Doc, node: NodeRef) -> NodeRef
     requires { Holds doc.now node }
     ensures gives { result.label ≡ containers.nearest_entry doc.now.state node.label }

@@ -2,16 +2,16 @@
 
 ghost use Rattle.std.specs.Prelude.{◌≡◌, IfOk};
 ghost use Rattle.edit_model.specs.Gives.{Gives, GivesNode};
-ghost use Rattle.edit_doc.specs.Whole.{IsOpen};
-ghost use Rattle.edit_doc.specs.Held.{Holds, Keeps};
+ghost use Rattle.list_indent.specs.EditDoc.Whole.{IsOpen};
+ghost use Rattle.list_indent.specs.EditDoc.Held.{Holds, Keeps};
 ghost use Rattle.text_insertion.specs.Entries as entries;
 
 use delete_core::fill_empty;
-use edit_doc::{Doc, EditFault, NodeList, NodeRef};
-use inline_value::{container_name, fix_ancestors, has_place, is_description};
-use node_tests::{has_name, is_break};
+use list_indent::doc::{Doc, EditFault, NodeList, NodeRef};
+use list_indent::inline::{container_name, fix_ancestors, has_place, is_description};
+use list_indent::questions::{has_name, is_break};
+use list_indent::wrap::split_parent;
 use std::alloc::Global;
-use wrap_split::split_parent;
 
 /// Whether a node is an li, dt or dd.
 #[tactic(auto, unfolding(crate::specs::Entries::is_entry))]

@@ -2,26 +2,26 @@
 //! of docs/ALGORITHMS.md.
 
 ghost use Rattle.std.specs.Prelude.{◌≡◌, ◌<◌, IfOk, IfSome, codes};
-ghost use Rattle.dom_model.specs.AttributeList.{unset_in};
-ghost use Rattle.dom_model.specs.Forest.{count_of};
+ghost use Rattle.edit_model.specs.DomModel.AttributeList.{unset_in};
+ghost use Rattle.edit_model.specs.DomModel.Forest.{count_of};
 ghost use Rattle.edit_model.specs.Compositions as compositions;
 ghost use Rattle.edit_model.specs.Gives.{Gives, GivesNode, labels_of};
-ghost use Rattle.edit_doc.specs.Whole.{IsOpen};
-ghost use Rattle.edit_doc.specs.Held.{Holds, EachHeld, Finds, Keeps};
+ghost use Rattle.list_indent.specs.EditDoc.Whole.{IsOpen};
+ghost use Rattle.list_indent.specs.EditDoc.Held.{Holds, EachHeld, Finds, Keeps};
 ghost use Rattle.text_insertion.specs.Halves as halves;
 
 use crate::start::active_start;
 use delete_core::{after_node, before_node, end_in, select, shows_child, start_in};
-use dom_model::{Attributes, Content};
-use edit_actions::{attributes_of, insert_after, tag_of};
-use edit_doc::{Doc, EditFault, Name, NodeRef, Point};
-use edit_query::nodes_in;
-use html_names::is_heading;
-use inline_value::{container_name, is_prohibited};
-use node_tests::{has_name, is_break};
-use point_order::node_of;
+use edit_model::boundary::node_of;
+use edit_model::dom::{Attributes, Content};
+use edit_model::element_names::is_heading;
+use list_indent::actions::{attributes_of, insert_after, tag_of};
+use list_indent::doc::{Doc, EditFault, Name, NodeRef, Point};
+use list_indent::inline::{container_name, is_prohibited};
+use list_indent::query::nodes_in;
+use list_indent::questions::{has_name, is_break};
+use list_indent::wrap::{append_break, turn_bound};
 use std::alloc::{AllocError, Global};
-use wrap_split::{append_break, turn_bound};
 
 // Step 7: out of a node at its start.
 #[tactic(auto, unfolding(crate::specs::Halves::leave_start))]
@@ -218,7 +218,7 @@ fn into_last_block(doc: &Doc, node: NodeRef) -> Option<NodeRef>
 }
 
 // Step 9: down by such children.
-#[tactic(auto, using(wrap_split::proofs::Turns::walks), unfolding(crate::specs::Halves::deepest_last))]
+#[tactic(auto, using(crate::proofs::Below::walks), unfolding(crate::specs::Halves::deepest_last))]
 fn deepest_last(doc: &Doc, node: NodeRef) -> NodeRef
     requires { Holds doc.now node }
     ensures gives { result.label ≡ halves.deepest_last doc.now.state node.label }

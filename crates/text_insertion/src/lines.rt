@@ -3,25 +3,25 @@
 
 ghost use Rattle.std.specs.Prelude.{◌≡◌, ◌<◌, ◌++◌, IfOk};
 ghost use Rattle.std.specs.List.{find};
-ghost use Rattle.dom_model.specs.Forest.{count_of};
+ghost use Rattle.edit_model.specs.DomModel.Forest.{count_of};
 ghost use Rattle.edit_model.specs.Gives.{GivesMaybe, label_of, labels_of};
-ghost use Rattle.edit_doc.specs.Whole.{IsOpen};
-ghost use Rattle.edit_doc.specs.Held.{Holds, IfHeld, EachHeld, Finds, Keeps};
-ghost use Rattle.wrap_split.specs.Walks.{turn_bound};
+ghost use Rattle.list_indent.specs.EditDoc.Whole.{IsOpen};
+ghost use Rattle.list_indent.specs.EditDoc.Held.{Holds, IfHeld, EachHeld, Finds, Keeps};
+ghost use Rattle.list_indent.specs.WrapSplit.Walks.{turn_bound};
 ghost use Rattle.text_insertion.specs.Containers as containers;
 
 use crate::start::{active_start, insert_at_start};
-use block_extend::block_extend;
 use delete_core::{select, start_in};
-use dom_model::Attributes;
-use edit_actions::ends_of;
-use edit_doc::{Doc, EditFault, NodeList, NodeRef, Point};
-use edit_query::nodes_in;
-use inline_value::container_name;
-use node_tests::{allowed_in_name, is_single_line, name_allowed_in};
-use point_order::node_of;
+use edit_model::boundary::node_of;
+use edit_model::dom::Attributes;
+use list_indent::actions::ends_of;
+use list_indent::doc::{Doc, EditFault, NodeList, NodeRef, Point};
+use list_indent::extend::block_extend;
+use list_indent::inline::container_name;
+use list_indent::query::nodes_in;
+use list_indent::questions::{allowed_in_name, is_single_line, name_allowed_in};
+use list_indent::wrap::{Blank, CopyMade, NoSibling, WrapRule, append_break, turn_bound, wrap};
 use std::alloc::{AllocError, Global};
-use wrap_split::{Blank, CopyMade, NoSibling, WrapRule, append_break, turn_bound, wrap};
 
 #[tactic(auto, unfolding(crate::specs::Containers::is_own_container))]
 fn is_own_container(doc: &Doc, node: NodeRef) -> bool
@@ -70,7 +70,7 @@ fn first_between(
 }
 
 // The first such node in the block-extended active range.
-#[tactic(auto, using(edit_actions::proofs::Placed::placed_here), unfolding(crate::specs::Containers::first_content))]
+#[tactic(auto, using(crate::proofs::Below::placed_here), unfolding(crate::specs::Containers::first_content))]
 fn first_content(alloc: Global, doc: &Doc) -> Result<Option<NodeRef>, AllocError>
     ensures { IfOk result (λ found. Finds doc.now found (containers.first_content doc.now.state)) }
 {

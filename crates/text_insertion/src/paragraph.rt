@@ -1,10 +1,10 @@
 //! The command insertParagraph. The steps are those of docs/ALGORITHMS.md.
 
 ghost use Rattle.std.specs.Prelude.{◌≡◌, ◌<◌, IfOk, IfSome, true};
-ghost use Rattle.dom_model.specs.Forest.{count_of};
+ghost use Rattle.edit_model.specs.DomModel.Forest.{count_of};
 ghost use Rattle.edit_model.specs.Gives.{Gives};
-ghost use Rattle.edit_doc.specs.Whole.{IsOpen};
-ghost use Rattle.edit_doc.specs.Held.{Holds, Keeps};
+ghost use Rattle.list_indent.specs.EditDoc.Whole.{IsOpen};
+ghost use Rattle.list_indent.specs.EditDoc.Held.{Holds, Keeps};
 ghost use Rattle.text_insertion.specs.Paragraph as command;
 
 use crate::containers::container_of;
@@ -13,12 +13,12 @@ use crate::halves::part_container;
 use crate::lines::own_container;
 use crate::start::{cuts_text, erase, has_chars, insert_at_start, start_inside};
 use delete_core::{Manner, after_node, before_node, select};
-use edit_actions::make_break;
-use edit_doc::{Doc, EditFault, NodeRef, Point};
-use node_tests::{has_name, is_words};
-use point_order::node_of;
+use edit_model::boundary::node_of;
+use list_indent::actions::make_break;
+use list_indent::doc::{Doc, EditFault, NodeRef, Point};
+use list_indent::questions::{has_name, is_words};
+use list_indent::wrap::last_below;
 use std::alloc::{AllocError, Global};
-use wrap_split::last_below;
 
 // Step 2: from the end of a text to after it, and else to before the text or comment.
 #[tactic(auto, unfolding(crate::specs::Paragraph::out_of_text))]

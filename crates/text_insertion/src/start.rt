@@ -2,24 +2,24 @@
 //! are put there.
 
 ghost use Rattle.std.specs.Prelude.{◌≡◌, ◌<◌, IfSome};
-ghost use Rattle.dom_model.specs.Contents.{has_chars_at};
-ghost use Rattle.dom_model.specs.Forest.{count_of};
+ghost use Rattle.edit_model.specs.DomModel.Contents.{has_chars_at};
+ghost use Rattle.edit_model.specs.DomModel.Forest.{count_of};
 ghost use Rattle.edit_model.specs.Gives.{Gives};
-ghost use Rattle.edit_doc.specs.Whole.{IsOpen};
-ghost use Rattle.edit_doc.specs.Held.{Holds, Keeps};
+ghost use Rattle.list_indent.specs.EditDoc.Whole.{IsOpen};
+ghost use Rattle.list_indent.specs.EditDoc.Held.{Holds, Keeps};
 ghost use Rattle.text_insertion.specs.Start as start;
 
 use delete_core::{Manner, child_at, delete_selection};
-use dom_model::Content;
-use edit_actions::ends_of;
-use edit_doc::{Doc, EditFault, NodeRef, Point};
+use edit_model::boundary::node_of;
+use edit_model::dom::Content;
 use inline_commands::restore_states;
-use node_tests::is_words;
-use point_order::node_of;
+use list_indent::actions::ends_of;
+use list_indent::doc::{Doc, EditFault, NodeRef, Point};
+use list_indent::questions::is_words;
 use std::alloc::Global;
 
 /// The start of the active range.
-#[tactic(auto, using(edit_actions::proofs::Placed::placed_here), unfolding(crate::specs::Start::active_start))]
+#[tactic(auto, using(crate::proofs::Below::placed_here), unfolding(crate::specs::Start::active_start))]
 pub(crate) fn active_start(doc: &Doc) -> Option<Point>
     ensures gives { result ≡ start.active_start doc.now.state }
     ensures there { IfSome result (λ at. 0 < count_of doc.now.state.trees at.label) }

@@ -1,11 +1,11 @@
 //! The command insertText. The steps are those of docs/ALGORITHMS.md.
 
 ghost use Rattle.std.specs.Prelude.{◌≡◌, ◌<◌, IfOk, true};
-ghost use Rattle.dom_model.specs.Forest.{count_of};
+ghost use Rattle.edit_model.specs.DomModel.Forest.{count_of};
 ghost use Rattle.edit_model.specs.Gives.{Gives, label_of};
 ghost use Rattle.edit_model.specs.Run.{for_each};
-ghost use Rattle.edit_doc.specs.Whole.{IsOpen};
-ghost use Rattle.edit_doc.specs.Held.{Holds, IfHeld, Finds, Keeps};
+ghost use Rattle.list_indent.specs.EditDoc.Whole.{IsOpen};
+ghost use Rattle.list_indent.specs.EditDoc.Held.{Holds, IfHeld, Finds, Keeps};
 ghost use Rattle.text_insertion.specs.Typing as typing;
 
 use crate::paragraph::insert_paragraph;
@@ -14,11 +14,11 @@ use delete_core::{
     Manner, canonicalize, canonicalize_end, canonicalize_start, child_at, child_before,
     collapse_selection, end_in, select, start_in,
 };
-use edit_doc::{Doc, EditFault, NodeRef, Point};
+use edit_model::boundary::node_of;
 use inline_commands::restore_states;
-use inline_value::record_overrides;
-use node_tests::{is_collapsed_break, is_words};
-use point_order::node_of;
+use list_indent::doc::{Doc, EditFault, NodeRef, Point};
+use list_indent::inline::record_overrides;
+use list_indent::questions::{is_collapsed_break, is_words};
 use std::alloc::{AllocError, Global};
 
 // A node, if there is one, that is a text.

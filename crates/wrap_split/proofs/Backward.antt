@@ -3,8 +3,8 @@ use Rattle.std.proofs.Common.{◌≡◌, ℕ, ◌<◌, ◌≤◌, Bool, true, fa
 use Rattle.std.proofs.lemmas.Bool.{ne_eqb}
 use Rattle.std.proofs.lemmas.Bool.Decides.{eqb_tells}
 use Rattle.std.proofs.lemmas.List.{length_push}
-use Rattle.dom_model.specs.Forest.{either, times, last_or, last_in, before_from, before_in}
-use Rattle.dom_model.proofs.Links.{eqb_refl_true}
+use Rattle.edit_model.specs.DomModel.Forest.{either, times, last_or, last_in, before_from, before_in}
+use Rattle.edit_model.proofs.DomModel.Links.{eqb_refl_true}
 use Rattle.edit_model.specs.State.{State}
 use Rattle.edit_actions.specs.Siblings.{until}
 use Rattle.wrap_split.specs.Walks.{is_invisible}

@@ -1,15 +1,15 @@
 -- Walks over the children of a node: from the first on, and from the last back.
 use Rattle.std.proofs.Common.{◌≡◌, ℕ, ◌<◌, false, true, List, [], ◌∷◌, ◌++◌, length, Option, Some, None, refl, sym, ap, ◌∙◌, subst}
 use Rattle.std.specs.Option.{option_and_then, option_map_or}
-use Rattle.dom_model.specs.declared.Content.{Content}
-use Rattle.dom_model.specs.Forest.{Forest, Seen, IsDistinct, times, parent_of, children_of, last_of, next_of, prev_of, before_in}
-use Rattle.dom_model.proofs.Links.{child_of_parent, times-children_of}
-use Rattle.dom_model.proofs.Neighbours.{parent_of-last, parent_of-prev_sibling}
-use Rattle.node_arena.specs.declared.NodeRef.{NodeRef}
+use Rattle.edit_model.specs.DomModel.declared.Content.{Content}
+use Rattle.edit_model.specs.DomModel.Forest.{Forest, Seen, IsDistinct, times, parent_of, children_of, last_of, next_of, prev_of, before_in}
+use Rattle.edit_model.proofs.DomModel.Links.{child_of_parent, times-children_of}
+use Rattle.edit_model.proofs.DomModel.Neighbours.{parent_of-last, parent_of-prev_sibling}
+use Rattle.edit_model.specs.NodeArena.declared.NodeRef.{NodeRef}
 use Rattle.edit_model.specs.Gives.{label_of}
-use Rattle.edit_doc.specs.Whole.{Whole, IsDoc}
-use Rattle.edit_doc.specs.Held.{IfHeld, Finds}
-use Rattle.edit_doc.proofs.Children.{IsChild, child_is}
+use Rattle.edit_actions.specs.EditDoc.Whole.{Whole, IsDoc}
+use Rattle.edit_actions.specs.EditDoc.Held.{IfHeld, Finds}
+use Rattle.edit_actions.proofs.EditDoc.Children.{IsChild, child_is}
 use Rattle.edit_actions.specs.Siblings.{until}
 use Rattle.edit_actions.proofs.Children.{rest_at, rest_is}
 use Rattle.wrap_split.specs.Walks.{is_invisible}

@@ -1,12 +1,12 @@
 -- A turn of the loops that widen a list, and their ends; and lists of held nodes in reverse order.
 use Rattle.std.proofs.Common.{◌≡◌, ℕ, zero, suc, ◌-◌, ◌<◌, ◌≤◌, List, [], ◌∷◌, ◌++◌, length, reverse, refl, ap, arith}
 use Rattle.std.proofs.lemmas.List.{reverse-append, reverse-reverse, length-reverse, get_or-reverse}
-use Rattle.dom_model.specs.Forest.{prev_of, next_of}
-use Rattle.node_arena.specs.declared.NodeRef.{NodeRef}
+use Rattle.edit_model.specs.DomModel.Forest.{prev_of, next_of}
+use Rattle.edit_model.specs.NodeArena.declared.NodeRef.{NodeRef}
 use Rattle.edit_model.specs.State.{State}
 use Rattle.edit_model.specs.Gives.{labels_of}
-use Rattle.edit_doc.specs.Whole.{Whole}
-use Rattle.edit_doc.specs.Held.{EachHeld}
+use Rattle.edit_actions.specs.EditDoc.Whole.{Whole}
+use Rattle.edit_actions.specs.EditDoc.Held.{EachHeld}
 use Rattle.wrap_split.specs.Wrap.{extended_front, hidden_after, list_on, if_hidden}
 
 suc-sub-one : (n : ℕ) → suc n - 1 ≡ n

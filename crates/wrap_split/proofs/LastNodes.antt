@@ -1,13 +1,13 @@
 -- The last node of a tree in tree order, by last children.
 use Rattle.std.proofs.Common.{◌≡◌, ℕ, zero, suc, ◌+◌, ◌<◌, ◌≤◌, List, [], ◌∷◌, Option, Some, None, refl, sym, ap, ◌∙◌, subst, inl, inr, arith}
 use Rattle.std.proofs.lemmas.Bool.Decides.{eqb_tells}
-use Rattle.dom_model.specs.declared.Content.{Content}
-use Rattle.dom_model.specs.Forest.{Forest, join, tops, total, count_of, IsDistinct, tree_of, children_of, parent_of, first_of, last_of, next_of, first_in, last_or, last_in, preorder_onto, preorder}
-use Rattle.dom_model.specs.Forest.Forest.{Nil, Tree}
-use Rattle.dom_model.specs.Places.{onward, or_else}
-use Rattle.dom_model.proofs.Links.{join-Nil, tree_of_absent, parent_count}
-use Rattle.dom_model.proofs.Neighbours.{parent_of-first, parent_of-next}
-use Rattle.dom_model.proofs.Parts.{at_label, onward_absent}
+use Rattle.edit_model.specs.DomModel.declared.Content.{Content}
+use Rattle.edit_model.specs.DomModel.Forest.{Forest, join, tops, total, count_of, IsDistinct, tree_of, children_of, parent_of, first_of, last_of, next_of, first_in, last_or, last_in, preorder_onto, preorder}
+use Rattle.edit_model.specs.DomModel.Forest.Forest.{Nil, Tree}
+use Rattle.edit_model.specs.DomModel.Places.{onward, or_else}
+use Rattle.edit_model.proofs.DomModel.Links.{join-Nil, tree_of_absent, parent_count}
+use Rattle.edit_model.proofs.DomModel.Neighbours.{parent_of-first, parent_of-next}
+use Rattle.edit_model.proofs.DomModel.Parts.{at_label, onward_absent}
 use Rattle.wrap_split.specs.Walks.{last_within}
 
 -- how many nodes

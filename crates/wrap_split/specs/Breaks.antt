@@ -1,8 +1,8 @@
 -- Removing line breaks (HTML Editing APIs, "remove extraneous line breaks before", "at the end of"
 -- and "from" a node). The steps are those of docs/ALGORITHMS.md.
 use Rattle.std.specs.Prelude.{ℕ, ◌&&◌, not, Option, Some, None, if◌then◌else◌}
-use Rattle.dom_model.specs.Forest.{is_label, parent_of, prev_of, last_of}
-use Rattle.node_tests.specs.SolidNeighbours.{is_extraneous_break}
+use Rattle.edit_model.specs.DomModel.Forest.{is_label, parent_of, prev_of, last_of}
+use Rattle.edit_actions.specs.NodeTests.SolidNeighbours.{is_extraneous_break}
 use Rattle.edit_model.specs.State.{State}
 use Rattle.edit_model.specs.Confined.{is_editable_for}
 use Rattle.edit_model.specs.Run.{Run, ◌>>◌, done, look, given, remove}

@@ -3,10 +3,10 @@
 -- docs/ALGORITHMS.md.
 use Rattle.std.specs.Prelude.{ℕ, Bool, false, ◌||◌, ◌&&◌, not, List, [], ◌∷◌, if◌then◌else◌, codes, is_none}
 use Rattle.std.specs.Option.{option_map_or}
-use Rattle.dom_model.specs.Contents.{name_of, is_break}
-use Rattle.dom_model.specs.Forest.{parent_of, next_of, children_of, first_of, first_in, last_in}
-use Rattle.node_styles.specs.Blocks.{is_block}
-use Rattle.node_tests.specs.LineBreaks.{follows_break, precedes_break}
+use Rattle.edit_model.specs.DomModel.Contents.{name_of, is_break}
+use Rattle.edit_model.specs.DomModel.Forest.{parent_of, next_of, children_of, first_of, first_in, last_in}
+use Rattle.command_value.specs.NodeStyles.Blocks.{is_block}
+use Rattle.edit_actions.specs.NodeTests.LineBreaks.{follows_break, precedes_break}
 use Rattle.edit_model.specs.State.{State}
 use Rattle.edit_model.specs.Kept.{is_thing}
 use Rattle.edit_model.specs.Confined.{is_editable_for}

@@ -5,13 +5,13 @@ use Rattle.std.specs.Char.{to_ascii_lowercase}
 use Rattle.std.specs.List.{list_all}
 use Rattle.std.specs.Option.{option_map_or}
 use Rattle.std.specs.declared.alloc.AllocError.{AllocError}
-use Rattle.dom_model.specs.declared.attributes.Attribute.{Attribute}
-use Rattle.dom_model.specs.Contents.{attributes_of, has_name}
-use Rattle.dom_model.specs.Forest.{Forest, either, prev_of, next_of}
-use Rattle.dom_model.specs.declared.Content.{Content}
-use Rattle.css_value.specs.StyleText.{Declaration}
-use Rattle.css_value.specs.DeclarationList.{declarations_in}
-use Rattle.node_styles.specs.NameClasses.{is_simple_indentation}
+use Rattle.edit_model.specs.DomModel.declared.attributes.Attribute.{Attribute}
+use Rattle.edit_model.specs.DomModel.Contents.{attributes_of, has_name}
+use Rattle.edit_model.specs.DomModel.Forest.{Forest, either, prev_of, next_of}
+use Rattle.edit_model.specs.DomModel.declared.Content.{Content}
+use Rattle.command_value.specs.CssValue.StyleText.{Declaration}
+use Rattle.command_value.specs.CssValue.DeclarationList.{declarations_in}
+use Rattle.command_value.specs.NodeStyles.NameClasses.{is_simple_indentation}
 use Rattle.command_value.specs.Modifiable.{meets_value}
 use Rattle.edit_model.specs.State.{State}
 use Rattle.edit_model.specs.Confined.{is_editable_for}

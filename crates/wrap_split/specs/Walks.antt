@@ -1,10 +1,10 @@
 -- Walks from node to node, in which nothing is edited.
 use Rattle.std.specs.Prelude.{ℕ, zero, suc, Bool, not, Option, Some, None}
 use Rattle.std.specs.Option.{option_map_or}
-use Rattle.dom_model.specs.declared.Content.{Content}
-use Rattle.dom_model.specs.Forest.{Forest, parent_of, prev_of, last_in, preorder, tree_of}
-use Rattle.node_styles.specs.TurnBound as bound
-use Rattle.node_tests.specs.Visible.{is_visible}
+use Rattle.edit_model.specs.DomModel.declared.Content.{Content}
+use Rattle.edit_model.specs.DomModel.Forest.{Forest, parent_of, prev_of, last_in, preorder, tree_of}
+use Rattle.command_value.specs.NodeStyles.TurnBound as bound
+use Rattle.edit_actions.specs.NodeTests.Visible.{is_visible}
 use Rattle.edit_model.specs.State.{State}
 
 -- how many turns a loop takes at most that starts now: two for each node of the document, one for

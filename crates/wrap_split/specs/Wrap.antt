@@ -1,13 +1,13 @@
 -- Wrapping a list of siblings (HTML Editing APIs, "wrap"). The steps are those of
 -- docs/ALGORITHMS.md.
 use Rattle.std.specs.Prelude.{ℕ, zero, suc, Bool, true, false, ◌&&◌, not, List, [], ◌∷◌, ◌++◌, Option, Some, None, if◌then◌else◌, is_none}
-use Rattle.dom_model.specs.Forest.{either, parent_of, prev_of, next_of, children_of, first_of, last_of, first_in, last_in}
-use Rattle.dom_model.specs.Places.{index_of}
-use Rattle.node_styles.specs.Blocks.{is_block}
-use Rattle.point_order.specs.PointOrder.{is_earlier}
+use Rattle.edit_model.specs.DomModel.Forest.{either, parent_of, prev_of, next_of, children_of, first_of, last_of, first_in, last_in}
+use Rattle.edit_model.specs.DomModel.Places.{index_of}
+use Rattle.command_value.specs.NodeStyles.Blocks.{is_block}
+use Rattle.edit_model.specs.PointOrder.PointOrder.{is_earlier}
 use Rattle.edit_model.specs.State.{State}
 use Rattle.edit_model.specs.Confined.{is_editable_for}
-use Rattle.dom_model.specs.Contents.{is_break}
+use Rattle.edit_model.specs.DomModel.Contents.{is_break}
 use Rattle.edit_model.specs.Moves.{move_all_first, move_each_last, insert_before, make_break}
 use Rattle.edit_model.specs.Run.{Run, ◌>>=◌, ◌>>◌, answer, done, look, given, insert, remove, grow}
 use Rattle.wrap_split.specs.declared.rule.Criterion.{Criterion}

@@ -1,17 +1,17 @@
 //! Tests and makers that many rules have.
 
 ghost use Rattle.std.specs.Prelude.{◌≡◌};
-ghost use Rattle.edit_doc.specs.Held.{Holds};
+ghost use Rattle.edit_actions.specs.EditDoc.Held.{Holds};
 ghost use Rattle.wrap_split.specs.Target.{is_without_attributes};
 ghost use Rattle.wrap_split.specs.declared.rule.Criterion.TheVariants.{Never, SameValue, Named, SimpleIndentation};
 ghost use Rattle.wrap_split.specs.declared.rule.Recipe.TheVariants.{Nothing, Make};
 
 use crate::rule::{Blank, Makes, Meets};
 use command_value::meets_value;
-use dom_model::{Chars, Content};
-use edit_doc::{Doc, Name, NodeRef};
-use html_names::Command;
-use node_tests::{has_name, is_simple_indentation};
+use edit_actions::doc::{Doc, Name, NodeRef};
+use edit_actions::questions::{has_name, is_simple_indentation};
+use edit_model::dom::{Chars, Content};
+use edit_model::element_names::Command;
 use std::alloc::AllocError;
 
 /// No sibling fits.

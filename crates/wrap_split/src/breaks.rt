@@ -2,14 +2,14 @@
 
 ghost use Rattle.std.specs.Prelude.{◌≡◌};
 ghost use Rattle.edit_model.specs.Gives.{Gives, label_of};
-ghost use Rattle.edit_doc.specs.Whole.{IsOpen};
-ghost use Rattle.edit_doc.specs.Held.{Holds, Finds, Keeps};
+ghost use Rattle.edit_actions.specs.EditDoc.Whole.{IsOpen};
+ghost use Rattle.edit_actions.specs.EditDoc.Held.{Holds, Finds, Keeps};
 ghost use Rattle.wrap_split.specs.Breaks.{last_below, back_step, back, up_step, top_hidden, breaks_before, breaks_at_end, breaks_from};
 
 use crate::walks::{preceding, turn_bound};
+use edit_actions::doc::{Doc, EditFault, NodeRef};
 use edit_actions::is_same;
-use edit_doc::{Doc, EditFault, NodeRef};
-use node_tests::{is_extraneous_break, is_visible};
+use edit_actions::questions::{is_extraneous_break, is_visible};
 
 /// The last node below a node, in tree order: down from it by last children.
 #[tactic(auto, using(crate::proofs::Turns::walks), unfolding(crate::specs::Breaks::last_below))]

@@ -3,16 +3,16 @@
 ghost use Rattle.std.specs.Prelude.{◌≡◌, ◌<◌, length};
 ghost use Rattle.edit_model.specs.Gives.{Gives, label_of, labels_of};
 ghost use Rattle.edit_model.specs.Run.{final};
-ghost use Rattle.edit_doc.specs.Whole.{IsOpen, with_state};
-ghost use Rattle.edit_doc.specs.Held.{Holds, IfHeld, EachHeld, Keeps};
+ghost use Rattle.edit_actions.specs.EditDoc.Whole.{IsOpen, with_state};
+ghost use Rattle.edit_actions.specs.EditDoc.Held.{Holds, IfHeld, EachHeld, Keeps};
 ghost use Rattle.wrap_split.specs.Wrap.{is_inline, is_other, append_break, prepend_break, needs_br, joins_front, separate_with_br, append_all, parted_front, prepend_all, moved_in, grow_at, insert_if_loose, drop_parent, move_children, merged};
 
 use crate::listing::{first_visible, last_visible};
 use crate::siblings::{first_visible_child, last_visible_child};
+use edit_actions::doc::{Doc, EditFault, NodeRef};
+use edit_actions::questions::{is_block, is_break};
 use edit_actions::{insert_before, make_break, move_all_first};
-use edit_doc::{Doc, EditFault, NodeRef};
-use node_tests::{is_block, is_break};
-use point_order::is_earlier;
+use edit_model::boundary::is_earlier;
 use std::alloc::Global;
 
 /// Whether there is a node, and it is inline.

@@ -22,7 +22,11 @@ pub use answers::{
     is_without_attributes,
 };
 pub use breaks::{breaks_at_end, breaks_before, breaks_from, last_below};
-pub use edit_doc::{Doc, EditFault, NodeList, NodeRef};
+pub use command_value as values;
+pub use command_value::{css, properties, styles};
+pub use edit_actions as actions;
+pub use edit_actions::doc::{Doc, EditFault, NodeList, NodeRef};
+pub use edit_actions::{doc, document, questions};
 pub use filling::{append_break, is_inline};
 pub use listing::{break_next, first_visible};
 pub use rule::{Blank, Criterion, Makes, Meets, Recipe, WrapRule};

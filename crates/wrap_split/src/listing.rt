@@ -2,13 +2,13 @@
 
 ghost use Rattle.std.specs.Prelude.{◌≡◌, ◌++◌, IfOk, reverse};
 ghost use Rattle.edit_model.specs.Gives.{label_of, labels_of};
-ghost use Rattle.edit_doc.specs.Held.{Holds, IfHeld, EachHeld, Finds};
+ghost use Rattle.edit_actions.specs.EditDoc.Held.{Holds, IfHeld, EachHeld, Finds};
 ghost use Rattle.wrap_split.specs.Walks.{turn_bound};
 ghost use Rattle.wrap_split.specs.Wrap.{all_hidden, first_visible, last_visible, break_next, if_hidden, with_break, extended, hidden_after, extended_back, widened};
 
 use crate::walks::turn_bound;
-use edit_doc::{Doc, NodeRef};
-use node_tests::{is_block, is_break, is_visible};
+use edit_actions::doc::{Doc, NodeRef};
+use edit_actions::questions::{is_block, is_break, is_visible};
 use std::alloc::AllocError;
 
 // Wrap, step 2: whether every member is invisible, and none is a br.

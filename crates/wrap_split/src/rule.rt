@@ -5,14 +5,14 @@
 //! can't be told wrong, and wrapping asks nothing more.
 
 ghost use Rattle.std.specs.Prelude.{◌≡◌};
-ghost use Rattle.edit_doc.specs.Held.{Holds};
+ghost use Rattle.edit_actions.specs.EditDoc.Held.{Holds};
 ghost use Rattle.wrap_split.specs.Target.{IsMade, meets};
 ghost use Rattle.wrap_split.specs.declared.rule.Criterion.{Criterion};
 ghost use Rattle.wrap_split.specs.declared.rule.Recipe.{Recipe};
 
-use dom_model::{Attributes, Chars, Name};
-use edit_doc::{Doc, NodeRef};
-use html_names::Command;
+use edit_actions::doc::{Doc, NodeRef};
+use edit_model::dom::{Attributes, Chars, Name};
+use edit_model::element_names::Command;
 use std::alloc::AllocError;
 
 /// Which sibling a list may be wrapped in.

@@ -1,11 +1,11 @@
 //! The visible children of a node.
 
-ghost use Rattle.dom_model.specs.Forest.{children_of};
-ghost use Rattle.edit_doc.specs.Held.{Holds, Finds};
+ghost use Rattle.edit_model.specs.DomModel.Forest.{children_of};
+ghost use Rattle.edit_actions.specs.EditDoc.Held.{Holds, Finds};
 ghost use Rattle.wrap_split.specs.Wrap.{first_visible, last_visible};
 
-use edit_doc::{Doc, NodeRef};
-use node_tests::is_visible;
+use edit_actions::doc::{Doc, NodeRef};
+use edit_actions::questions::is_visible;
 
 // The first child of a node that is visible.
 pub(crate) fn first_visible_child(doc: &Doc, node: NodeRef) -> Option<NodeRef>

@@ -3,17 +3,19 @@
 
 ghost use Rattle.std.specs.Prelude.{◌≡◌};
 ghost use Rattle.edit_model.specs.Gives.{Gives, GivesAs, labels_of};
-ghost use Rattle.edit_doc.specs.Whole.{IsOpen};
-ghost use Rattle.edit_doc.specs.Held.{Holds, EachHeld, Keeps};
+ghost use Rattle.edit_actions.specs.EditDoc.Whole.{IsOpen};
+ghost use Rattle.edit_actions.specs.EditDoc.Held.{Holds, EachHeld, Keeps};
 ghost use Rattle.wrap_split.specs.Split.{break_before, break_after, clear_before, copied, copy_front, drop_first_break, close, tidy_after, split_end, split_rest, split_marked, is_void_thing, split_at, split_members, split_parent, split_around, remove_keeping_children};
 
 use crate::breaks::{breaks_at_end, breaks_before};
+use edit_actions::doc::{Doc, EditFault, Name, NodeList, NodeRef};
+use edit_actions::questions::{
+    follows_break, has_name, is_block, is_break, is_image, precedes_break,
+};
 use edit_actions::{
     attributes_of, children_before, ends_in, first_parent, insert_after, insert_before, make_break,
     members, move_all_after, move_all_before, starts_in, tag_of,
 };
-use edit_doc::{Doc, EditFault, Name, NodeList, NodeRef};
-use node_tests::{follows_break, has_name, is_block, is_break, is_image, precedes_break};
 use std::alloc::Global;
 
 // Split the parent, step 8: puts a new br before a node, if it is wanted and the node doesn't

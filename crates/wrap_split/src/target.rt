@@ -2,12 +2,12 @@
 
 ghost use Rattle.std.specs.Prelude.{◌≡◌, IfOk};
 ghost use Rattle.edit_model.specs.Gives.{GivesMaybe, label_of};
-ghost use Rattle.edit_doc.specs.Whole.{IsOpen};
-ghost use Rattle.edit_doc.specs.Held.{Holds, IfHeld, Finds, Keeps};
+ghost use Rattle.edit_actions.specs.EditDoc.Whole.{IsOpen};
+ghost use Rattle.edit_actions.specs.EditDoc.Held.{Holds, IfHeld, Finds, Keeps};
 ghost use Rattle.wrap_split.specs.Target.{if_fits, made_by, target};
 
 use crate::rule::{Makes, Meets, WrapRule};
-use edit_doc::{Doc, EditFault, NodeRef};
+use edit_actions::doc::{Doc, EditFault, NodeRef};
 
 // The node, where it is there, editable, and meets the rule's criterion.
 pub(crate) fn if_fits<C: Meets, M: Makes>(

@@ -1,16 +1,16 @@
 //! Walks from node to node, in which nothing is edited.
 
 ghost use Rattle.std.specs.Prelude.{◌≡◌, Some};
-ghost use Rattle.edit_doc.specs.Held.{Holds, Finds};
+ghost use Rattle.edit_actions.specs.EditDoc.Held.{Holds, Finds};
 ghost use Rattle.wrap_split.specs.Walks.{turn_bound, last_within, preceding};
 
-use edit_doc::{Doc, NodeRef};
+use edit_actions::doc::{Doc, NodeRef};
 
 /// How many turns a loop takes at most that starts now.
 pub fn turn_bound(doc: &Doc) -> u128
     ensures { result ≡ turn_bound doc.now.state }
 {
-    node_styles::turn_bound(doc)
+    command_value::styles::turn_bound(doc)
 }
 
 // The last node of a tree, in tree order.

@@ -2,8 +2,8 @@
 
 ghost use Rattle.std.specs.Prelude.{◌≡◌, ◌<◌, IfOk, length};
 ghost use Rattle.edit_model.specs.Gives.{Gives, GivesMaybe, label_of, labels_of};
-ghost use Rattle.edit_doc.specs.Whole.{IsOpen};
-ghost use Rattle.edit_doc.specs.Held.{Holds, IfHeld, EachHeld, Keeps};
+ghost use Rattle.edit_actions.specs.EditDoc.Whole.{IsOpen};
+ghost use Rattle.edit_actions.specs.EditDoc.Held.{Holds, IfHeld, EachHeld, Keeps};
 ghost use Rattle.wrap_split.specs.Wrap.{merge_next, filled_from, filled, wrap_ends, wrap_list, wrap_members, wrap};
 
 use crate::breaks::breaks_from;
@@ -11,8 +11,8 @@ use crate::filling::{drop_parent, merge, move_in, put_before};
 use crate::listing::{all_hidden, widened};
 use crate::rule::{Makes, Meets, WrapRule};
 use crate::target::{if_fits, target};
+use edit_actions::doc::{Doc, EditFault, NodeList, NodeRef};
 use edit_actions::{first_parent, members};
-use edit_doc::{Doc, EditFault, NodeList, NodeRef};
 use std::alloc::Global;
 
 // Wrap, step 11.

@@ -1,11 +1,11 @@
 //! Acts and faults by the grammar of a session's lines.
 
 use super::rows::assert_row;
-use dom_model::Name;
-use script_read::{Act, LineFault, Path, Place, read_line};
+use document_edits::dom::Name;
 use std::alloc::{AllocError, Global};
 use std::process::Abort;
 use std::test::Fail;
+use step_text::script::{Act, LineFault, Path, Place, read_line};
 
 fn push_path(text: &mut String, path: &Path) -> Result<(), AllocError> {
     let alloc = *text.allocator();

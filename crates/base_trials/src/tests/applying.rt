@@ -4,7 +4,7 @@ ghost use Rattle.std.specs.Prelude.{◌<◌, IfOk, length};
 ghost use Rattle.step_text.specs.Applying.{made_length, text_length};
 
 use super::trees::{Trial, found, label, list_of};
-use node_arena::{Arena, Content};
+use page_read::arena::{Arena, Content};
 use std::alloc::Global;
 use std::test::Fail;
 use step_text::{Attributes, Chars, Made, Name, Replay, StepFault, StepLine, apply_step};

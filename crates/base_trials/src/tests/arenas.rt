@@ -4,14 +4,14 @@ ghost use Rattle.std.specs.Prelude.{◌≡◌, ◌<◌, length};
 
 use super::rows::assert_row;
 use super::trees::{Trial, element, found, label, list_of, name, put, words};
-use live_range::Point;
-use node_arena::{Arena, Attributes, Chars, Kind, MakeFault, NodeList, NodeRef};
-use point_order::{child_toward, comes_before, is_in_document, is_placed};
+use document_edits::boundary::{child_toward, comes_before, is_in_document, is_placed};
+use page_read::arena::{Arena, Attributes, Chars, Kind, MakeFault, NodeList, NodeRef};
+use page_read::stepping::Steps;
 use std::alloc::Global;
 use std::marker::Brand;
 use std::sync::ledger::{Blank, Ledger};
 use std::test::Fail;
-use step_count::Steps;
+use step_text::dom_ranges::Point;
 
 // What the arena answers of a node, by labels.
 #[derive(Clone, Copy, PartialEq, Eq)]

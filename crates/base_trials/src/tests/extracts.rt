@@ -1,18 +1,18 @@
 //! What is written of nodes and of ranges of a page.
 
 ghost use Rattle.std.specs.Prelude.{◌<◌, IsTrue};
-ghost use Rattle.dom_model.specs.Forest.{count_of};
+ghost use Rattle.document_edits.specs.DomModel.Forest.{count_of};
 
 use super::rows::assert_row;
-use escaped_text::push_chars;
-use live_range::Point;
-use node_arena::Arena;
 use node_texts::{find, node_html, path_of, plain_text, range_html, range_text};
+use page_read::arena::Arena;
 use page_read::read_page;
-use page_write::write_html;
 use std::alloc::{AllocError, Global};
 use std::process::Abort;
 use std::test::Fail;
+use step_text::dom_ranges::Point;
+use step_text::escapes::push_chars;
+use step_text::writer::write_html;
 
 // The labels rise in the order of the tags and texts: the p has 1, "one " 2, the b 3 and "two" 4.
 const PAGE: &[u8] = b"<p>one <b>two</b></p><ul><li>three</li><li>four</li></ul>";

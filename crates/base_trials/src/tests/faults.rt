@@ -2,14 +2,14 @@
 
 use super::rows::assert_row;
 use edit_io::{Failed, ReadAllFault, SinkFault};
-use edit_model::EditFault;
-use live_range::MarkFault;
-use node_arena::MakeFault;
+use page_read::arena::MakeFault;
 use page_read::{PageFault, PageKind};
-use script_read::LineFault;
 use std::alloc::Global;
 use std::fmt::Display;
 use step_text::StepFault;
+use step_text::dom_ranges::MarkFault;
+use step_text::model::EditFault;
+use step_text::script::LineFault;
 
 // Whether a fault prints itself so.
 fn prints<F: Display>(alloc: Global, fault: &F, want: &str) -> bool {

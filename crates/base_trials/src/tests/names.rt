@@ -2,15 +2,15 @@
 
 use super::rows::assert_row;
 use command_gate::{Gate, NameList, Policy};
-use html_names::{
+use node_texts::properties::{Property, default_of};
+use std::alloc::{AllocError, Global};
+use std::test::Fail;
+use step_text::element_names::{
     Command, QueryKind, allowed_child, box_names, has_inline_contents, is_box_name,
     is_formattable_block, is_heading, is_margin_name, is_non_list_single_line_container,
     is_prohibited_child, is_remove_format_candidate, is_single_line_container, is_supported,
     is_void,
 };
-use std::alloc::{AllocError, Global};
-use std::test::Fail;
-use style_table::{Property, default_of};
 
 // What is asked of a name.
 #[derive(Clone, Copy)]

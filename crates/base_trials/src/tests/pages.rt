@@ -3,11 +3,11 @@
 ghost use Rattle.std.specs.Prelude.{◌<◌};
 
 use super::trees::{Trial, found};
-use node_arena::{Arena, Content};
+use page_read::arena::{Arena, Content};
 use page_read::{PageFault, PageKind, read_page};
-use page_write::{write_html, write_tree};
 use std::alloc::{AllocError, Global};
 use std::test::Fail;
+use step_text::writer::{write_html, write_tree};
 
 fn fault_of(alloc: Global, page: &[u8], cap: u32) -> PageFault
     requires { 0 < cap }

@@ -2,25 +2,25 @@
 //! and overrides.
 
 ghost use Rattle.std.specs.Prelude.{◌≡◌, ◌<◌, IsTrue, IfSome};
-ghost use Rattle.edit_model.specs.Valid.{IsPlacedPair};
+ghost use Rattle.step_text.specs.EditModel.Valid.{IsPlacedPair};
 
 use super::trees::{Trial, element, found, name, put, words};
-use edit_model::{EditFault, Setting};
-use edit_parts::{
+use document_edits::boundary::{is_placed, root_of};
+use page_read::arena::{Arena, Attributes, Chars, Content, MakeFault, Name, NodeRef};
+use page_read::stepping::Steps;
+use std::alloc::{AllocError, Global};
+use std::marker::Brand;
+use std::sync::ledger::{Blank, Ledger};
+use std::test::Fail;
+use step_text::dom_ranges::{Pair, Point, Points};
+use step_text::element_names::Command;
+use step_text::model::{EditFault, Setting};
+use step_text::parts::{
     Counts, add_counts, adjust_inserted, adjust_moved, copy_overrides, fault_of,
     has_no_kept_leaves, has_value, is_in_document, moving_from, no_overrides, place_of, removal_of,
     replaced_part, stands_at, tail_of, take_counts, tree_counts, unset_overrides_if_range_changed,
     watch_range,
 };
-use html_names::Command;
-use live_range::{Pair, Point, Points};
-use node_arena::{Arena, Attributes, Chars, Content, MakeFault, Name, NodeRef};
-use point_order::{is_placed, root_of};
-use std::alloc::{AllocError, Global};
-use std::marker::Brand;
-use std::sync::ledger::{Blank, Ledger};
-use std::test::Fail;
-use step_count::Steps;
 
 // Nodes, characters, whether the tree bears nothing, whether the node is in the document, and the
 // label of its root.

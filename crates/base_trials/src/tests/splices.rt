@@ -1,20 +1,20 @@
 //! Splices of a text, there and back, alone and under a log.
 
 ghost use Rattle.std.specs.Prelude.{◌≡◌, ◌<◌, IfOk};
-ghost use Rattle.edit_steps.specs.Step.{StepFits};
+ghost use Rattle.step_text.specs.EditSteps.Step.{StepFits};
 
 use super::logs::Session;
 use super::rows::assert_row;
 use super::steps::once;
 use super::trees::{Trial, found, words};
-use edit_steps::{Splice, Step};
-use node_arena::{Arena, Kind, NodeRef};
+use document_edits::history::Committed;
+use page_read::arena::{Arena, Kind, NodeRef};
+use page_read::stepping::Steps;
 use std::alloc::{AllocError, Global};
 use std::marker::Brand;
 use std::sync::ledger::{Blank, Ledger};
 use std::test::Fail;
-use step_count::Steps;
-use undo_log::Committed;
+use step_text::steps::{Splice, Step};
 
 // A step that replaces characters of a Text node from an offset on.
 fn splice(

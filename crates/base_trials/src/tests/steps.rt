@@ -1,15 +1,15 @@
 //! Steps of an arena, made and made again by their inverses.
 
 ghost use Rattle.std.specs.Prelude.{IsTrue};
-ghost use Rattle.edit_steps.specs.Step.{StepFits};
+ghost use Rattle.step_text.specs.EditSteps.Step.{StepFits};
 
 use super::rows::assert_row;
 use super::trees::{Trial, can_hold, element, found, label, list_of, words};
-use edit_steps::Step;
-use node_arena::{Arena, Attributes, Chars, Kind, NodeRef};
+use document_edits::history::Invertible;
+use page_read::arena::{Arena, Attributes, Chars, Kind, NodeRef};
 use std::alloc::Global;
 use std::test::Fail;
-use undo_log::Invertible;
+use step_text::steps::Step;
 
 // Applies a step, through the bound alone.
 pub(crate) fn once<T: Invertible<S>, S>(step: &mut T, state: &mut S)

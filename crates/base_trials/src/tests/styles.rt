@@ -1,15 +1,15 @@
 //! Resolved styles of elements without a parent, and sizes of fonts.
 
 ghost use Rattle.std.specs.Prelude.{IfOk};
-ghost use Rattle.node_arena.specs.Held.{Holds};
+ghost use Rattle.page_read.specs.NodeArena.Held.{Holds};
 
 use super::trees::{Trial, found, list_of};
-use css_value::{Display, FontStyle, TextAlign, WhiteSpace};
-use node_arena::{Arena, Attributes, Name, NodeRef};
-use node_styles::{
+use node_texts::css::{Display, FontStyle, TextAlign, WhiteSpace};
+use node_texts::styles::{
     background_color, color, display, font_size, font_style, font_weight, is_hidden, is_named,
     nearest_block, pixels_of, read_legacy_size, text_align, text_decoration, white_space,
 };
+use page_read::arena::{Arena, Attributes, Name, NodeRef};
 use std::alloc::Global;
 use std::test::Fail;
 

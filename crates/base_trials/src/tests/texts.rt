@@ -1,9 +1,9 @@
 //! Printed texts and lists of attributes.
 
-use dom_model::{Attributes, Chars, Name};
-use escaped_text::{push_chars, push_escaped};
+use document_edits::dom::{Attributes, Chars, Name};
 use std::alloc::Global;
 use std::test::Fail;
+use step_text::escapes::{push_chars, push_escaped};
 
 // Whether the list has these names with these values, each of one character, in this order.
 fn is_list(list: &Attributes, want: &[(&[u8], char)]) -> bool {

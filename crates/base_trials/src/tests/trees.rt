@@ -1,15 +1,15 @@
 //! Nodes of an arena, and their places in its trees.
 
 ghost use Rattle.std.specs.Prelude.{◌≡◌, ◌<◌, IsTrue, Some, IfSome, length, true};
-ghost use Rattle.dom_model.specs.Contents.{is_parent_at};
-ghost use Rattle.dom_model.specs.Forest.{parent_of};
-ghost use Rattle.node_arena.specs.Held.{Holds};
+ghost use Rattle.document_edits.specs.DomModel.Contents.{is_parent_at};
+ghost use Rattle.document_edits.specs.DomModel.Forest.{parent_of};
+ghost use Rattle.page_read.specs.NodeArena.Held.{Holds};
 
-use node_arena::{Arena, Attributes, Chars, Kind, Name, NodeRef};
+use page_read::arena::{Arena, Attributes, Chars, Kind, Name, NodeRef};
+use page_read::stepping::Steps;
 use std::alloc::{AllocError, Global};
 use std::sync::ledger::Ledger;
 use std::test::Fail;
-use step_count::Steps;
 
 pub(crate) fn name(alloc: Global, text: &str) -> Result<Name, AllocError> {
     Name::from_slice(alloc, text.as_bytes())

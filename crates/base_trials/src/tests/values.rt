@@ -1,7 +1,7 @@
 //! Values of properties, style texts, and groups of properties.
 
 use super::rows::assert_row;
-use css_value::{
+use node_texts::css::{
     Colour, Declarations, DecorationLine, Only, find, has_line, legacy_size, print_font_size,
     print_font_weight, read_display, read_font_size, read_font_style, read_font_weight,
     read_text_align, read_text_decoration, read_white_space, sets_only, without_line,

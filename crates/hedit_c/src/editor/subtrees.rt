@@ -2,16 +2,16 @@
 
 ghost use Rattle.std.specs.Prelude.{◌≡◌, IfOk, map};
 ghost use Rattle.std.specs.Str.{chars};
-ghost use Rattle.node_texts.specs.NodeHtml.{node_html};
-ghost use Rattle.node_texts.specs.Occurrences.{found_in};
+ghost use Rattle.edit_session.specs.NodeTexts.NodeHtml.{node_html};
+ghost use Rattle.edit_session.specs.NodeTexts.Occurrences.{found_in};
 ghost use Rattle.hedit_c.specs.Subtrees.{SubtreeTells, FindTells, SelectedTells, plain_bytes, point_facts, html_selected, text_selected};
 ghost use Rattle.hedit_c.specs.Calls.{PutsUnlessMemory};
 
 use super::status::Status;
 use super::texts::{put, put_chars};
-use dom_model::Chars;
-use edit_doc::Point;
-use edit_engine::{Editor, ViewFault};
+use edit_session::doc::Point;
+use edit_session::dom::Chars;
+use edit_session::engine::{Editor, ViewFault};
 use std::alloc::{AllocError, Global};
 
 /// A point: the label of a node, and an offset in it.
@@ -109,7 +109,7 @@ pub(crate) fn find(
 }
 
 /// The HTML of what is selected.
-#[tactic(auto, unfolding(edit_engine::specs::SelectedTexts::selected_html))]
+#[tactic(auto, unfolding(crate::specs::Below::selected_html))]
 pub(crate) fn selection_html(
     alloc: Global,
     editor: &Editor,
@@ -127,7 +127,7 @@ pub(crate) fn selection_html(
 }
 
 /// The plain text of what is selected.
-#[tactic(auto, unfolding(edit_engine::specs::SelectedTexts::selected_text))]
+#[tactic(auto, unfolding(crate::specs::Below::selected_text))]
 pub(crate) fn selection_text(
     alloc: Global,
     editor: &Editor,

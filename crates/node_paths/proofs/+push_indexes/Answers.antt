@@ -1,6 +1,6 @@
 use Rattle.std.proofs.Common.{◌≡◌, ◌<◌, Some, sym, ap, ◌∙◌, arith, append_assoc}
-use Rattle.dom_model.specs.Forest.{parent_of, depth_of}
-use Rattle.dom_model.proofs.Within.{depth_of-parent}
+use Rattle.node_arena.specs.DomModel.Forest.{parent_of, depth_of}
+use Rattle.node_arena.proofs.DomModel.Within.{depth_of-parent}
 use Rattle.node_arena.specs.Held.{label}
 use Rattle.node_paths.proofs.Walking.{indexes_top, indexes_below, within_up_parent}
 use Rattle.node_paths.proofs.+push_indexes.Goals as goal

@@ -1,4 +1,4 @@
-use Rattle.dom_model.specs.Forest.{depth_of}
+use Rattle.node_arena.specs.DomModel.Forest.{depth_of}
 use Rattle.node_paths.proofs.+push_indexes.Given as goal
 
 abbrev pub decreases-push_indexes : goal.decreases-push_indexes

@@ -1,8 +1,8 @@
 //! Block-extended ranges, and the outermost nodes of a list.
 
 use crate::tests::fixtures::{Look, Page, check_pages, labels, node_of, range_of};
-use block_extend::{Choice, block_extend, gather_in, is_above_prohibited};
-use node_arena::{Arena, NodeRef};
+use edit_commands::arena::{Arena, NodeRef};
+use edit_commands::extend::{Choice, block_extend, gather_in, is_above_prohibited};
 use std::alloc::Global;
 use std::test::Fail;
 

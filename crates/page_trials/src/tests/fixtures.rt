@@ -6,11 +6,11 @@
 //! what they do with one.
 
 ghost use Rattle.std.specs.Prelude.{◌≡◌, ◌<◌, IfOk};
-ghost use Rattle.dom_model.specs.Forest.{count_of};
-ghost use Rattle.edit_doc.specs.Whole.{HasNoLoose, IsClosed, IsOpen};
+ghost use Rattle.edit_commands.specs.DomModel.Forest.{count_of};
+ghost use Rattle.edit_commands.specs.EditDoc.Whole.{HasNoLoose, IsClosed, IsOpen};
 
-use edit_doc::{Doc, Point};
-use node_arena::{Arena, NodeRef, Nodes};
+use edit_commands::arena::{Arena, NodeRef, Nodes};
+use edit_commands::doc::{Doc, Point};
 use page_read::read_page;
 use page_write::write_html;
 use std::alloc::{AllocError, Global};
@@ -55,7 +55,7 @@ pub fn range_of<N: Nodes>(
 }
 
 /// The document of a page, whose history keeps three entries.
-#[tactic(auto, unfolding(edit_doc::specs::Whole::first_doc))]
+#[tactic(auto, unfolding(crate::specs::Below::first_doc))]
 pub fn document_of(alloc: Global, page: &str) -> Result<Doc, Fail>
     ensures { IfOk result (λ doc. IsClosed doc) }
 {
@@ -64,7 +64,7 @@ pub fn document_of(alloc: Global, page: &str) -> Result<Doc, Fail>
 }
 
 /// Begins a command on the node of a label.
-#[tactic(auto, unfolding(edit_doc::specs::Whole::opened))]
+#[tactic(auto, unfolding(crate::specs::Below::opened))]
 pub fn begin_in(doc: &mut Doc, label: u32) -> Result<(), AllocError>
     requires { IsClosed doc.old }
     ensures { IfOk result (λ _. IsOpen doc.new) }

@@ -1,11 +1,11 @@
 //! What is asked of inline commands.
 
 use crate::tests::fixtures::{Trial, begin, chars, found, page_of, point};
-use css_value::has_codes;
-use dom_model::Chars;
-use edit_doc::{Doc, Setting};
-use edit_query::{Reply, query};
-use html_names::{Command, QueryKind};
+use edit_commands::css::has_codes;
+use edit_commands::doc::{Doc, Setting};
+use edit_commands::dom::Chars;
+use edit_commands::element_names::{Command, QueryKind};
+use edit_commands::query::{Reply, query};
 use std::alloc::{AllocError, Global};
 use std::test::Fail;
 

@@ -1,13 +1,13 @@
 //! Command values.
 
 use crate::tests::fixtures::{Look, Page, chars, check_pages, node_of};
-use command_value::{
+use edit_commands::arena::Arena;
+use edit_commands::dom::Chars;
+use edit_commands::element_names::Command;
+use edit_commands::values::{
     alignment, alike, effective, equivalent, has_alike_value, is_activated, is_modifiable_element,
     is_simple_modifiable_element, meets_value, specified, specifies, specifies_other,
 };
-use dom_model::Chars;
-use html_names::Command;
-use node_arena::Arena;
 use std::alloc::{AllocError, Global};
 use std::test::Fail;
 

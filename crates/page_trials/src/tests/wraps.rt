@@ -8,13 +8,13 @@ mod lists;
 mod splits;
 
 ghost use Rattle.std.specs.Prelude.{IfOk};
-ghost use Rattle.edit_doc.specs.Held.{EachHeld};
+ghost use Rattle.edit_commands.specs.EditDoc.Held.{EachHeld};
 
-use edit_doc::{Doc, NodeList};
+use edit_commands::doc::{Doc, NodeList};
 use std::alloc::{AllocError, Global};
 
 // The nodes of two labels; one node where they are the same, and none where there is no node.
-#[tactic(auto, using(edit_doc::proofs::Children::pushed_held, edit_doc::proofs::Children::none_held))]
+#[tactic(auto, using(crate::proofs::Below::pushed_held, crate::proofs::Below::none_held))]
 fn listed(alloc: Global, doc: &Doc, labels: (u32, u32)) -> Result<NodeList, AllocError>
     ensures { IfOk result (λ list. EachHeld doc.now list) }
 {

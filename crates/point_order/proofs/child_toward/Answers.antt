@@ -1,5 +1,5 @@
 use Rattle.std.proofs.Common.{sym, ap, ◌∙◌, arith, Some}
-use Rattle.dom_model.proofs.Within.{depth_of-parent}
+use Rattle.node_arena.proofs.DomModel.Within.{depth_of-parent}
 use Rattle.point_order.proofs.Toward.{toward-parent, toward-child, toward-root}
 use Rattle.point_order.proofs.child_toward.Goals as goal
 

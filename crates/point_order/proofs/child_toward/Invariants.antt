@@ -1,5 +1,5 @@
 use Rattle.std.proofs.Common.{◌≡◌}
-use Rattle.dom_model.specs.Forest.{depth_of}
+use Rattle.node_arena.specs.DomModel.Forest.{depth_of}
 use Rattle.point_order.specs.PointOrder.{child_toward}
 use Rattle.point_order.proofs.child_toward.Given as goal
 

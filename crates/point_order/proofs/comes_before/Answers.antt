@@ -1,6 +1,6 @@
 use Rattle.std.proofs.Common.{refl, ap, ◌∙◌}
-use Rattle.dom_model.specs.Forest.{is_label}
-use Rattle.dom_model.specs.Places.{first_of_two}
+use Rattle.node_arena.specs.DomModel.Forest.{is_label}
+use Rattle.node_arena.specs.DomModel.Places.{first_of_two}
 use Rattle.point_order.proofs.Order.{is_before-same, is_before-child, is_before-under, is_before-beside}
 use Rattle.point_order.proofs.comes_before.Goals as goal
 

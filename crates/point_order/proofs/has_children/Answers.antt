@@ -1,5 +1,5 @@
 use Rattle.std.proofs.Common.{arith}
-use Rattle.dom_model.specs.Forest.{children_of}
+use Rattle.node_arena.specs.DomModel.Forest.{children_of}
 use Rattle.node_arena.specs.Held.{label}
 use Rattle.point_order.proofs.Children.{walked_none, walked_on, enough, too_few}
 use Rattle.point_order.proofs.has_children.Goals as goal

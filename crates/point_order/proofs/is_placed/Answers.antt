@@ -1,5 +1,5 @@
 use Rattle.std.proofs.Common.{refl, sym, ap, ◌∙◌, true, false, nat_le}
-use Rattle.dom_model.specs.Contents.{length_of}
+use Rattle.node_arena.specs.DomModel.Contents.{length_of}
 use Rattle.point_order.proofs.Document.{absent, inside, placed, not_placed}
 use Rattle.point_order.proofs.is_placed.Goals as goal
 

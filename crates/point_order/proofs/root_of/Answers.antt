@@ -1,5 +1,5 @@
 use Rattle.std.proofs.Common.{sym, arith}
-use Rattle.dom_model.proofs.Within.{within_self, within_up, depth_of-parent}
+use Rattle.node_arena.proofs.DomModel.Within.{within_self, within_up, depth_of-parent}
 use Rattle.point_order.proofs.root_of.Goals as goal
 
 pub loop-parent-init : goal.loop-parent-init

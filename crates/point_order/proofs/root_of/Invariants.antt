@@ -1,4 +1,4 @@
-use Rattle.dom_model.specs.Forest.{IsWithin, depth_of}
+use Rattle.node_arena.specs.DomModel.Forest.{IsWithin, depth_of}
 use Rattle.point_order.proofs.root_of.Given as goal
 
 abbrev pub invariant-loop-parent : goal.invariant-loop-parent

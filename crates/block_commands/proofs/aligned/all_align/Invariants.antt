@@ -1,6 +1,6 @@
 use Rattle.std.proofs.Common.{◌≡◌, drop}
 use Rattle.std.specs.List.{list_all}
-use Rattle.wrap_split.specs.Target.{aligns}
+use Rattle.inline_value.specs.WrapSplit.Target.{aligns}
 use Rattle.block_commands.proofs.aligned.all_align.Given as goal
 
 abbrev pub invariant-loop-place : goal.invariant-loop-place

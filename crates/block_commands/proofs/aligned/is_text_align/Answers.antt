@@ -1,7 +1,7 @@
 use Rattle.std.proofs.Common.{sym, ap, ◌∙◌, false, bytes_eq}
 use Rattle.std.specs.Option.{option_map_or}
-use Rattle.css_value.specs.DeclarationList.{declarations_in}
-use Rattle.css_value.specs.OnlyGroup.{sets_only}
+use Rattle.inline_value.specs.CssValue.DeclarationList.{declarations_in}
+use Rattle.inline_value.specs.CssValue.OnlyGroup.{sets_only}
 use Rattle.block_commands.proofs.Matching.{other_style, own_style}
 use Rattle.block_commands.proofs.aligned.is_text_align.Goals as goal
 

@@ -1,6 +1,6 @@
 use Rattle.std.proofs.Common.{arith}
 use Rattle.edit_model.proofs.Steps.{labels_of_push, labels_of_drop}
-use Rattle.edit_doc.proofs.Children.{pushed_held}
+use Rattle.inline_value.proofs.EditDoc.Children.{pushed_held}
 use Rattle.block_commands.proofs.gathered.chosen_of.Goals as goal
 use Rattle.block_commands.proofs.gathered.chosen_of.Goals.{then-chooses+in_ok-push, else-chooses}
 

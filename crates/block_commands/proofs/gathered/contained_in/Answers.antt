@@ -2,8 +2,8 @@ use Rattle.std.proofs.Common.{◌≡◌, sym, ap, ◌∙◌, subst}
 use Rattle.std.specs.Result.{IfOk}
 use Rattle.std.specs.List.{filter}
 use Rattle.edit_model.specs.Gives.{labels_of}
-use Rattle.node_tests.specs.Ranges.{contained_nodes}
-use Rattle.edit_query.proofs.Lists.{labels_mapped}
+use Rattle.inline_value.specs.NodeTests.Ranges.{contained_nodes}
+use Rattle.inline_value.proofs.EditQuery.Lists.{labels_mapped}
 use Rattle.block_commands.proofs.gathered.contained_in.Goals as goal
 
 pub returns-clause-nodes : goal.returns-clause-nodes

@@ -1,7 +1,7 @@
 use Rattle.std.proofs.Common.{◌||◌, sym, ap, ◌∙◌, true≢false}
-use Rattle.dom_model.specs.Forest.{parent_of}
+use Rattle.edit_model.specs.DomModel.Forest.{parent_of}
 use Rattle.block_commands.specs.FormatBlock.{is_outer_block, has_outer_block}
-use Rattle.edit_query.proofs.Hosting.{found_inside}
+use Rattle.inline_value.proofs.EditQuery.Hosting.{found_inside}
 use Rattle.inline_value.proofs.Above.{height_parent}
 use Rattle.block_commands.proofs.Above.{any_from, any_here}
 use Rattle.block_commands.proofs.lines.has_outer_block.Goals as goal

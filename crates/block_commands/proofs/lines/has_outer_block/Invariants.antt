@@ -1,7 +1,7 @@
 use Rattle.std.proofs.Common.{◌≡◌, true, IfSome}
 use Rattle.edit_model.specs.Confined.{is_inside}
 use Rattle.edit_model.specs.Gives.{label_of}
-use Rattle.edit_doc.specs.Held.{IfHeld}
+use Rattle.inline_value.specs.EditDoc.Held.{IfHeld}
 use Rattle.block_commands.specs.FormatBlock.{is_outer_block, has_outer_block}
 use Rattle.inline_value.proofs.Above.{height}
 use Rattle.block_commands.proofs.Above.{any_from}

@@ -1,7 +1,7 @@
 use Rattle.std.proofs.Common.{refl, ◌∙◌, arith, length-drop}
 use Rattle.edit_model.proofs.Steps.{exit}
-use Rattle.edit_doc.proofs.Chosen.{keeps_both}
-use Rattle.edit_query.proofs.Lists.{tail_is}
+use Rattle.inline_value.proofs.EditDoc.Chosen.{keeps_both}
+use Rattle.inline_value.proofs.EditQuery.Lists.{tail_is}
 use Rattle.block_commands.specs.Series.{in_turns}
 use Rattle.block_commands.proofs.Looping.{turn, run_fails, run_ends}
 use Rattle.block_commands.proofs.turns.in_turns.Goals as goal

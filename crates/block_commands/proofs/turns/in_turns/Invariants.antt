@@ -1,8 +1,8 @@
 use Rattle.std.proofs.Common.{◌≡◌, ◌≤◌, length, drop}
 use Rattle.edit_model.specs.Gives.{labels_of}
 use Rattle.edit_model.specs.Run.{final, while_at_most}
-use Rattle.edit_doc.specs.Held.{Keeps}
-use Rattle.wrap_split.specs.Walks.{turn_bound}
+use Rattle.inline_value.specs.EditDoc.Held.{Keeps}
+use Rattle.inline_value.specs.WrapSplit.Walks.{turn_bound}
 use Rattle.block_commands.specs.Series.{has_members}
 use Rattle.block_commands.proofs.turns.in_turns.Given as goal
 

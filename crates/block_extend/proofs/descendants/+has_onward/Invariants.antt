@@ -1,5 +1,5 @@
 use Rattle.std.proofs.Common.{◌≡◌, ◌≤◌}
-use Rattle.node_arena.specs.Held.{label}
+use Rattle.node_paths.specs.NodeArena.Held.{label}
 use Rattle.node_paths.specs.Onward.{onward_at}
 use Rattle.node_paths.proofs.Visiting.{size_from}
 use Rattle.block_extend.specs.Descendants.{has_in}

@@ -1,5 +1,5 @@
 use Rattle.std.proofs.Common.{◌≡◌}
-use Rattle.node_styles.specs.TurnBound.{turn_bound}
+use Rattle.node_tests.specs.NodeStyles.TurnBound.{turn_bound}
 use Rattle.block_extend.specs.BlockExtend.{walk}
 use Rattle.block_extend.specs.Gaps.{Stands, point_of, step, stops}
 use Rattle.block_extend.proofs.extending.walk.Given as goal

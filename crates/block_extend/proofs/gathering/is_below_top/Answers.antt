@@ -1,6 +1,6 @@
 use Rattle.std.proofs.Common.{◌≡◌, Some, sym, ap, ◌∙◌, subst}
-use Rattle.node_arena.specs.Held.{label}
-use Rattle.dom_model.specs.Forest.{parent_of, IsWithin}
+use Rattle.node_paths.specs.NodeArena.Held.{label}
+use Rattle.node_paths.specs.DomModel.Forest.{parent_of, IsWithin}
 use Rattle.block_extend.proofs.Parents.{parent_inside, parent_outside, label_is}
 use Rattle.block_extend.proofs.gathering.is_below_top.Goals as goal
 

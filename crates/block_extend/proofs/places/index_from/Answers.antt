@@ -1,6 +1,6 @@
 use Rattle.std.proofs.Common.{ap, sym, ◌∙◌}
-use Rattle.dom_model.specs.Places.{index_of}
-use Rattle.node_arena.specs.Held.{label}
+use Rattle.node_paths.specs.DomModel.Places.{index_of}
+use Rattle.node_paths.specs.NodeArena.Held.{label}
 use Rattle.block_extend.proofs.Stepping.{before_child}
 use Rattle.block_extend.proofs.places.index_from.Goals as goal
 

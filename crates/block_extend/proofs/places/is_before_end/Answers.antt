@@ -1,5 +1,5 @@
 use Rattle.std.proofs.Common.{ap, refl}
-use Rattle.node_arena.specs.Held.{label}
+use Rattle.node_paths.specs.NodeArena.Held.{label}
 use Rattle.block_extend.proofs.Stepping.{before_child}
 use Rattle.block_extend.proofs.places.is_before_end.Goals as goal
 

@@ -1,5 +1,5 @@
 use Rattle.std.proofs.Common.{ap, arith}
-use Rattle.node_arena.specs.Held.{label}
+use Rattle.node_paths.specs.NodeArena.Held.{label}
 use Rattle.block_extend.proofs.Stepping.{before_child, index_fits, stands_forth}
 use Rattle.block_extend.proofs.places.one_forth.Goals as goal
 

@@ -1,7 +1,7 @@
 use Rattle.std.proofs.Common.{◌≡◌, ◌+◌, Some, sym, ap, ◌∙◌, add-zero, subst}
 use Rattle.std.specs.Option.{option_map}
-use Rattle.dom_model.specs.Forest.{parent_of}
-use Rattle.dom_model.specs.Places.{index_of}
+use Rattle.node_paths.specs.DomModel.Forest.{parent_of}
+use Rattle.node_paths.specs.DomModel.Places.{index_of}
 use Rattle.block_extend.specs.BlockExtend.{out_of}
 use Rattle.block_extend.specs.Gaps.{Stands}
 use Rattle.block_extend.proofs.Stepping.{stands_before}

@@ -1,6 +1,6 @@
 use Rattle.std.proofs.Common.{◌∙◌, sym, ap}
 use Rattle.std.specs.Option.{option_map, option_map_or}
-use Rattle.css_value.specs.declared.values.TextAlign.TheVariants as text_align_values
+use Rattle.node_styles.specs.CssValue.declared.values.TextAlign.TheVariants as text_align_values
 use Rattle.node_styles.specs.Resolved.{text_align}
 use Rattle.command_value.specs.Alignment.{alignment}
 use Rattle.command_value.proofs.alignments.alignment.Goals as goal

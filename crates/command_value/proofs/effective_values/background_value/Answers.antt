@@ -1,5 +1,5 @@
 use Rattle.std.proofs.Common.{◌≡◌, suc, ◌-◌, ◌∙◌, sym, ap, arith}
-use Rattle.css_value.specs.declared.colours.Colour.{Colour}
+use Rattle.node_styles.specs.CssValue.declared.colours.Colour.{Colour}
 use Rattle.command_value.specs.EffectiveValues.{background_at}
 use Rattle.command_value.proofs.Grounds.{opaque, transparent_one, shows_here, top_shows, goes_up}
 use Rattle.command_value.proofs.effective_values.background_value.Goals as goal

@@ -1,5 +1,5 @@
 use Rattle.std.proofs.Common.{ap, subst, arith}
-use Rattle.dom_model.specs.Forest.{IsWithin}
+use Rattle.node_styles.specs.DomModel.Forest.{IsWithin}
 use Rattle.node_styles.specs.TurnBound.{turn_bound}
 use Rattle.command_value.specs.EffectiveValues.{background_at}
 use Rattle.command_value.proofs.Ancestors.{lineage_short, lineage_within}

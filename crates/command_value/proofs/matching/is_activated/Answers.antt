@@ -1,7 +1,7 @@
 use Rattle.std.proofs.Common.{◌∙◌, ℕ, List, Option, false, sym, ap}
 use Rattle.std.specs.Option.{option_map_or}
-use Rattle.html_names.specs.ActivatedValues.{activated_values}
-use Rattle.html_names.specs.ElementNames.{is_one_of}
+use Rattle.node_styles.specs.HtmlNames.ActivatedValues.{activated_values}
+use Rattle.node_styles.specs.HtmlNames.ElementNames.{is_one_of}
 use Rattle.command_value.specs.EffectiveValues.{is_activated}
 use Rattle.command_value.proofs.Grounds.{value_some, value_none}
 use Rattle.command_value.proofs.matching.is_activated.Goals as goal

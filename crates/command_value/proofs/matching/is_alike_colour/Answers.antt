@@ -1,5 +1,5 @@
 use Rattle.std.proofs.Common.{◌∙◌, Some, sym, ap}
-use Rattle.css_value.specs.Colours.{colour_text}
+use Rattle.node_styles.specs.CssValue.Colours.{colour_text}
 use Rattle.command_value.specs.Equivalence.{components, are_same_colours}
 use Rattle.command_value.proofs.Shown.{colour_alike}
 use Rattle.command_value.proofs.matching.is_alike_colour.Goals as goal

@@ -1,8 +1,8 @@
 use Rattle.std.proofs.Common.{◌≡◌, ◌∙◌, false, subst, sym}
 use Rattle.std.specs.Option.{option_map_or}
-use Rattle.css_value.specs.declared.decoration.DecorationLine.TheVariants.{Underline, LineThrough}
-use Rattle.html_names.specs.ActivatedValues.{activated_values}
-use Rattle.html_names.specs.ElementNames.{is_one_of}
+use Rattle.node_styles.specs.CssValue.declared.decoration.DecorationLine.TheVariants.{Underline, LineThrough}
+use Rattle.node_styles.specs.HtmlNames.ActivatedValues.{activated_values}
+use Rattle.node_styles.specs.HtmlNames.ElementNames.{is_one_of}
 use Rattle.node_styles.specs.Lineage.{has_in_lineage}
 use Rattle.command_value.specs.EffectiveValues.{draws, line_at, value_at}
 use Rattle.command_value.specs.Subjects.{subject}

@@ -1,6 +1,6 @@
 use Rattle.std.proofs.Common.{sym, ◌∙◌, arith, bytes_eq}
 use Rattle.std.specs.List.{list_any}
-use Rattle.dom_model.specs.declared.attributes.Attribute.{Attribute}
+use Rattle.node_styles.specs.DomModel.declared.attributes.Attribute.{Attribute}
 use Rattle.node_styles.proofs.Elements.{all_fails, all_past, has_element}
 use Rattle.command_value.proofs.modifiable.has_only.Goals as goal
 use Rattle.command_value.proofs.modifiable.has_only.Goals.{in-Some+else-not-is_one_of, in_default}

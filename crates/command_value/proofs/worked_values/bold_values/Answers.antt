@@ -1,7 +1,7 @@
 use Rattle.std.proofs.Common.{refl}
 use Rattle.std.specs.Fmt.{digits}
-use Rattle.css_value.specs.Values.{font_weight_of}
-use Rattle.style_table.specs.DefaultStyles.{font_weight_rows, value_of, default_font_weight, default_of}
+use Rattle.node_styles.specs.CssValue.Values.{font_weight_of}
+use Rattle.node_styles.specs.StyleTable.DefaultStyles.{font_weight_rows, value_of, default_font_weight, default_of}
 use Rattle.node_styles.specs.Lineage.{lineage, nearest}
 use Rattle.node_styles.specs.OwnStyles.{attribute, is_named, declared, defaulted, own_font_weight}
 use Rattle.node_styles.specs.Resolved.{font_weight, resolved}

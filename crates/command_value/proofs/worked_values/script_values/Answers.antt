@@ -1,6 +1,6 @@
 use Rattle.std.proofs.Common.{refl}
-use Rattle.css_value.specs.Values.{display_of}
-use Rattle.style_table.specs.DefaultStyles.{display_rows, value_of, default_display, default_of}
+use Rattle.node_styles.specs.CssValue.Values.{display_of}
+use Rattle.node_styles.specs.StyleTable.DefaultStyles.{display_rows, value_of, default_display, default_of}
 use Rattle.node_styles.specs.Blocks.{own_or_inline, is_block_content}
 use Rattle.node_styles.specs.Lineage.{lineage}
 use Rattle.node_styles.specs.OwnStyles.{attribute, is_named, declared, defaulted, own_display}

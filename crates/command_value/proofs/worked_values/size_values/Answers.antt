@@ -1,16 +1,16 @@
 use Rattle.std.proofs.Common.{refl}
 use Rattle.std.specs.Fmt.{digits}
-use Rattle.css_value.specs.Values.{font_size_of, pixels_text}
-use Rattle.css_value.specs.StyleText.{trimmed}
-use Rattle.css_value.specs.Numbers.{number_up_to, legacy_size}
-use Rattle.style_table.specs.DefaultStyles.{font_size_rows, value_of, default_font_size, default_of}
+use Rattle.node_styles.specs.CssValue.Values.{font_size_of, pixels_text}
+use Rattle.node_styles.specs.CssValue.StyleText.{trimmed}
+use Rattle.node_styles.specs.CssValue.Numbers.{number_up_to, legacy_size}
+use Rattle.node_styles.specs.StyleTable.DefaultStyles.{font_size_rows, value_of, default_font_size, default_of}
 use Rattle.node_styles.specs.LegacySizes.{legacy_size_of, pixels_of}
 use Rattle.node_styles.specs.Lineage.{lineage, nearest}
 use Rattle.node_styles.specs.OwnStyles.{attribute, is_named, declared, defaulted, size_hint, own_font_size}
 use Rattle.node_styles.specs.Resolved.{font_size, resolved}
 use Rattle.command_value.specs.EffectiveValues.{element_of, effective}
 use Rattle.command_value.specs.SpecifiedValues.{specified_in, specified}
-use Rattle.css_value.specs.SizeKeywords.{size_keyword}
+use Rattle.node_styles.specs.CssValue.SizeKeywords.{size_keyword}
 use Rattle.command_value.specs.Equivalence.{are_equivalent, equivalent, are_alike, alike}
 use Rattle.command_value.proofs.worked_values.size_values.Goals as goal
 

@@ -1,6 +1,6 @@
 use Rattle.std.proofs.Common.{◌≡◌}
-use Rattle.edit_doc.specs.Held.{Holds}
-use Rattle.wrap_split.specs.Walks.{walk, turn_bound}
+use Rattle.inline_value.specs.EditDoc.Held.{Holds}
+use Rattle.inline_value.specs.WrapSplit.Walks.{walk, turn_bound}
 use Rattle.delete_core.specs.Ends.{up_inline}
 use Rattle.delete_core.proofs.ends.top_inline.Given as goal
 

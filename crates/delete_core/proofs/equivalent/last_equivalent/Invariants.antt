@@ -1,5 +1,5 @@
 use Rattle.std.proofs.Common.{◌≡◌}
-use Rattle.wrap_split.specs.Walks.{turn_bound}
+use Rattle.inline_value.specs.WrapSplit.Walks.{turn_bound}
 use Rattle.delete_core.specs.Equivalent.{next_point}
 use Rattle.delete_core.specs.Places.{walk_points}
 use Rattle.delete_core.proofs.equivalent.last_equivalent.Given as goal

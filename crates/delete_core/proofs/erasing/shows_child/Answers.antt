@@ -1,5 +1,5 @@
 use Rattle.std.proofs.Common.{sym, ◌∙◌}
-use Rattle.edit_doc.proofs.Children.{first_child_is, next_child_is, next_smaller}
+use Rattle.inline_value.proofs.EditDoc.Children.{first_child_is, next_child_is, next_smaller}
 use Rattle.delete_core.proofs.Shown.{none_shows, shows_first, shows_here, shows_next}
 use Rattle.delete_core.proofs.erasing.shows_child.Goals as goal
 

@@ -1,10 +1,10 @@
 use Rattle.std.proofs.Common.{◌≡◌}
 use Rattle.std.specs.List.{list_any}
-use Rattle.node_tests.specs.Visible.{is_visible}
+use Rattle.inline_value.specs.NodeTests.Visible.{is_visible}
 use Rattle.edit_model.specs.Gives.{label_of}
-use Rattle.edit_doc.specs.Held.{IfHeld}
-use Rattle.edit_doc.proofs.Children.{IsChild, size_from}
-use Rattle.edit_actions.proofs.Children.{rest_at}
+use Rattle.inline_value.specs.EditDoc.Held.{IfHeld}
+use Rattle.inline_value.proofs.EditDoc.Children.{IsChild, size_from}
+use Rattle.inline_value.proofs.EditActions.Children.{rest_at}
 use Rattle.delete_core.specs.Erasing.{shows_child}
 use Rattle.delete_core.proofs.erasing.shows_child.Given as goal
 

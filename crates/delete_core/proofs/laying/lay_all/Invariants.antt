@@ -1,7 +1,7 @@
 use Rattle.std.proofs.Common.{◌≡◌}
 use Rattle.edit_model.specs.Run.{final, value, while_at_most}
-use Rattle.edit_doc.specs.Held.{Keeps}
-use Rattle.wrap_split.specs.Walks.{turn_bound}
+use Rattle.inline_value.specs.EditDoc.Held.{Keeps}
+use Rattle.inline_value.specs.WrapSplit.Walks.{turn_bound}
 use Rattle.delete_core.specs.Whitespace.{lays, lay_turn}
 use Rattle.delete_core.proofs.laying.lay_all.Given as goal
 

@@ -1,5 +1,5 @@
 use Rattle.std.proofs.Common.{sym, ◌∙◌, ap, arith, Some}
-use Rattle.dom_model.proofs.Within.{depth_of-parent}
+use Rattle.edit_model.proofs.DomModel.Within.{depth_of-parent}
 use Rattle.delete_core.proofs.Above.{joins_here, joins_none, joins_above}
 use Rattle.delete_core.proofs.lists.list_to_join.Goals as goal
 

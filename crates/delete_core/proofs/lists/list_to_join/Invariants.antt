@@ -1,6 +1,6 @@
 use Rattle.std.proofs.Common.{◌≡◌}
-use Rattle.dom_model.specs.Forest.{depth_of}
-use Rattle.edit_doc.specs.Held.{Holds}
+use Rattle.edit_model.specs.DomModel.Forest.{depth_of}
+use Rattle.inline_value.specs.EditDoc.Held.{Holds}
 use Rattle.delete_core.specs.Merging.{list_to_join}
 use Rattle.delete_core.proofs.lists.list_to_join.Given as goal
 

@@ -1,8 +1,8 @@
 use Rattle.std.proofs.Common.{◌≡◌, Some}
 use Rattle.edit_model.specs.Gives.{label_of, labels_of}
 use Rattle.edit_model.specs.Run.{final, value, while_at_most}
-use Rattle.edit_doc.specs.Held.{Holds, IfHeld, Keeps}
-use Rattle.wrap_split.specs.Walks.{turn_bound}
+use Rattle.inline_value.specs.EditDoc.Held.{Holds, IfHeld, Keeps}
+use Rattle.inline_value.specs.WrapSplit.Walks.{turn_bound}
 use Rattle.delete_core.specs.Merging.{is_emptied}
 use Rattle.delete_core.specs.Erasing.{removed_up}
 use Rattle.delete_core.proofs.outer.drop_emptied.Given as goal

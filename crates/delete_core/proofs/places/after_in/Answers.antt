@@ -1,6 +1,6 @@
 use Rattle.std.proofs.Common.{arith}
-use Rattle.dom_model.proofs.Few.{some_nodes}
-use Rattle.dom_model.proofs.Indexes.{index_of_low}
+use Rattle.edit_model.proofs.DomModel.Few.{some_nodes}
+use Rattle.edit_model.proofs.DomModel.Indexes.{index_of_low}
 use Rattle.delete_core.proofs.places.after_in.Goals as goal
 
 pub overflow_add-result : goal.overflow_add-result

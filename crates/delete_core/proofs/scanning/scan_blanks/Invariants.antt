@@ -1,7 +1,7 @@
 use Rattle.std.proofs.Common.{◌≡◌, true}
 use Rattle.edit_model.specs.Run.{final, value, while_at_most}
-use Rattle.edit_doc.specs.Held.{Keeps}
-use Rattle.wrap_split.specs.Walks.{turn_bound}
+use Rattle.inline_value.specs.EditDoc.Held.{Keeps}
+use Rattle.inline_value.specs.WrapSplit.Walks.{turn_bound}
 use Rattle.delete_core.specs.InLine.{PrecedesNone}
 use Rattle.delete_core.specs.Whitespace.{scans, scan_turn}
 use Rattle.delete_core.proofs.scanning.scan_blanks.Given as goal

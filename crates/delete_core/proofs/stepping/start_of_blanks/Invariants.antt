@@ -1,5 +1,5 @@
 use Rattle.std.proofs.Common.{◌≡◌, true}
-use Rattle.wrap_split.specs.Walks.{turn_bound}
+use Rattle.inline_value.specs.WrapSplit.Walks.{turn_bound}
 use Rattle.delete_core.specs.Whitespace.{back_step}
 use Rattle.delete_core.specs.InLine.{FollowsNone}
 use Rattle.delete_core.specs.Places.{walk_points}

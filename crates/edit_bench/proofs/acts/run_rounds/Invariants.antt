@@ -1,4 +1,4 @@
-use Rattle.edit_doc.specs.Whole.{IsClosed}
+use Rattle.wrap_split.specs.EditDoc.Whole.{IsClosed}
 use Rattle.edit_bench.proofs.acts.run_rounds.Given as goal
 
 -- no command is running

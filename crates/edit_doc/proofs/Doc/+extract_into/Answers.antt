@@ -1,7 +1,7 @@
 use Rattle.std.proofs.Common.{◌≡◌, drop, Some, sym, ap, subst, ◌∙◌, arith}
 use Rattle.std.specs.Prelude.{IsSome}
-use Rattle.dom_model.specs.Forest.{children_of}
-use Rattle.point_order.specs.PointOrder.{child_toward}
+use Rattle.edit_model.specs.DomModel.Forest.{children_of}
+use Rattle.edit_model.specs.PointOrder.PointOrder.{child_toward}
 use Rattle.edit_model.specs.Gives.{labels_of}
 use Rattle.edit_model.specs.Possible.{are_possible}
 use Rattle.edit_model.specs.Tail.{carried}

@@ -1,5 +1,5 @@
 use Rattle.std.proofs.Common.{◌≡◌, ◌++◌}
-use Rattle.dom_model.specs.Forest.{tops, children_of}
+use Rattle.edit_model.specs.DomModel.Forest.{tops, children_of}
 use Rattle.edit_model.specs.Gives.{label_of, labels_of}
 use Rattle.edit_doc.specs.Held.{IfHeld, EachHeld}
 use Rattle.edit_doc.proofs.Children.{onward_at, IsChild, size_from}

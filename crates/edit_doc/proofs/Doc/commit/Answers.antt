@@ -1,11 +1,11 @@
 -- What a commit owes: with an edit, and without one.
 use Rattle.std.proofs.Common.{◌≡◌, ℕ, ◌<◌, ◌∙◌, true, None, [], refl, sym, ap, subst, length, arith}
 use Rattle.std.specs.Prelude.{nat_le}
-use Rattle.dom_model.specs.Forest.{parent_of}
-use Rattle.dom_model.specs.Pruned.{IsWhole}
-use Rattle.node_arena.specs.Held.{DropsMade}
-use Rattle.undo_log.specs.Log.Open.{Closed}
-use Rattle.live_range.specs.Names.{shown}
+use Rattle.edit_model.specs.DomModel.Forest.{parent_of}
+use Rattle.edit_model.specs.DomModel.Pruned.{IsWhole}
+use Rattle.edit_model.specs.NodeArena.Held.{DropsMade}
+use Rattle.step_edits.specs.UndoLog.Log.Open.{Closed}
+use Rattle.edit_model.specs.LiveRange.Names.{shown}
 use Rattle.edit_model.specs.History.{History, rested}
 use Rattle.edit_doc.specs.Whole.{history_committed}
 use Rattle.edit_doc.specs.declared.command.Command.{Command}

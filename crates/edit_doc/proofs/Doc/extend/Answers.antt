@@ -1,6 +1,6 @@
 use Rattle.std.proofs.Common.{◌≡◌, Bool, true, false, if◌then◌else◌, Some, None, IfSome, sym, ap, subst, ◌∙◌}
-use Rattle.live_range.specs.declared.places.Pair.{Pair}
-use Rattle.live_range.specs.declared.places.Point.{Point}
+use Rattle.edit_model.specs.LiveRange.declared.places.Pair.{Pair}
+use Rattle.edit_model.specs.LiveRange.declared.places.Point.{Point}
 use Rattle.edit_model.specs.Action.{Extend, acted, extended, extended_from, with_selection}
 use Rattle.edit_model.specs.Confined.{may_select}
 use Rattle.edit_model.specs.Valid.{IsPlacedPair}

@@ -1,5 +1,5 @@
 use Rattle.std.proofs.Common.{◌≡◌, false, true≢false, eqb, sym, subst, ◌∙◌, refl, arith}
-use Rattle.dom_model.specs.Forest.{count_of}
+use Rattle.edit_model.specs.DomModel.Forest.{count_of}
 use Rattle.edit_doc.specs.Held.{Holds}
 use Rattle.edit_doc.proofs.NewlyDetached.{newly_detached_held, document_node_held, none_seen, absent_seen}
 use Rattle.edit_doc.proofs.Doc.find.Goals as goal

@@ -1,9 +1,9 @@
 use Rattle.std.proofs.Common.{◌≡◌, ℕ, IfSome, Some, false, sym, ap, subst, ◌∙◌}
-use Rattle.dom_model.specs.Forest.{parent_of}
-use Rattle.dom_model.specs.Places.{index_of}
-use Rattle.live_range.specs.declared.places.Point.{Point}
-use Rattle.live_range.specs.PointsEdit.{has_label}
-use Rattle.live_range.specs.LivePoints.{labels_of}
+use Rattle.edit_model.specs.DomModel.Forest.{parent_of}
+use Rattle.edit_model.specs.DomModel.Places.{index_of}
+use Rattle.edit_model.specs.LiveRange.declared.places.Point.{Point}
+use Rattle.edit_model.specs.LiveRange.PointsEdit.{has_label}
+use Rattle.edit_model.specs.LiveRange.LivePoints.{labels_of}
 use Rattle.edit_model.specs.Action.{Grow, acted}
 use Rattle.edit_model.specs.Gives.{label_of}
 use Rattle.edit_doc.specs.Whole.{Whole, with_state}

@@ -1,6 +1,6 @@
 use Rattle.std.proofs.Common.{◌+◌, sym, ap, ◌∙◌, arith}
-use Rattle.dom_model.proofs.Few.{some_nodes}
-use Rattle.dom_model.proofs.Indexes.{index_of_low}
+use Rattle.edit_model.proofs.DomModel.Few.{some_nodes}
+use Rattle.edit_model.proofs.DomModel.Indexes.{index_of_low}
 use Rattle.edit_doc.proofs.SeenNodes.{index_seen}
 use Rattle.edit_doc.proofs.Doc.index_after.Goals as goal
 

@@ -1,7 +1,7 @@
 use Rattle.std.proofs.Common.{sym, ap, ◌∙◌, arith}
 use Rattle.std.specs.Prelude.{nat_lt}
 use Rattle.std.proofs.lemmas.Bool.{le-ltb}
-use Rattle.dom_model.specs.Document.{page_depth}
+use Rattle.edit_model.specs.DomModel.Document.{page_depth}
 use Rattle.edit_doc.proofs.Doc.is_deeper_than.Goals as goal
 
 pub returns-then-counts-limit : goal.returns-then-counts-limit

@@ -1,5 +1,5 @@
 use Rattle.std.proofs.Common.{◌≡◌, drop, reverse, take, sym, ap, subst, ◌∙◌}
-use Rattle.live_range.specs.Names.{shown}
+use Rattle.edit_model.specs.LiveRange.Names.{shown}
 use Rattle.edit_model.specs.Valid.{IsPlaced}
 use Rattle.edit_doc.specs.Logged.{HasMoved}
 use Rattle.edit_doc.specs.Whole.{Whole}

@@ -1,6 +1,6 @@
 -- What making an element owes.
 use Rattle.std.proofs.Common.{refl, sym, ap, subst, ◌∙◌, Err}
-use Rattle.dom_model.specs.declared.Content.TheVariants.{Element}
+use Rattle.edit_model.specs.DomModel.declared.Content.TheVariants.{Element}
 use Rattle.edit_model.proofs.Giving.{gives_element, gives_full_element}
 use Rattle.edit_model.specs.Run.{make_element, final}
 use Rattle.edit_doc.specs.Sound.{IsSoundDoc}

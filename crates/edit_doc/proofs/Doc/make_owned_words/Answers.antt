@@ -1,6 +1,6 @@
 -- What making a text owes.
 use Rattle.std.proofs.Common.{refl, sym, ap, subst, ◌∙◌, Err}
-use Rattle.dom_model.specs.declared.Content.TheVariants.{Words}
+use Rattle.edit_model.specs.DomModel.declared.Content.TheVariants.{Words}
 use Rattle.edit_model.proofs.Giving.{gives_words, gives_full_words}
 use Rattle.edit_model.specs.Run.{make_words, final}
 use Rattle.edit_model.specs.Action.{made}

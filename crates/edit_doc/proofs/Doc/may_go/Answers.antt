@@ -1,6 +1,6 @@
 use Rattle.std.proofs.Common.{sym, ap, ◌∙◌}
 use Rattle.std.specs.Prelude.{not, ◌||◌}
-use Rattle.point_order.specs.PointOrder.{is_in_document}
+use Rattle.edit_model.specs.PointOrder.PointOrder.{is_in_document}
 use Rattle.edit_model.specs.Gives.{label_of}
 use Rattle.edit_doc.proofs.Asking.{go_away, go_there, or_right}
 use Rattle.edit_doc.proofs.Placing.{document_seen}

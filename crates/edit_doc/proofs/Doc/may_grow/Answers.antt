@@ -1,7 +1,7 @@
 use Rattle.std.proofs.Common.{◌≡◌, true, false, refl, sym, ap, subst, ◌∙◌, nat_lt}
 use Rattle.std.specs.Prelude.{◌&&◌}
-use Rattle.dom_model.specs.Contents.{length_of}
-use Rattle.point_order.specs.PointOrder.{is_in_document}
+use Rattle.edit_model.specs.DomModel.Contents.{length_of}
+use Rattle.edit_model.specs.PointOrder.PointOrder.{is_in_document}
 use Rattle.edit_model.specs.Confined.{is_open}
 use Rattle.edit_doc.proofs.Asking.{first_false, second_false}
 use Rattle.edit_doc.proofs.Placing.{inside_held, grow_is, grow_absent}

@@ -1,7 +1,7 @@
 use Rattle.std.proofs.Common.{sym, ap, ◌∙◌}
 use Rattle.std.specs.Prelude.{not, ◌||◌}
 use Rattle.edit_model.specs.Confined.{is_own}
-use Rattle.dom_model.specs.Contents.{is_break}
+use Rattle.edit_model.specs.DomModel.Contents.{is_break}
 use Rattle.edit_model.specs.Kept.{has_no_kept_leaves}
 use Rattle.edit_doc.specs.Whole.{Whole}
 use Rattle.edit_doc.proofs.Asking.{leave_so, or_right}

@@ -1,8 +1,8 @@
 use Rattle.std.proofs.Common.{◌≡◌, Option, Some, None, refl, sym, ap, subst, ◌∙◌}
 use Rattle.std.specs.Prelude.{slice_index_or}
-use Rattle.dom_model.specs.Forest.{parent_of}
-use Rattle.node_arena.specs.declared.NodeRef.{NodeRef}
-use Rattle.node_arena.specs.Held.{label, NamesHeld}
+use Rattle.edit_model.specs.DomModel.Forest.{parent_of}
+use Rattle.edit_model.specs.NodeArena.declared.NodeRef.{NodeRef}
+use Rattle.edit_model.specs.NodeArena.Held.{label, NamesHeld}
 use Rattle.edit_model.specs.Edit.{Move}
 use Rattle.edit_model.specs.Gives.{label_of}
 use Rattle.edit_model.proofs.Giving.{gives_left}

@@ -1,8 +1,8 @@
 use Rattle.std.proofs.Common.{◌≡◌, ℕ, true, false, Option, Some, refl, sym, ap, subst, ◌∙◌, arith}
 use Rattle.std.specs.Option.{is_some}
 use Rattle.std.specs.Prelude.{IfSome}
-use Rattle.edit_steps.specs.declared.step.Step.{Step}
-use Rattle.edit_steps.specs.Step.{StepFits, step_applied, step_inverse}
+use Rattle.step_edits.specs.EditSteps.declared.step.Step.{Step}
+use Rattle.step_edits.specs.EditSteps.Step.{StepFits, step_applied, step_inverse}
 use Rattle.edit_model.specs.Confined.{may_change}
 use Rattle.edit_model.specs.Edit.{Replace}
 use Rattle.edit_model.proofs.Giving.{gives_left}

@@ -1,6 +1,6 @@
 -- What resuming the last entry owes.
 use Rattle.std.proofs.Common.{◌≡◌, ◌<◌, false, true, ◌∙◌, ap, subst, sym, refl, length, arith}
-use Rattle.undo_log.specs.Log.{resumed}
+use Rattle.step_edits.specs.UndoLog.Log.{resumed}
 use Rattle.edit_doc.specs.Fields.{SwapsLeft}
 use Rattle.edit_doc.specs.Trail.{Trail, trail_of}
 use Rattle.edit_doc.specs.Whole.{Whole, opened}

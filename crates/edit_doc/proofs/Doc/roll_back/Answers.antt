@@ -1,9 +1,9 @@
 -- What taking a command back owes.
 use Rattle.std.proofs.Common.{◌≡◌, ℕ, ◌<◌, ◌≤◌, true, length, refl, ap, sym, subst, ◌∙◌, arith}
 use Rattle.std.specs.Prelude.{nat_le}
-use Rattle.dom_model.specs.ArenaState.{ArenaState as Arena}
-use Rattle.live_range.specs.Names.{shown}
-use Rattle.undo_log.specs.Log.{abandoned}
+use Rattle.edit_model.specs.DomModel.ArenaState.{ArenaState as Arena}
+use Rattle.edit_model.specs.LiveRange.Names.{shown}
+use Rattle.step_edits.specs.UndoLog.Log.{abandoned}
 use Rattle.edit_doc.specs.Whole.{state_rolled_back}
 use Rattle.edit_doc.specs.Counted.{IsCounted}
 use Rattle.edit_doc.specs.Fields.{IsEnded, Forgets}

@@ -1,5 +1,5 @@
 use Rattle.std.proofs.Common.{◌∙◌, refl, ap, sym, arith}
-use Rattle.live_range.specs.PointsEdit as range
+use Rattle.edit_model.specs.LiveRange.PointsEdit as range
 use Rattle.edit_model.specs.Action.{acted, sent}
 use Rattle.edit_model.specs.Confined.{may_send}
 use Rattle.edit_model.proofs.Fitting.{places-send, fits-send}

@@ -1,11 +1,11 @@
 -- What setting an attribute owes.
 use Rattle.std.proofs.Common.{◌≡◌, true, false, refl, sym, ap, ◌∙◌, Some}
 use Rattle.std.specs.Option.{option_and_then}
-use Rattle.dom_model.specs.declared.Content.TheVariants.{Element}
-use Rattle.dom_model.specs.AttributeList.{set_in}
+use Rattle.edit_model.specs.DomModel.declared.Content.TheVariants.{Element}
+use Rattle.edit_model.specs.DomModel.AttributeList.{set_in}
 use Rattle.edit_model.specs.Confined.{has_value}
-use Rattle.dom_model.specs.Contents.{attributes_in}
-use Rattle.dom_model.specs.Forest.{content_of}
+use Rattle.edit_model.specs.DomModel.Contents.{attributes_in}
+use Rattle.edit_model.specs.DomModel.Forest.{content_of}
 use Rattle.edit_model.proofs.Giving.{gives_left}
 use Rattle.edit_model.specs.Edit.{Set}
 use Rattle.edit_doc.proofs.Attributed.{not_own_set, no_list_set, not_set_here, may_set_here, set_fits, counted_redressed, set_done, no_list}

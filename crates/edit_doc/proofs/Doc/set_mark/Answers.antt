@@ -1,5 +1,5 @@
 use Rattle.std.proofs.Common.{◌≡◌, Result, Ok, Err, OnOk, OnErr, sym, ap, subst, ◌∙◌}
-use Rattle.live_range.specs.LivePoints.{LivePoints, with_mark}
+use Rattle.edit_model.specs.LiveRange.LivePoints.{LivePoints, with_mark}
 use Rattle.edit_model.specs.Valid.{IsPlacedPair}
 use Rattle.edit_doc.specs.Whole.{Whole}
 use Rattle.edit_doc.specs.History.{whole_of}

@@ -1,7 +1,7 @@
 use Rattle.std.proofs.Common.{false, Some, refl, sym, ap, subst, ◌∙◌}
 use Rattle.std.specs.Prelude.{IsTrue}
 use Rattle.std.proofs.lemmas.Bool.{and_parts}
-use Rattle.undo_log.specs.Log.{is_open}
+use Rattle.step_edits.specs.UndoLog.Log.{is_open}
 use Rattle.edit_model.specs.Action.{acted, scratched, with_scratch}
 use Rattle.edit_model.specs.Confined.{may_select}
 use Rattle.edit_model.specs.Valid.{IsPlacedPair}

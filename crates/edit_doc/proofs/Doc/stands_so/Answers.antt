@@ -1,5 +1,5 @@
 use Rattle.std.proofs.Common.{sym, ap, ◌∙◌}
-use Rattle.node_arena.specs.Held.{label}
+use Rattle.edit_model.specs.NodeArena.Held.{label}
 use Rattle.edit_doc.proofs.Asking.{so_none, so_some}
 use Rattle.edit_doc.proofs.Doc.stands_so.Goals as goal
 

@@ -1,7 +1,7 @@
 use Rattle.std.proofs.Common.{◌≡◌, ℕ, List, [], Option, ap, ◌∙◌}
 use Rattle.std.specs.Prelude.{unwrap_or}
 use Rattle.std.specs.Option.{option_and_then}
-use Rattle.dom_model.specs.Contents.{chars_in}
+use Rattle.edit_model.specs.DomModel.Contents.{chars_in}
 use Rattle.edit_model.specs.Compositions.{characters_of}
 use Rattle.edit_doc.proofs.SeenNodes.{chars_seen}
 use Rattle.edit_doc.proofs.ShortTexts.{short_chars}

@@ -1,7 +1,7 @@
 -- What taking an entry back, or forth again, owes.
 use Rattle.std.proofs.Common.{sym, ap, ◌∙◌, length, arith}
 use Rattle.std.specs.Option.{option_copied}
-use Rattle.live_range.specs.Names.{shown}
+use Rattle.edit_model.specs.LiveRange.Names.{shown}
 use Rattle.edit_doc.specs.History.{whole_along}
 use Rattle.edit_doc.proofs.Turnings.{fits, side, edits, turn_done, nil, same, Turned}
 use Rattle.edit_doc.proofs.Inner.{closed_of}

@@ -1,6 +1,6 @@
 use Rattle.std.proofs.Common.{◌≡◌, [], ◌∷◌, ◌++◌, IfSome, refl, ap, subst, ◌∙◌, arith}
 use Rattle.std.specs.Prelude.{if◌then◌else◌}
-use Rattle.edit_steps.specs.declared.step.Step.TheVariants as step
+use Rattle.step_edits.specs.EditSteps.declared.step.Step.TheVariants as step
 use Rattle.edit_model.specs.Edit.{Remove}
 use Rattle.edit_doc.proofs.Edited.{Applied}
 use Rattle.edit_doc.proofs.Removed.{place_markable, up, fits, detached, trees, points_are, counted_unlinked, unlink_done}

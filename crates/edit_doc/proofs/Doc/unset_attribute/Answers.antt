@@ -1,10 +1,10 @@
 -- What unsetting an attribute owes.
 use Rattle.std.proofs.Common.{◌≡◌, true, false, not, refl, sym, ap, ◌∙◌, Some}
 use Rattle.std.specs.Option.{option_map_or, option_and_then}
-use Rattle.dom_model.specs.declared.Content.TheVariants.{Element}
-use Rattle.dom_model.specs.AttributeList.{value_of, unset_in}
-use Rattle.dom_model.specs.Contents.{attributes_in}
-use Rattle.dom_model.specs.Forest.{content_of}
+use Rattle.edit_model.specs.DomModel.declared.Content.TheVariants.{Element}
+use Rattle.edit_model.specs.DomModel.AttributeList.{value_of, unset_in}
+use Rattle.edit_model.specs.DomModel.Contents.{attributes_in}
+use Rattle.edit_model.specs.DomModel.Forest.{content_of}
 use Rattle.edit_model.proofs.Giving.{gives_left}
 use Rattle.edit_model.specs.Edit.{Unset}
 use Rattle.edit_doc.proofs.Attributed.{not_own_unset, no_list_unset, not_unset_here, may_unset_here, unset_fits, counted_redressed, unset_done, no_list, copied_some}

@@ -2,9 +2,9 @@ use Rattle.std.proofs.Common.{ℕ, Bool, true, false, if◌then◌else◌, List,
 use Rattle.std.specs.List.{All}
 use Rattle.std.specs.Map.{remove_entry}
 use Rattle.std.specs.Str.{bytes_eq}
-use Rattle.live_range.specs.declared.places.Pair.{Pair}
+use Rattle.edit_model.specs.LiveRange.declared.places.Pair.{Pair}
 use Rattle.std.proofs.lemmas.List.Elements.{All-cons}
-use Rattle.live_range.proofs.Apart.{All-head, All-tail}
+use Rattle.edit_model.proofs.LiveRange.Apart.{All-head, All-tail}
 use Rattle.edit_model.specs.Valid.{IsPlacedPair}
 use Rattle.edit_doc.specs.History.{seen_trees}
 use Rattle.edit_doc.proofs.Chosen.{other_ok, scratch_at_rest}

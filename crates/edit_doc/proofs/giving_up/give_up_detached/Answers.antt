@@ -1,5 +1,5 @@
 use Rattle.std.proofs.Common.{◌≡◌, true, sym, subst}
-use Rattle.live_range.specs.PointsEdit.{has_label}
+use Rattle.edit_model.specs.LiveRange.PointsEdit.{has_label}
 use Rattle.edit_model.specs.Gives.{labels_of}
 use Rattle.edit_doc.specs.GivingUp.{GivesUp, has_detached}
 use Rattle.edit_doc.proofs.GivingUp.{gives_none}

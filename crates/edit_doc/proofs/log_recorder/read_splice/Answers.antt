@@ -1,12 +1,12 @@
 use Rattle.std.proofs.Common.{◌≡◌, ℕ, ◌+◌, ◌≤◌, List, [], ◌++◌, length, true, Some, unwrap_or, sym, ap, subst, ◌∙◌, arith, length-append}
-use Rattle.dom_model.specs.declared.Content.{Content}
-use Rattle.dom_model.specs.Contents.{chars_of, has_chars_at}
-use Rattle.dom_model.specs.Forest.{Forest}
-use Rattle.dom_model.specs.Room.{spliced}
-use Rattle.node_arena.specs.declared.NodeRef.{NodeRef}
-use Rattle.node_arena.specs.Held.{Holds}
-use Rattle.forest_changes.specs.Change.{HasPart}
-use Rattle.forest_changes.proofs.Splices.{part_chars}
+use Rattle.edit_model.specs.DomModel.declared.Content.{Content}
+use Rattle.edit_model.specs.DomModel.Contents.{chars_of, has_chars_at}
+use Rattle.edit_model.specs.DomModel.Forest.{Forest}
+use Rattle.edit_model.specs.DomModel.Room.{spliced}
+use Rattle.edit_model.specs.NodeArena.declared.NodeRef.{NodeRef}
+use Rattle.edit_model.specs.NodeArena.Held.{Holds}
+use Rattle.step_edits.specs.ForestChanges.Change.{HasPart}
+use Rattle.step_edits.proofs.ForestChanges.Splices.{part_chars}
 use Rattle.edit_doc.specs.declared.logged.LoggedEdit.{LoggedEdit}
 use Rattle.edit_doc.proofs.log_recorder.read_splice.Goals as goal
 

@@ -1,10 +1,10 @@
 use Rattle.std.proofs.Common.{◌≡◌, ℕ, ◌+◌, ◌-◌, ◌<◌, ◌≤◌, ◌++◌, map, Bool, false, List, length, get_or, Vec, Global, sym, ap, ◌∙◌, arith, append-nil}
 use Rattle.std.proofs.lemmas.List.{get_or_default}
-use Rattle.live_range.specs.PointsEdit.{has_label}
-use Rattle.forest_changes.specs.Named.{named_in}
-use Rattle.forest_changes.proofs.ChangeLists.{each_of}
+use Rattle.edit_model.specs.LiveRange.PointsEdit.{has_label}
+use Rattle.step_edits.specs.ForestChanges.Named.{named_in}
+use Rattle.step_edits.proofs.ForestChanges.ChangeLists.{each_of}
 use Rattle.edit_model.specs.History.{used}
-use Rattle.edit_steps.specs.Step.{changes_of}
+use Rattle.step_edits.specs.EditSteps.Step.{changes_of}
 use Rattle.edit_doc.specs.declared.logged.MadeNode.{MadeNode}
 use Rattle.edit_doc.specs.History.{roots_from}
 use Rattle.edit_doc.specs.Logged.{made_node, node_at, TellNamed}

@@ -1,6 +1,6 @@
 use Rattle.std.proofs.Common.{◌≡◌, ◌++◌, map}
 use Rattle.edit_model.specs.History.{used}
-use Rattle.edit_steps.specs.Step.{changes_of}
+use Rattle.step_edits.specs.EditSteps.Step.{changes_of}
 use Rattle.edit_doc.specs.History.{roots_from}
 use Rattle.edit_doc.specs.Logged.{made_node}
 use Rattle.edit_doc.proofs.logged.made_nodes.Given as goal

@@ -1,6 +1,6 @@
 use Rattle.std.proofs.Common.{◌+◌, ◌<◌, sym, ap, subst, ◌∙◌, take}
-use Rattle.forest_changes.specs.Named.{Each, named, named_in}
-use Rattle.edit_steps.specs.Step.{change_of, changes_of}
+use Rattle.step_edits.specs.ForestChanges.Named.{Each, named, named_in}
+use Rattle.step_edits.specs.EditSteps.Step.{change_of, changes_of}
 use Rattle.edit_doc.specs.Logged.{TellNamed}
 use Rattle.edit_doc.proofs.StepNodes.{item_at, each_named_at, named_more}
 use Rattle.edit_doc.proofs.logged.mark_named.Goals as goal

@@ -1,6 +1,6 @@
 use Rattle.std.proofs.Common.{◌≡◌, ◌+◌, length, take}
-use Rattle.forest_changes.specs.Named.{named_in}
-use Rattle.edit_steps.specs.Step.{changes_of}
+use Rattle.step_edits.specs.ForestChanges.Named.{named_in}
+use Rattle.step_edits.specs.EditSteps.Step.{changes_of}
 use Rattle.edit_doc.specs.Logged.{TellNamed}
 use Rattle.edit_doc.proofs.logged.mark_named.Given as goal
 

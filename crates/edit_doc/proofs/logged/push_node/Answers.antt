@@ -1,5 +1,5 @@
 use Rattle.std.proofs.Common.{None, append-nil, sym}
-use Rattle.dom_model.proofs.Stands.{seek_absent}
+use Rattle.edit_model.proofs.DomModel.Stands.{seek_absent}
 use Rattle.edit_doc.proofs.logged.push_node.Goals as goal
 
 pub returns-in-None : goal.returns-in-None

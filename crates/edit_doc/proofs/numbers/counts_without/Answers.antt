@@ -1,5 +1,5 @@
 use Rattle.std.proofs.Common.{sym, ◌∙◌, arith}
-use Rattle.dom_model.specs.Contents.{words_length}
+use Rattle.edit_model.specs.DomModel.Contents.{words_length}
 use Rattle.edit_doc.proofs.Lessened.{less_inside, less_outside}
 use Rattle.edit_doc.proofs.numbers.counts_without.Goals as goal
 

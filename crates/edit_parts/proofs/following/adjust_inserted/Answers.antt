@@ -1,5 +1,5 @@
 use Rattle.std.proofs.Common.{sym}
-use Rattle.dom_model.specs.Places.{index_of}
+use Rattle.edit_model.specs.DomModel.Places.{index_of}
 use Rattle.edit_parts.proofs.Points.{inserted_same}
 use Rattle.edit_parts.proofs.following.adjust_inserted.Goals as goal
 

@@ -1,11 +1,11 @@
 use Rattle.std.proofs.Common.{◌≡◌, ℕ, ◌&&◌, length-set, not, true, false, Option, Some, None, get_or, refl, sym, ap, ◌∙◌, arith, take}
 use Rattle.std.proofs.lemmas.List.{take_all}
 use Rattle.std.specs.Option.{is_some}
-use Rattle.dom_model.specs.Forest.{preorder, tree_of}
-use Rattle.dom_model.proofs.DropTree.{leaf_tree}
-use Rattle.live_range.specs.PointsEdit.{has_label}
-use Rattle.node_arena.specs.declared.NodeRef.{NodeRef}
-use Rattle.node_arena.specs.Held.{label}
+use Rattle.edit_model.specs.DomModel.Forest.{preorder, tree_of}
+use Rattle.edit_model.proofs.DomModel.DropTree.{leaf_tree}
+use Rattle.edit_model.specs.LiveRange.PointsEdit.{has_label}
+use Rattle.edit_model.specs.NodeArena.declared.NodeRef.{NodeRef}
+use Rattle.edit_model.specs.NodeArena.Held.{label}
 use Rattle.edit_parts.proofs.Standing.{standing-label, label_next, label_noted, label_is, within_label, absent_label, tells_in, tells_out}
 use Rattle.edit_parts.proofs.following.labels_within.Goals as goal
 use Rattle.edit_parts.proofs.following.labels_within.Goals.{in-Some+then-is_within, in-Some+else-is_within, in_default}

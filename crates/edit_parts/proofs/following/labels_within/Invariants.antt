@@ -1,6 +1,6 @@
 use Rattle.std.proofs.Common.{◌≡◌, ℕ, ◌≤◌, ◌&&◌, length, take}
-use Rattle.dom_model.specs.Forest.{preorder, tree_of}
-use Rattle.live_range.specs.PointsEdit.{has_label}
+use Rattle.edit_model.specs.DomModel.Forest.{preorder, tree_of}
+use Rattle.edit_model.specs.LiveRange.PointsEdit.{has_label}
 use Rattle.edit_parts.proofs.following.labels_within.Given as goal
 
 abbrev pub invariant-loop-label : goal.invariant-loop-label

@@ -1,5 +1,5 @@
 use Rattle.std.proofs.Common.{◌≡◌, Option, Some, None, IfSome, subst}
-use Rattle.live_range.specs.declared.places.Pair.{Pair}
+use Rattle.edit_model.specs.LiveRange.declared.places.Pair.{Pair}
 use Rattle.edit_model.specs.Valid.{IsPlacedPair}
 use Rattle.edit_parts.proofs.Ranges.{placed_here}
 use Rattle.edit_parts.proofs.overrides.active_range.Goals as goal

@@ -1,10 +1,10 @@
 -- The place of each command is its place in the list of commands.
 use Rattle.std.proofs.Common.{◌≡◌, refl}
-use Rattle.html_names.specs.declared.commands.Command.{Command}
-use Rattle.html_names.specs.declared.commands.Command.TheVariants as command
+use Rattle.edit_model.specs.HtmlNames.declared.commands.Command.{Command}
+use Rattle.edit_model.specs.HtmlNames.declared.commands.Command.TheVariants as command
 use Rattle.edit_model.specs.Overrides.{place_of}
 use denote.Enum.Declared.{tag_of}
-use Rattle.html_names.specs.contracts.commands.Command.{the_type}
+use Rattle.edit_model.specs.HtmlNames.contracts.commands.Command.{the_type}
 use Rattle.edit_parts.proofs.overrides.place_of.Goals as goal
 
 pub returns-clause-place : goal.returns-clause-place

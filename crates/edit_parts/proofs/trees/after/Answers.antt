@@ -1,7 +1,7 @@
 use Rattle.std.proofs.Common.{◌≡◌, sym, ap, ◌∙◌, arith}
-use Rattle.dom_model.proofs.Within.{depth_of-parent}
-use Rattle.dom_model.specs.TreeOrder.{total_after}
-use Rattle.dom_model.proofs.Walks.{total_after-last}
+use Rattle.edit_model.proofs.DomModel.Within.{depth_of-parent}
+use Rattle.edit_model.specs.DomModel.TreeOrder.{total_after}
+use Rattle.edit_model.proofs.DomModel.Walks.{total_after-last}
 use Rattle.edit_parts.proofs.Below.{next_in, next_after, parent_in, parent_deep, no_parent}
 use Rattle.edit_parts.proofs.trees.after.Goals as goal
 

@@ -1,7 +1,7 @@
 use Rattle.std.proofs.Common.{◌≡◌, ℕ}
-use Rattle.dom_model.specs.declared.Content.{Content}
-use Rattle.dom_model.specs.Forest.{depth_of}
-use Rattle.dom_model.specs.TreeOrder.{total_after}
+use Rattle.edit_model.specs.DomModel.declared.Content.{Content}
+use Rattle.edit_model.specs.DomModel.Forest.{depth_of}
+use Rattle.edit_model.specs.DomModel.TreeOrder.{total_after}
 use Rattle.edit_parts.specs.Walk.{IsIn}
 use Rattle.edit_parts.proofs.trees.after.Given as goal
 

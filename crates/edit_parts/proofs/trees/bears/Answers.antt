@@ -1,8 +1,8 @@
 use Rattle.std.proofs.Common.{◌≡◌, ◌≢◌, ℕ, Bool, true, false, not, List, [], ◌∷◌, map, filter, cond, ◌&&◌, refl, sym, ap, ◌∙◌}
 use Rattle.std.specs.List.{list_all}
-use Rattle.dom_model.specs.declared.Content.{Content}
-use Rattle.dom_model.specs.declared.Content.TheVariants.{Document, Element, Words, Remark}
-use Rattle.dom_model.specs.declared.attributes.Attribute.{Attribute}
+use Rattle.edit_model.specs.DomModel.declared.Content.{Content}
+use Rattle.edit_model.specs.DomModel.declared.Content.TheVariants.{Document, Element, Words, Remark}
+use Rattle.edit_model.specs.DomModel.declared.attributes.Attribute.{Attribute}
 use Rattle.edit_model.specs.Kept.{Leaf, Letter, Thing, borne_by, is_blank, is_empty, is_kept, is_thing}
 use Rattle.edit_parts.proofs.trees.bears.Goals as goal
 

@@ -1,6 +1,6 @@
 use Rattle.std.proofs.Common.{◌≡◌, arith, Some, None, Option, IfSome, sym, ℕ}
-use Rattle.dom_model.specs.declared.Content.{Content}
-use Rattle.dom_model.specs.TreeOrder.{total_from, total_after}
+use Rattle.edit_model.specs.DomModel.declared.Content.{Content}
+use Rattle.edit_model.specs.DomModel.TreeOrder.{total_from, total_after}
 use Rattle.edit_parts.specs.declared.trees.Place.{Place}
 use Rattle.edit_parts.specs.Walk.{IsIn, Goes}
 use Rattle.edit_parts.proofs.Below.{child_low, goes_down, goes_on, stops}

@@ -1,7 +1,7 @@
 use Rattle.std.proofs.Common.{◌≡◌, Some}
-use Rattle.dom_model.specs.declared.Content.{Content}
-use Rattle.dom_model.specs.Forest.{content_of}
-use Rattle.dom_model.specs.TreeOrder.{total_from}
+use Rattle.edit_model.specs.DomModel.declared.Content.{Content}
+use Rattle.edit_model.specs.DomModel.Forest.{content_of}
+use Rattle.edit_model.specs.DomModel.TreeOrder.{total_from}
 use Rattle.edit_parts.specs.Walk.{IsIn}
 use Rattle.edit_parts.proofs.Bearing.{weight}
 use Rattle.edit_parts.proofs.trees.has_no_kept_leaves.Given as goal

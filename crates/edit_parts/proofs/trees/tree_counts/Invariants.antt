@@ -1,8 +1,8 @@
 use Rattle.std.proofs.Common.{◌≡◌, ◌≤◌, ◌+◌, ℕ, cond, eqb}
 use Rattle.std.specs.Option.{option_map_or}
-use Rattle.dom_model.specs.Contents.{words_length}
-use Rattle.dom_model.specs.Forest.{content_of, depth_of, IsWithin}
-use Rattle.dom_model.specs.TreeOrder.{total_from, total_after}
+use Rattle.edit_model.specs.DomModel.Contents.{words_length}
+use Rattle.edit_model.specs.DomModel.Forest.{content_of, depth_of, IsWithin}
+use Rattle.edit_model.specs.DomModel.TreeOrder.{total_from, total_after}
 use Rattle.edit_parts.specs.Walk.{IsIn}
 use Rattle.edit_parts.proofs.trees.tree_counts.Given as goal
 

@@ -1,5 +1,5 @@
 use Rattle.std.proofs.Common.{sym, ◌∙◌, arith}
-use Rattle.dom_model.proofs.Within.{depth_of-parent}
+use Rattle.edit_model.proofs.DomModel.Within.{depth_of-parent}
 use Rattle.edit_query.proofs.Climbing.{stays, goes_on, parent_editable, ends_on_top}
 use Rattle.edit_query.proofs.Hosting.{parent_inside}
 use Rattle.edit_query.proofs.block_types.block_at.Goals as goal

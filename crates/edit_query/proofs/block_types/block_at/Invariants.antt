@@ -1,7 +1,7 @@
 use Rattle.std.proofs.Common.{◌≡◌, true}
-use Rattle.dom_model.specs.Editing.{is_editable}
-use Rattle.dom_model.specs.Forest.{depth_of}
-use Rattle.edit_doc.specs.Held.{Holds}
+use Rattle.edit_model.specs.DomModel.Editing.{is_editable}
+use Rattle.edit_model.specs.DomModel.Forest.{depth_of}
+use Rattle.edit_actions.specs.EditDoc.Held.{Holds}
 use Rattle.edit_query.specs.BlockTypes.{block_at}
 use Rattle.edit_query.proofs.block_types.block_at.Given as goal
 

@@ -1,6 +1,6 @@
 use Rattle.std.proofs.Common.{◌≡◌, drop}
 use Rattle.edit_model.specs.Gives.{labels_of}
-use Rattle.edit_doc.specs.Held.{Holds}
+use Rattle.edit_actions.specs.EditDoc.Held.{Holds}
 use Rattle.edit_query.specs.BlockTypes.{type_in, has_other_type}
 use Rattle.edit_query.proofs.block_types.has_other_type.Given as goal
 

@@ -1,6 +1,6 @@
 use Rattle.std.proofs.Common.{◌≡◌, ◌||◌, Bool, true, false, refl, sym, ap, ◌∙◌}
 use Rattle.std.specs.Option.{option_map_or}
-use Rattle.dom_model.specs.Forest.{parent_of}
+use Rattle.edit_model.specs.DomModel.Forest.{parent_of}
 use Rattle.edit_query.specs.ListStates.{is_any_list}
 use Rattle.edit_query.proofs.list_states.belongs_in_list.Goals as goal
 

@@ -1,6 +1,6 @@
 use Rattle.std.proofs.Common.{◌≡◌, drop}
 use Rattle.std.specs.List.{filter, list_all}
-use Rattle.node_tests.specs.Visible.{is_formattable}
+use Rattle.block_extend.specs.NodeTests.Visible.{is_formattable}
 use Rattle.command_value.specs.EffectiveValues.{is_activated}
 use Rattle.edit_model.specs.Gives.{labels_of}
 use Rattle.edit_query.proofs.listed.is_on_at_formattable.Given as goal

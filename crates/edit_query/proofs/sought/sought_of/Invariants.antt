@@ -1,7 +1,7 @@
 use Rattle.std.proofs.Common.{◌≡◌, ◌++◌, drop}
 use Rattle.std.specs.List.{filter}
 use Rattle.edit_model.specs.Gives.{labels_of}
-use Rattle.edit_doc.specs.Held.{EachHeld}
+use Rattle.edit_actions.specs.EditDoc.Held.{EachHeld}
 use Rattle.edit_query.specs.Sought.{is_sought}
 use Rattle.edit_query.proofs.sought.sought_of.Given as goal
 

@@ -1,8 +1,8 @@
 use Rattle.std.proofs.Common.{◌≡◌, drop}
 use Rattle.edit_model.specs.Gives.{labels_of}
 use Rattle.edit_model.specs.Run.{final, for_each}
-use Rattle.edit_doc.specs.Held.{Keeps}
-use Rattle.html_names.specs.declared.commands.Command.TheVariants.{Unlink}
+use Rattle.inline_value.specs.EditDoc.Held.{Keeps}
+use Rattle.edit_model.specs.HtmlNames.declared.commands.Command.TheVariants.{Unlink}
 use Rattle.inline_value.specs.Selections.{clear_one}
 use Rattle.inline_commands.proofs.clearing.clear_links.Given as goal
 

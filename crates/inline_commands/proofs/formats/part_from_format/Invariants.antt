@@ -1,8 +1,8 @@
 use Rattle.std.proofs.Common.{◌≡◌}
 use Rattle.edit_model.specs.Run.{final, while_at_most}
-use Rattle.edit_doc.specs.Held.{Keeps}
-use Rattle.wrap_split.specs.Split.{split_around}
-use Rattle.wrap_split.specs.Walks.{turn_bound}
+use Rattle.inline_value.specs.EditDoc.Held.{Keeps}
+use Rattle.inline_value.specs.WrapSplit.Split.{split_around}
+use Rattle.inline_value.specs.WrapSplit.Walks.{turn_bound}
 use Rattle.inline_commands.specs.RemovingFormat.{is_formatted}
 use Rattle.inline_commands.proofs.formats.part_from_format.Given as goal
 

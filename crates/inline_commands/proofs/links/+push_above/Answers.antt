@@ -1,11 +1,11 @@
 use Rattle.std.proofs.Common.{◌≡◌, ◌<◌, ◌++◌, ◌∷◌, [], Some, None, sym, ap, ◌∙◌, arith, append_assoc, reverse}
 use Rattle.std.specs.Prelude.{filter}
 use Rattle.std.proofs.lemmas.List.Elements.{filter-append}
-use Rattle.dom_model.specs.Forest.{parent_of, depth_of}
-use Rattle.dom_model.proofs.Parts.{at_label}
-use Rattle.dom_model.proofs.Within.{depth_of-parent}
-use Rattle.node_styles.specs.Lineage.{lineage}
-use Rattle.node_styles.proofs.Lineages.{lineage-child, lineage-root}
+use Rattle.edit_model.specs.DomModel.Forest.{parent_of, depth_of}
+use Rattle.edit_model.proofs.DomModel.Parts.{at_label}
+use Rattle.edit_model.proofs.DomModel.Within.{depth_of-parent}
+use Rattle.inline_value.specs.NodeStyles.Lineage.{lineage}
+use Rattle.inline_value.proofs.NodeStyles.Lineages.{lineage-child, lineage-root}
 use Rattle.edit_model.specs.Gives.{label_of}
 use Rattle.inline_commands.specs.Unlink.{is_link}
 use Rattle.inline_commands.proofs.Ancestors.{labels, reverse-cons}

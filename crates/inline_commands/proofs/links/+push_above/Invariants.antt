@@ -1,4 +1,4 @@
-use Rattle.dom_model.specs.Forest.{depth_of}
+use Rattle.edit_model.specs.DomModel.Forest.{depth_of}
 use Rattle.inline_commands.proofs.links.+push_above.Given as goal
 
 abbrev pub decreases-push_above : goal.decreases-push_above

@@ -1,5 +1,5 @@
 use Rattle.std.proofs.Common.{◌≡◌, Some, None, sym, ap, ◌∙◌}
-use Rattle.dom_model.specs.Forest.{parent_of}
+use Rattle.edit_model.specs.DomModel.Forest.{parent_of}
 use Rattle.edit_model.specs.Gives.{label_of, labels_of}
 use Rattle.inline_commands.proofs.Above.{none_above, above_child}
 use Rattle.inline_commands.proofs.links.links_above.Goals as goal

@@ -1,6 +1,6 @@
 use Rattle.std.proofs.Common.{arith}
 use Rattle.edit_model.proofs.Steps.{labels_of_push, labels_of_drop}
-use Rattle.edit_doc.proofs.Children.{pushed_held}
+use Rattle.inline_value.proofs.EditDoc.Children.{pushed_held}
 use Rattle.inline_commands.proofs.links.links_among.Goals as goal
 use Rattle.inline_commands.proofs.links.links_among.Goals.{then-is_link+in_ok-push, else-is_link}
 

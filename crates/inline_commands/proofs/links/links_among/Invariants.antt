@@ -1,7 +1,7 @@
 use Rattle.std.proofs.Common.{◌≡◌, ◌++◌, drop}
 use Rattle.std.specs.List.{filter}
 use Rattle.edit_model.specs.Gives.{labels_of}
-use Rattle.edit_doc.specs.Held.{EachHeld}
+use Rattle.inline_value.specs.EditDoc.Held.{EachHeld}
 use Rattle.inline_commands.specs.Unlink.{is_link}
 use Rattle.inline_commands.proofs.links.links_among.Given as goal
 

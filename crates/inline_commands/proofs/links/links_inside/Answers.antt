@@ -1,8 +1,8 @@
 use Rattle.std.proofs.Common.{◌≡◌, ℕ, List, true, false, IfOk, sym, ap, subst, ◌∙◌}
 use Rattle.std.specs.Prelude.{filter}
-use Rattle.point_order.specs.PointOrder.{is_before}
+use Rattle.edit_model.specs.PointOrder.PointOrder.{is_before}
 use Rattle.edit_model.specs.Gives.{labels_of}
-use Rattle.edit_query.proofs.Lists.{labels_mapped}
+use Rattle.inline_value.proofs.EditQuery.Lists.{labels_mapped}
 use Rattle.inline_commands.specs.Merging.{links_inside}
 use Rattle.inline_commands.specs.Unlink.{is_link}
 use Rattle.inline_commands.proofs.links.links_inside.Goals as goal

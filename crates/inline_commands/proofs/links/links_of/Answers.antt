@@ -1,9 +1,9 @@
 use Rattle.std.proofs.Common.{◌≡◌, ◌++◌, not, sym, ap, ◌∙◌}
 use Rattle.std.specs.Prelude.{filter}
 use Rattle.edit_model.specs.Gives.{labels_of}
-use Rattle.edit_actions.specs.ActiveRange.{start_of, end_of}
-use Rattle.edit_actions.proofs.Placed.{placed_inside, placed_here}
-use Rattle.point_order.specs.PointOrder.{is_ancestor}
+use Rattle.inline_value.specs.EditActions.ActiveRange.{start_of, end_of}
+use Rattle.inline_value.proofs.EditActions.Placed.{placed_inside, placed_here}
+use Rattle.edit_model.specs.PointOrder.PointOrder.{is_ancestor}
 use Rattle.inline_commands.specs.Merging.{links_above, links_inside, merged}
 use Rattle.inline_commands.specs.Unlink.{links_in}
 use Rattle.inline_commands.proofs.Touched.{InOrder, ends_ordered, links_found}

@@ -1,6 +1,6 @@
 use Rattle.std.proofs.Common.{◌≡◌, ◌++◌, drop}
 use Rattle.edit_model.specs.Gives.{labels_of}
-use Rattle.edit_doc.specs.Held.{Holds, EachHeld}
+use Rattle.inline_value.specs.EditDoc.Held.{Holds, EachHeld}
 use Rattle.inline_commands.specs.Merging.{links_over}
 use Rattle.inline_commands.proofs.links.links_over.Given as goal
 

@@ -1,6 +1,6 @@
 use Rattle.std.proofs.Common.{◌≡◌, ℕ, Bool, true, false, not, get_or, sym, ap, ◌∙◌}
-use Rattle.point_order.specs.PointOrder.{is_ancestor}
-use Rattle.edit_doc.proofs.Children.{pushed_held}
+use Rattle.edit_model.specs.PointOrder.PointOrder.{is_ancestor}
+use Rattle.inline_value.proofs.EditDoc.Children.{pushed_held}
 use Rattle.inline_commands.proofs.Merging.{nobody, kept_on, kept_off}
 use Rattle.inline_commands.proofs.links.not_above.Goals as goal
 use Rattle.inline_commands.proofs.links.not_above.Goals.{then-not-is_ancestor+in_ok-push, else-not-is_ancestor}

@@ -1,8 +1,8 @@
 use Rattle.std.proofs.Common.{◌≡◌, ◌++◌, drop, not}
 use Rattle.std.specs.List.{filter}
-use Rattle.point_order.specs.PointOrder.{is_ancestor}
+use Rattle.edit_model.specs.PointOrder.PointOrder.{is_ancestor}
 use Rattle.edit_model.specs.Gives.{labels_of}
-use Rattle.edit_doc.specs.Held.{EachHeld}
+use Rattle.inline_value.specs.EditDoc.Held.{EachHeld}
 use Rattle.inline_commands.proofs.links.not_above.Given as goal
 
 -- the nodes so far are listed, and the others are still to be listed

@@ -1,8 +1,8 @@
 use Rattle.std.proofs.Common.{◌≡◌, ◌+◌, ◌<◌, ◌++◌, ◌∷◌, true, false, length, drop, get_or, sym, ap, ◌∙◌, arith, append-nil}
-use Rattle.point_order.specs.PointOrder.{is_ancestor}
+use Rattle.edit_model.specs.PointOrder.PointOrder.{is_ancestor}
 use Rattle.edit_model.specs.Gives.{labels_of}
 use Rattle.edit_model.proofs.Steps.{labels_of_push}
-use Rattle.edit_doc.proofs.Children.{pushed_held}
+use Rattle.inline_value.proofs.EditDoc.Children.{pushed_held}
 use Rattle.inline_commands.specs.Merging.{around}
 use Rattle.inline_commands.proofs.Merging.{nobody, around_on, beyond_on, around_off, beyond_off, around_end, beyond_end}
 use Rattle.inline_commands.proofs.links.push_around.Goals as goal

@@ -1,6 +1,6 @@
 use Rattle.std.proofs.Common.{◌≡◌, ◌++◌, ◌-◌, ◌≤◌, drop, length}
 use Rattle.edit_model.specs.Gives.{labels_of}
-use Rattle.edit_doc.specs.Held.{EachHeld}
+use Rattle.inline_value.specs.EditDoc.Held.{EachHeld}
 use Rattle.inline_commands.specs.Merging.{around, beyond}
 use Rattle.inline_commands.proofs.links.push_around.Given as goal
 

@@ -2,7 +2,7 @@ use Rattle.std.proofs.Common.{◌≡◌, true, sym, ap, ◌∙◌}
 use Rattle.edit_model.specs.Gives.{labels_of}
 use Rattle.edit_model.proofs.Steps.{labels_of_push_end}
 use Rattle.inline_commands.specs.Unlink.{is_link}
-use Rattle.edit_doc.proofs.Children.{pushed_held}
+use Rattle.inline_value.proofs.EditDoc.Children.{pushed_held}
 use Rattle.inline_commands.proofs.links.push_if_link.Goals as goal
 
 pub returns-in_ok-push-clause-ok : goal.returns-in_ok-push-clause-ok

@@ -1,6 +1,6 @@
 use Rattle.std.proofs.Common.{◌≡◌, ◌++◌, drop, length, ap, ◌∙◌}
-use Rattle.edit_doc.proofs.Children.{pushed_held}
-use Rattle.edit_query.proofs.Lists.{tail_is}
+use Rattle.inline_value.proofs.EditDoc.Children.{pushed_held}
+use Rattle.inline_value.proofs.EditQuery.Lists.{tail_is}
 use Rattle.inline_commands.proofs.Merging.{nobody, merged_on, merged_rest, rest_held}
 use Rattle.inline_commands.proofs.links.push_merged.Goals as goal
 

@@ -1,6 +1,6 @@
 use Rattle.std.proofs.Common.{◌≡◌, drop}
 use Rattle.edit_model.specs.Run.{final, for_each}
-use Rattle.edit_doc.specs.Held.{Keeps}
+use Rattle.inline_value.specs.EditDoc.Held.{Keeps}
 use Rattle.inline_commands.specs.RestoringStates.{restore_entry}
 use Rattle.inline_commands.proofs.restoring.restore_entries.Given as goal
 

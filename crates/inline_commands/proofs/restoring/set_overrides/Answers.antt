@@ -1,6 +1,6 @@
 use Rattle.std.proofs.Common.{rules}
 use Rattle.edit_model.proofs.Steps.{exits}
-use Rattle.edit_doc.proofs.Chosen.{keeps_both}
+use Rattle.inline_value.proofs.EditDoc.Chosen.{keeps_both}
 use Rattle.inline_commands.specs.RestoringStates.{set_override}
 use Rattle.inline_commands.proofs.Items.{each_turned, each_fails}
 use Rattle.inline_commands.proofs.restoring.set_overrides.Goals as goal

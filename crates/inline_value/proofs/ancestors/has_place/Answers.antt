@@ -1,7 +1,7 @@
 use Rattle.std.proofs.Common.{◌&&◌, refl, sym, ap, ◌∙◌, arith}
 use Rattle.std.specs.List.{list_any}
-use Rattle.dom_model.proofs.Within.{depth_of-parent}
-use Rattle.node_styles.specs.Allowed.{allowed_in}
+use Rattle.edit_model.proofs.DomModel.Within.{depth_of-parent}
+use Rattle.wrap_split.specs.NodeStyles.Allowed.{allowed_in}
 use Rattle.edit_model.specs.Confined.{is_inside}
 use Rattle.inline_value.specs.Ancestors.{has_place}
 use Rattle.inline_value.proofs.Givers.{no_ancestors, ancestors_above}

@@ -1,9 +1,9 @@
 use Rattle.std.proofs.Common.{◌≡◌, ◌&&◌}
 use Rattle.std.specs.List.{list_any}
-use Rattle.dom_model.specs.Forest.{depth_of}
-use Rattle.node_styles.specs.Allowed.{allowed_in}
+use Rattle.edit_model.specs.DomModel.Forest.{depth_of}
+use Rattle.wrap_split.specs.NodeStyles.Allowed.{allowed_in}
 use Rattle.edit_model.specs.Confined.{is_inside}
-use Rattle.edit_doc.specs.Held.{Holds}
+use Rattle.wrap_split.specs.EditDoc.Held.{Holds}
 use Rattle.inline_value.specs.Ancestors.{has_place}
 use Rattle.inline_value.specs.Forcing.{ancestors}
 use Rattle.inline_value.proofs.ancestors.has_place.Given as goal

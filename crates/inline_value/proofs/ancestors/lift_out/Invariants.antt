@@ -1,6 +1,6 @@
 use Rattle.std.proofs.Common.{◌≡◌}
 use Rattle.edit_model.specs.Run.{final, while_at_most}
-use Rattle.edit_doc.specs.Held.{Keeps}
+use Rattle.wrap_split.specs.EditDoc.Held.{Keeps}
 use Rattle.wrap_split.specs.Split.{split_around}
 use Rattle.wrap_split.specs.Walks.{turn_bound}
 use Rattle.inline_value.specs.Ancestors.{is_misplaced}

@@ -1,10 +1,10 @@
 use Rattle.std.proofs.Common.{◌≡◌, ℕ, Bool, true, false, Option, Some, None, refl, sym, ◌∙◌, true≢false}
 use Rattle.std.specs.Option.{option_map_or, option_and_then}
-use Rattle.dom_model.specs.declared.Content.{Content}
-use Rattle.dom_model.specs.declared.Content.TheVariants.{Document, Element, Words, Remark}
-use Rattle.dom_model.specs.Contents.{is_element, is_element_at, name_in}
-use Rattle.dom_model.specs.Forest.{content_of}
-use Rattle.html_names.specs.ElementNames.{is_prohibited_child}
+use Rattle.edit_model.specs.DomModel.declared.Content.{Content}
+use Rattle.edit_model.specs.DomModel.declared.Content.TheVariants.{Document, Element, Words, Remark}
+use Rattle.edit_model.specs.DomModel.Contents.{is_element, is_element_at, name_in}
+use Rattle.edit_model.specs.DomModel.Forest.{content_of}
+use Rattle.edit_model.specs.HtmlNames.ElementNames.{is_prohibited_child}
 use Rattle.edit_model.specs.State.{State}
 use Rattle.inline_value.specs.Ancestors.{is_prohibited}
 use Rattle.inline_value.proofs.ancestors.replace_misplaced.Goals as goal

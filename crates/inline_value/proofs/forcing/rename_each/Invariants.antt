@@ -1,7 +1,7 @@
 use Rattle.std.proofs.Common.{◌≡◌, drop}
 use Rattle.edit_model.specs.Gives.{labels_of}
 use Rattle.edit_model.specs.Run.{final, for_each}
-use Rattle.edit_doc.specs.Held.{Keeps}
+use Rattle.wrap_split.specs.EditDoc.Held.{Keeps}
 use Rattle.inline_value.specs.Forcing.{rename_link}
 use Rattle.inline_value.proofs.forcing.rename_each.Given as goal
 

@@ -1,7 +1,7 @@
 use Rattle.std.proofs.Common.{◌≡◌, ◌<◌, Some, ◌++◌, sym, ap, subst}
 use Rattle.edit_model.specs.Gives.{label_of, labels_of}
-use Rattle.edit_doc.specs.Held.{Holds}
-use Rattle.edit_doc.proofs.Children.{none_held, pushed_held}
+use Rattle.wrap_split.specs.EditDoc.Held.{Holds}
+use Rattle.wrap_split.proofs.EditDoc.Children.{none_held, pushed_held}
 use Rattle.inline_value.specs.Forcing.{ancestors}
 use Rattle.inline_value.proofs.Above.{from, height, listed_first, listed_next, lower_next}
 use Rattle.inline_value.proofs.lineages.ancestors.Goals as goal

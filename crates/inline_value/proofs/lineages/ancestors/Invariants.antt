@@ -1,6 +1,6 @@
 use Rattle.std.proofs.Common.{◌≡◌, ◌++◌}
 use Rattle.edit_model.specs.Gives.{label_of, labels_of}
-use Rattle.edit_doc.specs.Held.{IfHeld, EachHeld}
+use Rattle.wrap_split.specs.EditDoc.Held.{IfHeld, EachHeld}
 use Rattle.inline_value.specs.Forcing.{ancestors}
 use Rattle.inline_value.proofs.Above.{from, height}
 use Rattle.inline_value.proofs.lineages.ancestors.Given as goal

@@ -1,8 +1,8 @@
 use Rattle.std.proofs.Common.{refl, sym, ap, ◌∙◌, arith}
 use Rattle.std.specs.Prelude.{is_some}
 use Rattle.std.specs.List.{list_any}
-use Rattle.dom_model.proofs.Within.{depth_of-parent}
-use Rattle.command_value.specs.SpecifiedValues.{specified}
+use Rattle.edit_model.proofs.DomModel.Within.{depth_of-parent}
+use Rattle.wrap_split.specs.CommandValue.SpecifiedValues.{specified}
 use Rattle.inline_value.specs.Pushing.{is_given_above}
 use Rattle.inline_value.proofs.Givers.{no_ancestors, ancestors_above}
 use Rattle.inline_value.proofs.Above.{any_found, any_passed}

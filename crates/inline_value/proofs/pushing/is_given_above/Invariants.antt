@@ -1,9 +1,9 @@
 use Rattle.std.proofs.Common.{◌≡◌}
 use Rattle.std.specs.Prelude.{is_some}
 use Rattle.std.specs.List.{list_any}
-use Rattle.dom_model.specs.Forest.{depth_of}
-use Rattle.command_value.specs.SpecifiedValues.{specified}
-use Rattle.edit_doc.specs.Held.{Holds}
+use Rattle.edit_model.specs.DomModel.Forest.{depth_of}
+use Rattle.wrap_split.specs.CommandValue.SpecifiedValues.{specified}
+use Rattle.wrap_split.specs.EditDoc.Held.{Holds}
 use Rattle.inline_value.specs.Forcing.{ancestors}
 use Rattle.inline_value.specs.Pushing.{is_given_above}
 use Rattle.inline_value.proofs.pushing.is_given_above.Given as goal

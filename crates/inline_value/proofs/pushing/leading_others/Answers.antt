@@ -1,6 +1,6 @@
 use Rattle.std.proofs.Common.{arith}
 use Rattle.edit_model.proofs.Steps.{labels_of_push, labels_of_drop}
-use Rattle.edit_doc.proofs.Children.{pushed_held}
+use Rattle.wrap_split.proofs.EditDoc.Children.{pushed_held}
 use Rattle.inline_value.proofs.pushing.leading_others.Goals as goal
 
 pub loop-node-preserved : goal.loop-node-preserved

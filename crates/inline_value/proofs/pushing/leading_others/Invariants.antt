@@ -1,7 +1,7 @@
 use Rattle.std.proofs.Common.{◌≡◌, ◌++◌, drop}
 use Rattle.std.specs.Option.{option_copied}
 use Rattle.edit_model.specs.Gives.{labels_of}
-use Rattle.edit_doc.specs.Held.{EachHeld}
+use Rattle.wrap_split.specs.EditDoc.Held.{EachHeld}
 use Rattle.inline_value.specs.Pushing.{leading, is_other}
 use Rattle.inline_value.proofs.pushing.leading_others.Given as goal
 

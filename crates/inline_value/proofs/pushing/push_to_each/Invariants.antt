@@ -2,7 +2,7 @@ use Rattle.std.proofs.Common.{◌≡◌, drop}
 use Rattle.std.specs.Option.{option_copied}
 use Rattle.edit_model.specs.Gives.{label_of, labels_of}
 use Rattle.edit_model.specs.Run.{final, for_each}
-use Rattle.edit_doc.specs.Held.{Keeps}
+use Rattle.wrap_split.specs.EditDoc.Held.{Keeps}
 use Rattle.inline_value.specs.Pushing.{push_to}
 use Rattle.inline_value.proofs.pushing.push_to_each.Given as goal
 

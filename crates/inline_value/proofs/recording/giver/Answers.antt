@@ -1,5 +1,5 @@
 use Rattle.std.proofs.Common.{sym, ◌∙◌, arith}
-use Rattle.dom_model.proofs.Within.{depth_of-parent}
+use Rattle.edit_model.proofs.DomModel.Within.{depth_of-parent}
 use Rattle.inline_value.proofs.Givers.{given_here, given_none, given_above}
 use Rattle.inline_value.proofs.recording.giver.Goals as goal
 

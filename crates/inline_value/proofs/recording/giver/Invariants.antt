@@ -1,6 +1,6 @@
 use Rattle.std.proofs.Common.{◌≡◌}
-use Rattle.dom_model.specs.Forest.{depth_of}
-use Rattle.edit_doc.specs.Held.{Holds}
+use Rattle.edit_model.specs.DomModel.Forest.{depth_of}
+use Rattle.wrap_split.specs.EditDoc.Held.{Holds}
 use Rattle.inline_value.specs.Recording.{given_value}
 use Rattle.inline_value.proofs.recording.giver.Given as goal
 

@@ -1,11 +1,11 @@
 use Rattle.std.proofs.Common.{◌≡◌, ℕ, Bool, true, false, not, ◌&&◌, List, Option, Some, None, refl, sym, ap, ◌∙◌, true≢false}
 use Rattle.std.specs.Prelude.{is_some}
-use Rattle.dom_model.specs.declared.Content.{Content}
-use Rattle.dom_model.specs.Forest.{Forest}
-use Rattle.html_names.specs.declared.commands.Command.{Command}
-use Rattle.command_value.specs.Equivalence.{equivalent}
-use Rattle.command_value.specs.Modifiable.{specifies_other}
-use Rattle.command_value.specs.SpecifiedValues.{specified}
+use Rattle.edit_model.specs.DomModel.declared.Content.{Content}
+use Rattle.edit_model.specs.DomModel.Forest.{Forest}
+use Rattle.edit_model.specs.HtmlNames.declared.commands.Command.{Command}
+use Rattle.wrap_split.specs.CommandValue.Equivalence.{equivalent}
+use Rattle.wrap_split.specs.CommandValue.Modifiable.{specifies_other}
+use Rattle.wrap_split.specs.CommandValue.SpecifiedValues.{specified}
 use Rattle.inline_value.proofs.recording.is_given_as.Goals as goal
 
 twice : (a b : Bool) → a ≡ true → not (a && not b) ≡ b

@@ -1,6 +1,6 @@
 use Rattle.std.proofs.Common.{◌++◌, [], ◌∷◌, ap, ◌∙◌, arith}
 use Rattle.std.proofs.lemmas.Grind.{common_steps}
-use Rattle.edit_doc.proofs.Children.{pushed_held}
+use Rattle.wrap_split.proofs.EditDoc.Children.{pushed_held}
 use Rattle.inline_value.specs.Records.{nodes_of}
 use Rattle.inline_value.proofs.Lists.{entries_pushed, nodes_pushed}
 use Rattle.inline_value.proofs.recording.push_values.Goals as goal

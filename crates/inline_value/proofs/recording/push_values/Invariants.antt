@@ -1,5 +1,5 @@
 use Rattle.std.proofs.Common.{◌≡◌, ◌++◌, map, take}
-use Rattle.edit_doc.specs.Held.{EachHeld}
+use Rattle.wrap_split.specs.EditDoc.Held.{EachHeld}
 use Rattle.inline_value.specs.Recording.{value_at}
 use Rattle.inline_value.specs.Records.{entries_of, nodes_of}
 use Rattle.inline_value.proofs.recording.push_values.Given as goal

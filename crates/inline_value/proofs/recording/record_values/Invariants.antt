@@ -1,6 +1,6 @@
 use Rattle.std.proofs.Common.{◌≡◌, ◌++◌, drop}
 use Rattle.edit_model.specs.Gives.{labels_of}
-use Rattle.edit_doc.specs.Held.{EachHeld}
+use Rattle.wrap_split.specs.EditDoc.Held.{EachHeld}
 use Rattle.inline_value.specs.Recording.{values_of}
 use Rattle.inline_value.specs.Records.{entries_of, nodes_of}
 use Rattle.inline_value.proofs.recording.record_values.Given as goal

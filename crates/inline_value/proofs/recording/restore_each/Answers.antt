@@ -2,7 +2,7 @@ use Rattle.std.proofs.Common.{◌≡◌, subst, sym, ap, ◌∙◌, refl}
 use Rattle.edit_model.specs.Gives.{Fails}
 use Rattle.edit_model.specs.Run.{final, for_each}
 use Rattle.edit_model.proofs.Steps.{exit, final-answer}
-use Rattle.edit_doc.proofs.Chosen.{keeps_both}
+use Rattle.wrap_split.proofs.EditDoc.Chosen.{keeps_both}
 use Rattle.inline_value.specs.Recording.{restore_value, restore_values}
 use Rattle.inline_value.specs.Records.{entry_of, entries_of}
 use Rattle.inline_value.proofs.Lists.{node_held, entry_turn, entry_end, turn_ends, turn_fails}

@@ -1,6 +1,6 @@
 use Rattle.std.proofs.Common.{◌≡◌, drop}
 use Rattle.edit_model.specs.Run.{final, for_each}
-use Rattle.edit_doc.specs.Held.{Keeps}
+use Rattle.wrap_split.specs.EditDoc.Held.{Keeps}
 use Rattle.inline_value.specs.Recording.{restore_value}
 use Rattle.inline_value.specs.Records.{entries_of}
 use Rattle.inline_value.proofs.recording.restore_each.Given as goal

@@ -1,5 +1,5 @@
 use Rattle.std.proofs.Common.{◌≡◌}
-use Rattle.edit_doc.specs.Held.{Holds}
+use Rattle.wrap_split.specs.EditDoc.Held.{Holds}
 use Rattle.inline_value.specs.Reordering.{reorder_step}
 use Rattle.wrap_split.specs.Walks.{turn_bound, walk}
 use Rattle.inline_value.proofs.reordering.reordered.Given as goal

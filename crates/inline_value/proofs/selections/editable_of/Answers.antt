@@ -1,6 +1,6 @@
 use Rattle.std.proofs.Common.{arith}
 use Rattle.edit_model.proofs.Steps.{labels_of_push, labels_of_drop}
-use Rattle.edit_doc.proofs.Children.{pushed_held}
+use Rattle.wrap_split.proofs.EditDoc.Children.{pushed_held}
 use Rattle.inline_value.proofs.selections.editable_of.Goals as goal
 use Rattle.inline_value.proofs.selections.editable_of.Goals.{then-is_editable_for+in_ok-push, else-is_editable_for}
 

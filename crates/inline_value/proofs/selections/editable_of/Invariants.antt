@@ -2,7 +2,7 @@ use Rattle.std.proofs.Common.{◌≡◌, ◌++◌, drop}
 use Rattle.std.specs.Prelude.{filter}
 use Rattle.edit_model.specs.Confined.{is_editable_for}
 use Rattle.edit_model.specs.Gives.{labels_of}
-use Rattle.edit_doc.specs.Held.{EachHeld}
+use Rattle.wrap_split.specs.EditDoc.Held.{EachHeld}
 use Rattle.inline_value.proofs.selections.editable_of.Given as goal
 
 -- those so far are listed, and the others are still to be listed

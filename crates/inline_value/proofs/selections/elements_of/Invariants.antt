@@ -1,8 +1,8 @@
 use Rattle.std.proofs.Common.{◌≡◌, ◌++◌, drop}
 use Rattle.std.specs.Prelude.{filter}
-use Rattle.dom_model.specs.Contents.{is_element_at}
+use Rattle.edit_model.specs.DomModel.Contents.{is_element_at}
 use Rattle.edit_model.specs.Gives.{labels_of}
-use Rattle.edit_doc.specs.Held.{EachHeld}
+use Rattle.wrap_split.specs.EditDoc.Held.{EachHeld}
 use Rattle.inline_value.proofs.selections.elements_of.Given as goal
 
 -- those so far are listed, and the others are still to be listed

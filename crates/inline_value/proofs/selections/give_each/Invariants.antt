@@ -2,7 +2,7 @@ use Rattle.std.proofs.Common.{◌≡◌, drop}
 use Rattle.std.specs.Option.{option_copied}
 use Rattle.edit_model.specs.Gives.{labels_of}
 use Rattle.edit_model.specs.Run.{final, for_each}
-use Rattle.edit_doc.specs.Held.{Keeps}
+use Rattle.wrap_split.specs.EditDoc.Held.{Keeps}
 use Rattle.inline_value.specs.Selections.{give_node}
 use Rattle.inline_value.proofs.selections.give_each.Given as goal
 

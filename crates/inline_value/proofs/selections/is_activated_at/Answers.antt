@@ -1,7 +1,7 @@
 use Rattle.std.proofs.Common.{sym, ap, ◌∙◌}
 use Rattle.std.specs.Prelude.{bytes_eq}
 use Rattle.std.specs.List.{list_any}
-use Rattle.live_range.proofs.Lists.{list_any-map}
+use Rattle.edit_model.proofs.LiveRange.Lists.{list_any-map}
 use Rattle.inline_value.proofs.selections.is_activated_at.Goals as goal
 
 pub returns : goal.returns

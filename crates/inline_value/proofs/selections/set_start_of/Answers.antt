@@ -1,4 +1,4 @@
-use Rattle.edit_actions.proofs.Placed.{placed_here}
+use Rattle.wrap_split.proofs.EditActions.Placed.{placed_here}
 use Rattle.inline_value.proofs.Selecting.{keeps_selected}
 use Rattle.inline_value.proofs.selections.set_start_of.Goals as goal
 

@@ -1,10 +1,10 @@
 use Rattle.std.proofs.Common.{◌≤◌, ◌-◌, length, arith}
 use Rattle.std.proofs.lemmas.List.{length-drop}
 use Rattle.edit_model.proofs.Steps.{exit}
-use Rattle.edit_doc.proofs.Chosen.{keeps_both}
+use Rattle.inline_value.proofs.EditDoc.Chosen.{keeps_both}
 use Rattle.list_indent.specs.Indenting.{indent_list}
 use Rattle.list_indent.specs.Commands.{goes_on}
-use Rattle.edit_query.proofs.Lists.{tail_is}
+use Rattle.inline_value.proofs.EditQuery.Lists.{tail_is}
 use Rattle.list_indent.proofs.Series.{turn_done, turn_fails}
 use Rattle.list_indent.proofs.commands.indent_each.Goals as goal
 

@@ -1,9 +1,9 @@
 use Rattle.std.proofs.Common.{◌≤◌, ◌-◌, length, arith}
 use Rattle.std.proofs.lemmas.List.{length-drop}
 use Rattle.edit_model.proofs.Steps.{exit}
-use Rattle.edit_doc.proofs.Chosen.{keeps_both}
+use Rattle.inline_value.proofs.EditDoc.Chosen.{keeps_both}
 use Rattle.list_indent.specs.Commands.{goes_on_items, outdent_series, outdent_nodes}
-use Rattle.edit_query.proofs.Lists.{tail_is}
+use Rattle.inline_value.proofs.EditQuery.Lists.{tail_is}
 use Rattle.list_indent.proofs.Series.{turn_done, turn_fails}
 use Rattle.list_indent.proofs.commands.outdent_nodes.Goals as goal
 

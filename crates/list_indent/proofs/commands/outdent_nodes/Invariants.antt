@@ -1,7 +1,7 @@
 use Rattle.std.proofs.Common.{◌≡◌, ◌≤◌, ◌-◌, length, drop}
 use Rattle.edit_model.specs.Gives.{labels_of}
 use Rattle.edit_model.specs.Run.{final}
-use Rattle.edit_doc.specs.Held.{Keeps}
+use Rattle.inline_value.specs.EditDoc.Held.{Keeps}
 use Rattle.list_indent.specs.Series.{for_series}
 use Rattle.list_indent.specs.Commands.{goes_on_items, outdent_series}
 use Rattle.list_indent.proofs.commands.outdent_nodes.Given as goal

@@ -1,6 +1,6 @@
 use Rattle.std.proofs.Common.{not, sym, ap, ◌∙◌}
-use Rattle.edit_doc.proofs.Children.{child_held}
-use Rattle.wrap_split.proofs.Children.{prev_child_is, prev_smaller, last_here, last_next, last_none}
+use Rattle.inline_value.proofs.EditDoc.Children.{child_held}
+use Rattle.inline_value.proofs.WrapSplit.Children.{prev_child_is, prev_smaller, last_here, last_next, last_none}
 use Rattle.list_indent.proofs.Children.{holder, shown_from, before_is_child}
 use Rattle.list_indent.proofs.commands.shown_before.Goals as goal
 

@@ -1,9 +1,9 @@
 use Rattle.std.proofs.Common.{◌≡◌, length}
 use Rattle.edit_model.specs.Gives.{label_of}
-use Rattle.edit_doc.specs.Held.{IfHeld}
-use Rattle.edit_doc.proofs.Children.{IsChild}
-use Rattle.wrap_split.specs.Wrap.{last_visible}
-use Rattle.wrap_split.proofs.Children.{front_at}
+use Rattle.inline_value.specs.EditDoc.Held.{IfHeld}
+use Rattle.inline_value.proofs.EditDoc.Children.{IsChild}
+use Rattle.inline_value.specs.WrapSplit.Wrap.{last_visible}
+use Rattle.inline_value.proofs.WrapSplit.Children.{front_at}
 use Rattle.list_indent.specs.Commands.{shown_before}
 use Rattle.list_indent.proofs.Children.{holder}
 use Rattle.list_indent.proofs.commands.shown_before.Given as goal

@@ -1,6 +1,6 @@
 use Rattle.std.proofs.Common.{◌≡◌, ◌<◌, Some, None, sym, ap, ◌∙◌, arith, append_assoc}
-use Rattle.dom_model.specs.Forest.{parent_of, depth_of}
-use Rattle.dom_model.proofs.Within.{depth_of-parent}
+use Rattle.edit_model.specs.DomModel.Forest.{parent_of, depth_of}
+use Rattle.edit_model.proofs.DomModel.Within.{depth_of-parent}
 use Rattle.edit_model.specs.Gives.{label_of}
 use Rattle.list_indent.proofs.Items.{items_root, items_child}
 use Rattle.list_indent.proofs.gathering.+push_items.Goals as goal

@@ -1,4 +1,4 @@
-use Rattle.dom_model.specs.Forest.{depth_of}
+use Rattle.edit_model.specs.DomModel.Forest.{depth_of}
 use Rattle.list_indent.proofs.gathering.+push_items.Given as goal
 
 abbrev pub decreases-push_items : goal.decreases-push_items

@@ -1,6 +1,6 @@
 use Rattle.std.proofs.Common.{arith}
 use Rattle.edit_model.proofs.Steps.{labels_of_push, labels_of_drop}
-use Rattle.edit_doc.proofs.Children.{pushed_held}
+use Rattle.inline_value.proofs.EditDoc.Children.{pushed_held}
 use Rattle.list_indent.proofs.gathering.push_apart.Goals as goal
 use Rattle.list_indent.proofs.gathering.push_apart.Goals.{then-not-is_within+in_ok-push, else-not-is_within}
 

@@ -1,8 +1,8 @@
 use Rattle.std.proofs.Common.{◌≡◌, ◌++◌, not, drop}
 use Rattle.std.specs.Prelude.{filter}
-use Rattle.point_order.specs.PointOrder.{is_within}
+use Rattle.edit_model.specs.PointOrder.PointOrder.{is_within}
 use Rattle.edit_model.specs.Gives.{labels_of}
-use Rattle.edit_doc.specs.Held.{EachHeld}
+use Rattle.inline_value.specs.EditDoc.Held.{EachHeld}
 use Rattle.list_indent.proofs.gathering.push_apart.Given as goal
 
 -- those so far are listed, and the others are still to be listed

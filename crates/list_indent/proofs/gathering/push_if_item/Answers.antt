@@ -1,8 +1,8 @@
 use Rattle.std.proofs.Common.{◌≡◌, true, sym, ap, ◌∙◌, codes}
-use Rattle.dom_model.specs.Contents.{has_name}
+use Rattle.edit_model.specs.DomModel.Contents.{has_name}
 use Rattle.edit_model.specs.Gives.{labels_of}
 use Rattle.edit_model.proofs.Steps.{labels_of_push_end}
-use Rattle.edit_doc.proofs.Children.{pushed_held}
+use Rattle.inline_value.proofs.EditDoc.Children.{pushed_held}
 use Rattle.list_indent.proofs.gathering.push_if_item.Goals as goal
 
 pub returns-in_ok-push-clause-ok : goal.returns-in_ok-push-clause-ok

@@ -1,9 +1,9 @@
 use Rattle.std.proofs.Common.{◌||◌, ℕ, Bool, sym, ap, ◌∙◌}
 use Rattle.std.specs.Prelude.{find, ◌==◌}
-use Rattle.dom_model.specs.Forest.{is_label}
+use Rattle.edit_model.specs.DomModel.Forest.{is_label}
 use Rattle.edit_model.specs.Gives.{label_of}
-use Rattle.edit_doc.proofs.Children.{first_child_is, child_held, next_child_is, next_smaller}
-use Rattle.edit_actions.proofs.Children.{all_rest}
+use Rattle.inline_value.proofs.EditDoc.Children.{first_child_is, child_held, next_child_is, next_smaller}
+use Rattle.inline_value.proofs.EditActions.Children.{all_rest}
 use Rattle.list_indent.specs.Outdenting.{child_on_way}
 use Rattle.list_indent.proofs.Children.{find_here, find_next, find_none}
 use Rattle.list_indent.proofs.levels.child_on_way.Goals as goal

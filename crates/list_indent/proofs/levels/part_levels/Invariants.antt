@@ -1,7 +1,7 @@
 use Rattle.std.proofs.Common.{◌≡◌, ◌≤◌, length, take, reverse}
 use Rattle.edit_model.specs.Gives.{labels_of}
 use Rattle.edit_model.specs.Run.{final}
-use Rattle.edit_doc.specs.Held.{Keeps}
+use Rattle.inline_value.specs.EditDoc.Held.{Keeps}
 use Rattle.list_indent.specs.Outdenting.{part_levels}
 use Rattle.list_indent.proofs.levels.part_levels.Given as goal
 

@@ -1,7 +1,7 @@
 use Rattle.std.proofs.Common.{sym, ap, ◌∙◌}
 use Rattle.std.specs.List.{list_any}
-use Rattle.edit_doc.proofs.Children.{first_child_is, next_child_is, next_smaller}
-use Rattle.edit_actions.proofs.Children.{all_rest}
+use Rattle.inline_value.proofs.EditDoc.Children.{first_child_is, next_child_is, next_smaller}
+use Rattle.inline_value.proofs.EditActions.Children.{all_rest}
 use Rattle.list_indent.specs.Sublists.{is_list}
 use Rattle.list_indent.proofs.Children.{any_here, any_next, any_none}
 use Rattle.list_indent.proofs.lists.has_list.Goals as goal

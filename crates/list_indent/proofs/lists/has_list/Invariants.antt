@@ -1,10 +1,10 @@
 use Rattle.std.proofs.Common.{◌≡◌}
 use Rattle.std.specs.List.{list_any}
-use Rattle.dom_model.specs.Forest.{children_of}
+use Rattle.edit_model.specs.DomModel.Forest.{children_of}
 use Rattle.edit_model.specs.Gives.{label_of}
-use Rattle.edit_doc.specs.Held.{IfHeld}
-use Rattle.edit_doc.proofs.Children.{IsChild, size_from}
-use Rattle.edit_actions.proofs.Children.{rest_at}
+use Rattle.inline_value.specs.EditDoc.Held.{IfHeld}
+use Rattle.inline_value.proofs.EditDoc.Children.{IsChild, size_from}
+use Rattle.inline_value.proofs.EditActions.Children.{rest_at}
 use Rattle.list_indent.specs.Sublists.{is_list}
 use Rattle.list_indent.proofs.lists.has_list.Given as goal
 

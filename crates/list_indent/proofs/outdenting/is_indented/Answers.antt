@@ -1,7 +1,7 @@
 use Rattle.std.proofs.Common.{◌||◌, sym, ap, ◌∙◌}
 use Rattle.std.specs.List.{list_any}
-use Rattle.dom_model.specs.Forest.{parent_of}
-use Rattle.node_styles.specs.NameClasses.{is_indentation}
+use Rattle.edit_model.specs.DomModel.Forest.{parent_of}
+use Rattle.inline_value.specs.NodeStyles.NameClasses.{is_indentation}
 use Rattle.list_indent.specs.Gaps.{is_indented}
 use Rattle.inline_value.proofs.Above.{from, ancestors_from, height_parent}
 use Rattle.list_indent.proofs.Ancestors.{any_on}

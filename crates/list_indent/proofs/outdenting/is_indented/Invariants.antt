@@ -1,8 +1,8 @@
 use Rattle.std.proofs.Common.{◌≡◌}
 use Rattle.std.specs.List.{list_any}
-use Rattle.node_styles.specs.NameClasses.{is_indentation}
+use Rattle.inline_value.specs.NodeStyles.NameClasses.{is_indentation}
 use Rattle.edit_model.specs.Gives.{label_of}
-use Rattle.edit_doc.specs.Held.{IfHeld}
+use Rattle.inline_value.specs.EditDoc.Held.{IfHeld}
 use Rattle.list_indent.specs.Gaps.{is_indented}
 use Rattle.inline_value.proofs.Above.{from, height}
 use Rattle.list_indent.proofs.outdenting.is_indented.Given as goal

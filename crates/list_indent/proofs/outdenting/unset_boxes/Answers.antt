@@ -1,6 +1,6 @@
 use Rattle.std.proofs.Common.{refl}
 use Rattle.edit_model.proofs.Steps.{exit}
-use Rattle.edit_doc.proofs.Chosen.{keeps_both}
+use Rattle.inline_value.proofs.EditDoc.Chosen.{keeps_both}
 use Rattle.inline_value.specs.Styling.{unset_style}
 use Rattle.list_indent.proofs.Names.{names_end, name_done, name_fails}
 use Rattle.list_indent.proofs.outdenting.unset_boxes.Goals as goal

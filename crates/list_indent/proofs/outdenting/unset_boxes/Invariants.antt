@@ -1,7 +1,7 @@
 use Rattle.std.proofs.Common.{◌≡◌, drop, map}
-use Rattle.html_names.specs.BoxNames.{box_names}
+use Rattle.edit_model.specs.HtmlNames.BoxNames.{box_names}
 use Rattle.edit_model.specs.Run.{final, for_each}
-use Rattle.edit_doc.specs.Held.{Keeps}
+use Rattle.inline_value.specs.EditDoc.Held.{Keeps}
 use Rattle.inline_value.specs.Styling.{unset_style}
 use Rattle.list_indent.proofs.outdenting.unset_boxes.Given as goal
 

@@ -1,6 +1,6 @@
 use Rattle.std.proofs.Common.{sym, ap, ◌∙◌, true≢false}
-use Rattle.edit_doc.proofs.Children.{none_held, pushed_held}
-use Rattle.edit_query.proofs.Hosting.{found_inside}
+use Rattle.inline_value.proofs.EditDoc.Children.{none_held, pushed_held}
+use Rattle.inline_value.proofs.EditQuery.Hosting.{found_inside}
 use Rattle.inline_value.specs.Forcing.{ancestors}
 use Rattle.list_indent.specs.Outdenting.{is_passed, climb, way_by}
 use Rattle.inline_value.proofs.Above.{ancestors_from}

@@ -1,7 +1,7 @@
 use Rattle.std.proofs.Common.{◌≡◌, true, ◌++◌, IfSome}
 use Rattle.edit_model.specs.Confined.{is_inside}
 use Rattle.edit_model.specs.Gives.{label_of, labels_of}
-use Rattle.edit_doc.specs.Held.{IfHeld, EachHeld}
+use Rattle.inline_value.specs.EditDoc.Held.{IfHeld, EachHeld}
 use Rattle.inline_value.specs.Forcing.{ancestors}
 use Rattle.list_indent.specs.Outdenting.{is_passed, climb}
 use Rattle.inline_value.proofs.Above.{from, height}

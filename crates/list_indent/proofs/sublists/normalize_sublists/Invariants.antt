@@ -1,8 +1,8 @@
 use Rattle.std.proofs.Common.{◌≡◌, None}
 use Rattle.edit_model.specs.Gives.{label_of}
 use Rattle.edit_model.specs.Run.{final, while_at_most}
-use Rattle.edit_doc.specs.Held.{IfHeld, Keeps}
-use Rattle.wrap_split.specs.Walks.{turn_bound}
+use Rattle.inline_value.specs.EditDoc.Held.{IfHeld, Keeps}
+use Rattle.inline_value.specs.WrapSplit.Walks.{turn_bound}
 use Rattle.list_indent.specs.Sublists.{has_sublist, part_last}
 use Rattle.list_indent.proofs.sublists.normalize_sublists.Given as goal
 

@@ -1,6 +1,6 @@
 use Rattle.std.proofs.Common.{◌≡◌, ℕ, Option, Some, sym, subst}
 use Rattle.std.specs.Option.{option_and_then}
-use Rattle.dom_model.specs.Forest.{parent_of}
+use Rattle.node_arena.specs.DomModel.Forest.{parent_of}
 use Rattle.node_arena.specs.Reads.{Names}
 use Rattle.node_styles.specs.Blocks.{is_block_content, nearest_block}
 use Rattle.node_styles.specs.Lineage.{nearest_label}

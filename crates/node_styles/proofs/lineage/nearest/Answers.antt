@@ -1,5 +1,5 @@
 use Rattle.std.proofs.Common.{sym, ◌∙◌, arith}
-use Rattle.dom_model.proofs.Within.{depth_of-parent}
+use Rattle.node_arena.proofs.DomModel.Within.{depth_of-parent}
 use Rattle.node_styles.proofs.Lineages.{nearest-here, nearest-root, nearest-parent}
 use Rattle.node_styles.proofs.lineage.nearest.Goals as goal
 

@@ -1,5 +1,5 @@
 use Rattle.std.proofs.Common.{◌≡◌}
-use Rattle.dom_model.specs.Forest.{depth_of}
+use Rattle.node_arena.specs.DomModel.Forest.{depth_of}
 use Rattle.node_styles.specs.Lineage as line
 use Rattle.node_styles.proofs.lineage.nearest.Given as goal
 

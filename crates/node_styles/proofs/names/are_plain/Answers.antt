@@ -1,5 +1,5 @@
 use Rattle.std.proofs.Common.{sym, ◌∙◌, ap, arith}
-use Rattle.dom_model.specs.declared.attributes.Attribute.{Attribute}
+use Rattle.node_arena.specs.DomModel.declared.attributes.Attribute.{Attribute}
 use Rattle.node_styles.specs.NameClasses.{is_plain_attribute}
 use Rattle.node_styles.proofs.Elements.{all_fails, all_past, has_element}
 use Rattle.node_styles.proofs.names.are_plain.Goals as goal

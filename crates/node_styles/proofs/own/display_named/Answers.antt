@@ -1,6 +1,6 @@
 use Rattle.std.proofs.Common.{◌≡◌, ℕ, false, List, inl, inr, refl, sym, codes}
 use Rattle.std.specs.Str.{bytes_eq}
-use Rattle.dom_model.proofs.Stands.{true_or_false}
+use Rattle.node_arena.proofs.DomModel.Stands.{true_or_false}
 use Rattle.std.proofs.lemmas.Slice.Eq.{bytes_eq-Decides}
 use Rattle.css_value.specs.Values.{display_of}
 use Rattle.node_styles.proofs.own.display_named.Goals as goal

@@ -1,7 +1,7 @@
 use Rattle.std.proofs.Common.{sym, ◌∙◌, ◌⊎◌, inl, inr, arith, ◌≡◌, true, false}
-use Rattle.dom_model.specs.Editing.{is_host}
-use Rattle.dom_model.specs.Forest.{IsWithin}
-use Rattle.dom_model.proofs.Within.{depth_of-parent}
+use Rattle.node_styles.specs.DomModel.Editing.{is_host}
+use Rattle.node_styles.specs.DomModel.Forest.{IsWithin}
+use Rattle.node_styles.proofs.DomModel.Within.{depth_of-parent}
 use Rattle.node_tests.specs.AffectedHost.{common_host}
 use Rattle.node_tests.proofs.Hosting.{found_here, found_above}
 use Rattle.node_tests.proofs.affected.common_host.Goals as goal

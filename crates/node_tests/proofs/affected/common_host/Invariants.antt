@@ -1,5 +1,5 @@
 use Rattle.std.proofs.Common.{◌≡◌}
-use Rattle.dom_model.specs.Forest.{depth_of}
+use Rattle.node_styles.specs.DomModel.Forest.{depth_of}
 use Rattle.node_tests.proofs.Hosting.{found_from}
 use Rattle.node_tests.proofs.affected.common_host.Given as goal
 

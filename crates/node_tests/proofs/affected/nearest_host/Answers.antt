@@ -1,5 +1,5 @@
 use Rattle.std.proofs.Common.{sym, ◌∙◌, arith}
-use Rattle.dom_model.proofs.Within.{depth_of-parent}
+use Rattle.node_styles.proofs.DomModel.Within.{depth_of-parent}
 use Rattle.node_tests.proofs.Hosting.{own_at_host, own_at_root, own_up, own_on, own_ends, own_none}
 use Rattle.node_tests.proofs.affected.nearest_host.Goals as goal
 

@@ -1,4 +1,4 @@
-use Rattle.dom_model.specs.Forest.{depth_of}
+use Rattle.node_styles.specs.DomModel.Forest.{depth_of}
 use Rattle.node_tests.specs.AffectedHost.{own_host}
 use Rattle.node_tests.proofs.Hosting.{IsNoneOr}
 use Rattle.node_tests.proofs.affected.nearest_host.Given as goal

@@ -1,10 +1,10 @@
 use Rattle.std.proofs.Common.{◌≡◌, ℕ, ◌+◌, ◌-◌, sym, ap, ◌∙◌, arith, Option, Some, None}
 use Rattle.std.specs.Prelude.{slice_get}
-use Rattle.dom_model.specs.declared.Content.{Content}
-use Rattle.dom_model.specs.Forest.{Forest, tops, children_of}
-use Rattle.node_arena.specs.declared.NodeRef.{NodeRef}
-use Rattle.node_arena.specs.Held.{label}
-use Rattle.node_arena.specs.Reads.{IsValid, Names}
+use Rattle.node_styles.specs.DomModel.declared.Content.{Content}
+use Rattle.node_styles.specs.DomModel.Forest.{Forest, tops, children_of}
+use Rattle.node_styles.specs.NodeArena.declared.NodeRef.{NodeRef}
+use Rattle.node_styles.specs.NodeArena.Held.{label}
+use Rattle.node_styles.specs.NodeArena.Reads.{IsValid, Names}
 use Rattle.node_tests.specs.Listing.{siblings}
 use Rattle.node_tests.proofs.Kids.{Kid, first_kid, next_kid}
 use Rattle.node_tests.proofs.ChildAt.{children_are, next_at, at_none, at_some}

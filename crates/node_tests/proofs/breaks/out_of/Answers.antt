@@ -1,5 +1,5 @@
 use Rattle.std.proofs.Common.{◌+◌, sym, ap}
-use Rattle.dom_model.specs.Places.{index_of}
+use Rattle.node_styles.specs.DomModel.Places.{index_of}
 use Rattle.node_tests.specs.declared.sides.Side.TheVariants.{Before, After}
 use Rattle.node_tests.specs.LineBreaks.{out_to}
 use Rattle.node_tests.proofs.Turning.{stands_before, stands_after}

@@ -1,5 +1,5 @@
 use Rattle.std.proofs.Common.{◌+◌, ◌*◌, ap, subst}
-use Rattle.dom_model.specs.Forest.{IsWithin}
+use Rattle.node_styles.specs.DomModel.Forest.{IsWithin}
 use Rattle.node_tests.specs.LineBreaks.{end_of, turn_to, walk, meets_break}
 use Rattle.node_tests.proofs.Endings.{free}
 use Rattle.node_tests.proofs.breaks.turns.Goals as goal

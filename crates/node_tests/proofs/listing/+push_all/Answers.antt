@@ -1,8 +1,8 @@
 use Rattle.std.proofs.Common.{◌++◌, ◌∷◌, [], true, sym, ap, ◌∙◌, arith, append-nil}
 use Rattle.std.proofs.lemmas.List.{map-append}
 use Rattle.std.specs.Prelude.{map}
-use Rattle.dom_model.specs.Forest.{tree_of}
-use Rattle.node_arena.specs.Held.{label}
+use Rattle.node_styles.specs.DomModel.Forest.{tree_of}
+use Rattle.node_styles.specs.NodeArena.Held.{label}
 use Rattle.node_tests.proofs.Gathered.{all_pushed, passed_whole}
 use Rattle.node_tests.proofs.Kids.{first_kid, next_kid, next_smaller, tree_smaller}
 use Rattle.node_tests.proofs.Wanting.{listed_init, listed_next}

@@ -1,8 +1,8 @@
 use Rattle.std.proofs.Common.{◌≡◌, ◌++◌, true}
 use Rattle.std.specs.Prelude.{map}
 use Rattle.std.specs.List.{All}
-use Rattle.dom_model.specs.Forest.{tree_of}
-use Rattle.node_arena.specs.Held.{label}
+use Rattle.node_styles.specs.DomModel.Forest.{tree_of}
+use Rattle.node_styles.specs.NodeArena.Held.{label}
 use Rattle.node_tests.specs.Listing.{siblings}
 use Rattle.node_tests.proofs.Inside.{nodes}
 use Rattle.node_tests.proofs.Kids.{Kid}

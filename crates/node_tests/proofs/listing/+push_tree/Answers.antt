@@ -2,7 +2,7 @@ use Rattle.std.proofs.Common.{◌≡◌, ◌++◌, sym, ap, ◌∙◌, subst, ar
 use Rattle.std.specs.Prelude.{map}
 use Rattle.std.specs.List.{All}
 use Rattle.std.proofs.lemmas.Bool.{and_parts}
-use Rattle.node_arena.specs.Held.{label}
+use Rattle.node_styles.specs.NodeArena.Held.{label}
 use Rattle.node_tests.specs.Listing.{is_wanted, Lies, Lined}
 use Rattle.node_tests.proofs.Gathered.{all_inserted, child_lies, ended, every_effective, every_listed, flag_init, flag_next, flag_stop, from_first, inserted, left_out, listed_above, longer, none_kid, none_left, reached_kid, stands_first, stands_next, stands_none, stop_is}
 use Rattle.node_tests.proofs.Line.{cut_is, inner_lined}

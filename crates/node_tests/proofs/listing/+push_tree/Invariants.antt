@@ -1,8 +1,8 @@
 use Rattle.std.proofs.Common.{◌≡◌, ◌++◌, ◌&&◌}
 use Rattle.std.specs.Prelude.{map}
 use Rattle.std.specs.List.{All}
-use Rattle.dom_model.specs.Forest.{first_of, tree_of}
-use Rattle.node_arena.specs.Held.{label}
+use Rattle.node_styles.specs.DomModel.Forest.{first_of, tree_of}
+use Rattle.node_styles.specs.NodeArena.Held.{label}
 use Rattle.node_tests.specs.Listing.{is_wanted, siblings}
 use Rattle.node_tests.specs.Ranges.{all_effective}
 use Rattle.node_tests.proofs.Gathered.{Stands}

@@ -1,6 +1,6 @@
 use Rattle.std.proofs.Common.{sym, ap, ◌∙◌, nat_lt}
-use Rattle.dom_model.proofs.Within.{within_self}
-use Rattle.node_arena.specs.Held.{label}
+use Rattle.node_styles.proofs.DomModel.Within.{within_self}
+use Rattle.node_styles.specs.NodeArena.Held.{label}
 use Rattle.node_tests.proofs.Above.{set_off, set_on, out_of_start, out_of_end, past_end, not_past_at}
 use Rattle.node_tests.proofs.listing.is_contained_above.Goals as goal
 

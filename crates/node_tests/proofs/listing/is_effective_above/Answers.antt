@@ -1,5 +1,5 @@
 use Rattle.std.proofs.Common.{◌||◌, refl, sym, ap, ◌∙◌}
-use Rattle.node_arena.specs.Held.{label}
+use Rattle.node_styles.specs.NodeArena.Held.{label}
 use Rattle.node_tests.specs.Ranges.{is_partial}
 use Rattle.node_tests.proofs.Effective.{touched_by, touched_effective, cut_ineffective, childless_ineffective, kids_effective}
 use Rattle.node_tests.proofs.listing.is_effective_above.Goals as goal

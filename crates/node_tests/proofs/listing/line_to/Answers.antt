@@ -1,6 +1,6 @@
 use Rattle.std.proofs.Common.{◌≡◌, Some, None, length, refl, sym, subst, ◌∙◌, arith}
-use Rattle.dom_model.specs.Forest.{IsWithin}
-use Rattle.dom_model.proofs.Within.{within_parent, within_self, within_up, depth_of-parent}
+use Rattle.node_styles.specs.DomModel.Forest.{IsWithin}
+use Rattle.node_styles.proofs.DomModel.Within.{within_parent, within_self, within_up, depth_of-parent}
 use Rattle.node_tests.specs.Listing.{Leads}
 use Rattle.node_tests.proofs.Line.{step_leads}
 use Rattle.node_tests.proofs.listing.line_to.Goals as goal

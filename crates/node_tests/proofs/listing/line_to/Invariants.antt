@@ -1,5 +1,5 @@
 use Rattle.std.specs.Prelude.{length}
-use Rattle.dom_model.specs.Forest.{IsWithin, depth_of}
+use Rattle.node_styles.specs.DomModel.Forest.{IsWithin, depth_of}
 use Rattle.node_tests.specs.Listing.{Leads}
 use Rattle.node_tests.proofs.listing.line_to.Given as goal
 

@@ -1,6 +1,6 @@
 use Rattle.std.proofs.Common.{◌≡◌, ◌++◌, true, false, sym, ap, ◌∙◌, subst}
 use Rattle.std.specs.Prelude.{map}
-use Rattle.dom_model.specs.Forest.{IsWithin, tree_of}
+use Rattle.node_styles.specs.DomModel.Forest.{IsWithin, tree_of}
 use Rattle.node_tests.specs.Listing.{is_wanted}
 use Rattle.node_tests.proofs.Above.{none_wanted}
 use Rattle.node_tests.proofs.Elsewhere.{all_wanted, end_inside}

@@ -1,4 +1,4 @@
-use Rattle.node_arena.specs.Held.{label}
+use Rattle.node_styles.specs.NodeArena.Held.{label}
 use Rattle.node_tests.specs.SolidNeighbours.{neighbour_on}
 use Rattle.node_tests.proofs.Tags.{left_in}
 use Rattle.node_tests.proofs.Walking.{Walked}

@@ -1,6 +1,6 @@
 use Rattle.std.proofs.Common.{◌≡◌, true, not, ◌||◌, ◌&&◌, refl, sym, ap, ◌∙◌, arith}
-use Rattle.dom_model.specs.Forest.{next_of}
-use Rattle.node_arena.specs.Held.{label}
+use Rattle.node_styles.specs.DomModel.Forest.{next_of}
+use Rattle.node_styles.specs.NodeArena.Held.{label}
 use Rattle.node_tests.specs.Visible.{is_visible}
 use Rattle.node_tests.specs.BlockProps.{props_in}
 use Rattle.node_tests.specs.Listing.{siblings}

@@ -1,7 +1,7 @@
 use Rattle.std.proofs.Common.{◌≡◌, ℕ, true, Some, refl, sym, ap, ◌∙◌, arith, is_none}
-use Rattle.dom_model.specs.Forest.{first_of, last_of, tree_of}
-use Rattle.dom_model.proofs.Neighbours.{parent_of-first}
-use Rattle.node_arena.specs.Held.{label}
+use Rattle.node_styles.specs.DomModel.Forest.{first_of, last_of, tree_of}
+use Rattle.node_styles.proofs.DomModel.Neighbours.{parent_of-first}
+use Rattle.node_styles.specs.NodeArena.Held.{label}
 use Rattle.node_tests.specs.Listing.{siblings}
 use Rattle.node_tests.specs.Ranges.{all_effective}
 use Rattle.node_tests.proofs.Between.{first_and_last, first_smaller, last_smaller, some_last}

@@ -1,4 +1,4 @@
-use Rattle.dom_model.specs.Forest.{tree_of}
+use Rattle.node_styles.specs.DomModel.Forest.{tree_of}
 use Rattle.node_tests.proofs.Inside.{nodes}
 use Rattle.node_tests.proofs.ranges.+is_effective.Given as goal
 

@@ -1,6 +1,6 @@
 use Rattle.std.proofs.Common.{◌≡◌}
-use Rattle.dom_model.specs.Forest.{tree_of}
-use Rattle.node_arena.specs.Held.{label}
+use Rattle.node_styles.specs.DomModel.Forest.{tree_of}
+use Rattle.node_styles.specs.NodeArena.Held.{label}
 use Rattle.node_tests.specs.Visible.{shows_in}
 use Rattle.node_tests.specs.Listing.{siblings}
 use Rattle.node_tests.proofs.Inside.{nodes}

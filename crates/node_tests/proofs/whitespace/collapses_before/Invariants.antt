@@ -1,4 +1,4 @@
-use Rattle.node_arena.specs.Held.{label}
+use Rattle.node_styles.specs.NodeArena.Held.{label}
 use Rattle.node_tests.specs.declared.sides.Side.TheVariants.{Before}
 use Rattle.node_tests.specs.Surroundings.{nodes_before}
 use Rattle.node_tests.specs.CollapsedWhitespace.{collapses_at}

@@ -1,7 +1,7 @@
 use Rattle.std.proofs.Common.{◌<◌, ap, sym, ◌∙◌, arith}
-use Rattle.node_arena.specs.Held.{label}
-use Rattle.node_paths.specs.Onward.{onward_at}
-use Rattle.node_paths.proofs.Visiting.{size_from}
+use Rattle.node_styles.specs.NodeArena.Held.{label}
+use Rattle.page_write.specs.NodePaths.Onward.{onward_at}
+use Rattle.page_write.proofs.NodePaths.Visiting.{size_from}
 use Rattle.node_texts.specs.Between as cut
 use Rattle.node_texts.proofs.Cutting.{there_passed, there_below, shown_over, shown_ahead, shown_more, shown_last}
 use Rattle.node_texts.proofs.Visiting.{come_at, leads_on}

@@ -1,7 +1,7 @@
 use Rattle.std.proofs.Common.{◌≡◌, ◌≤◌, IfSome}
-use Rattle.node_arena.specs.Held.{label}
-use Rattle.node_paths.specs.Onward.{onward_at, IsInner}
-use Rattle.node_paths.proofs.Visiting.{size_from}
+use Rattle.node_styles.specs.NodeArena.Held.{label}
+use Rattle.page_write.specs.NodePaths.Onward.{onward_at, IsInner}
+use Rattle.page_write.proofs.NodePaths.Visiting.{size_from}
 use Rattle.node_texts.specs.Between as cut
 use Rattle.node_texts.specs.Walk.{walked}
 use Rattle.node_texts.proofs.between.+walk_between.Given as goal

@@ -1,5 +1,5 @@
 use Rattle.std.proofs.Common.{sym, ◌∙◌, arith}
-use Rattle.dom_model.proofs.Within.{depth_of-parent}
+use Rattle.node_styles.proofs.DomModel.Within.{depth_of-parent}
 use Rattle.node_texts.proofs.Ranges.{common_here, common_above, common_nowhere}
 use Rattle.node_texts.proofs.between.common_ancestor.Goals as goal
 

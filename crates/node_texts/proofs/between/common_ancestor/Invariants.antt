@@ -1,5 +1,5 @@
 use Rattle.std.proofs.Common.{◌≡◌}
-use Rattle.dom_model.specs.Forest.{depth_of}
+use Rattle.node_styles.specs.DomModel.Forest.{depth_of}
 use Rattle.node_texts.specs.Between as cut
 use Rattle.node_texts.proofs.between.common_ancestor.Given as goal
 

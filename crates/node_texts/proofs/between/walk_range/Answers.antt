@@ -1,5 +1,5 @@
 use Rattle.std.proofs.Common.{◌≡◌, sym, ap, ◌∙◌}
-use Rattle.node_arena.specs.Held.{label}
+use Rattle.node_styles.specs.NodeArena.Held.{label}
 use Rattle.node_texts.specs.declared.between.Limit.TheVariants.{Inside}
 use Rattle.node_texts.specs.Between as cut
 use Rattle.node_texts.proofs.Cutting.{there_below}

@@ -1,5 +1,5 @@
 use Rattle.std.proofs.Common.{◌++◌, ap, ◌∙◌}
-use Rattle.dom_model.specs.Forest.{tree_of}
+use Rattle.node_styles.specs.DomModel.Forest.{tree_of}
 use Rattle.page_write.specs.Html.{html_of}
 use Rattle.node_texts.specs.NodeHtml.{node_html}
 use Rattle.node_texts.proofs.Folding.{html_walked}

@@ -1,6 +1,6 @@
 use Rattle.std.proofs.Common.{◌++◌, List, ℕ, ap, ◌∙◌}
-use Rattle.live_range.specs.declared.places.Point.{Point}
-use Rattle.dom_model.specs.Forest.{tree_of}
+use Rattle.point_order.specs.LiveRange.declared.places.Point.{Point}
+use Rattle.node_styles.specs.DomModel.Forest.{tree_of}
 use Rattle.node_texts.specs.Occurrences.{occurrences, found_in}
 use Rattle.node_texts.proofs.Folding.{found_walked}
 use Rattle.node_texts.proofs.occurrences.find.Goals as goal

@@ -1,5 +1,5 @@
 use Rattle.std.proofs.Common.{false, List, ℕ, ap, ◌∙◌}
-use Rattle.dom_model.specs.Forest.{tree_of}
+use Rattle.node_styles.specs.DomModel.Forest.{tree_of}
 use Rattle.node_texts.specs.PlainText.{Plain, text_of, plain_text, text_entered, text_left}
 use Rattle.node_texts.specs.Walk.{walked}
 use Rattle.node_texts.proofs.plain.plain_text.Goals as goal

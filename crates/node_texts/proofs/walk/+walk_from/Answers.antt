@@ -1,6 +1,6 @@
 use Rattle.std.proofs.Common.{◌<◌, ap, arith}
-use Rattle.node_arena.specs.Held.{label}
-use Rattle.node_paths.proofs.Visiting.{size_from}
+use Rattle.node_styles.specs.NodeArena.Held.{label}
+use Rattle.page_write.proofs.NodePaths.Visiting.{size_from}
 use Rattle.node_texts.proofs.Visiting.{come_at, leads_on, short_content, shown_on}
 use Rattle.node_texts.proofs.walk.+walk_from.Goals as goal
 

@@ -1,10 +1,10 @@
 use Rattle.std.proofs.Common.{◌≡◌, ◌++◌, ◌∷◌, [], Some, sym, ap, ◌∙◌, arith, append_assoc}
 use Rattle.std.specs.Prelude.{reverse}
 use Rattle.std.proofs.lemmas.List.{reverse-append}
-use Rattle.dom_model.specs.Places.{index_of}
-use Rattle.dom_model.proofs.Within.{depth_of-parent}
-use Rattle.node_arena.specs.Held.{label}
-use Rattle.node_paths.specs.Paths.{path_of}
+use Rattle.node_styles.specs.DomModel.Places.{index_of}
+use Rattle.node_styles.proofs.DomModel.Within.{depth_of-parent}
+use Rattle.node_styles.specs.NodeArena.Held.{label}
+use Rattle.page_write.specs.NodePaths.Paths.{path_of}
 use Rattle.node_texts.proofs.Upward.{path_below, parent_inside, path_top, path_leads}
 use Rattle.node_texts.proofs.ways.path_of.Goals as goal
 use Rattle.node_texts.proofs.ways.path_of.Goals.{After-reverse}

@@ -1,7 +1,7 @@
 use Rattle.std.proofs.Common.{◌≡◌, ◌++◌, List, ℕ, Some}
 use Rattle.std.specs.Prelude.{reverse}
-use Rattle.dom_model.specs.Forest.{IsWithin, depth_of}
-use Rattle.node_paths.specs.Paths.{path_of}
+use Rattle.node_styles.specs.DomModel.Forest.{IsWithin, depth_of}
+use Rattle.page_write.specs.NodePaths.Paths.{path_of}
 use Rattle.node_texts.proofs.ways.path_of.Given as goal
 
 -- the path goes on from here as has been noted from its end on

@@ -1,5 +1,5 @@
 use Rattle.std.proofs.Common.{refl}
-use Rattle.dom_model.specs.declared.Content.TheVariants.{Element}
+use Rattle.node_arena.specs.DomModel.declared.Content.TheVariants.{Element}
 use Rattle.page_read.proofs.ConstructionLemmas.{can_append}
 use Rattle.page_read.proofs.construction.append_element.Goals as goal
 

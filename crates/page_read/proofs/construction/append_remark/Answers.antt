@@ -1,4 +1,4 @@
-use Rattle.dom_model.specs.declared.Content.TheVariants.{Remark}
+use Rattle.node_arena.specs.DomModel.declared.Content.TheVariants.{Remark}
 use Rattle.page_read.proofs.ConstructionLemmas.{can_append}
 use Rattle.page_read.proofs.construction.append_remark.Goals as goal
 

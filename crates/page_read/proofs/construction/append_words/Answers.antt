@@ -1,4 +1,4 @@
-use Rattle.dom_model.specs.declared.Content.TheVariants.{Words}
+use Rattle.node_arena.specs.DomModel.declared.Content.TheVariants.{Words}
 use Rattle.page_read.proofs.ConstructionLemmas.{can_append}
 use Rattle.page_read.proofs.construction.append_words.Goals as goal
 

@@ -5,14 +5,14 @@ mod formats;
 mod indents;
 
 ghost use Rattle.std.specs.Prelude.{IfOk};
-ghost use Rattle.edit_doc.specs.Whole.{IsOpen};
+ghost use Rattle.edit_commands.specs.EditDoc.Whole.{IsOpen};
 
 use crate::tests::fixtures::{Act, Row, begin_in, chars, check_rows, node_of, point};
 use Block::{Align, Format, Indent, Outdent, Refused};
-use block_commands::{format_block, justify};
-use css_value::TextAlign;
-use edit_doc::{Attributes, Doc, EditFault, Name};
-use list_indent::{indent, outdent};
+use edit_commands::blocks::{format_block, justify};
+use edit_commands::css::TextAlign;
+use edit_commands::doc::{Attributes, Doc, EditFault, Name};
+use edit_commands::indents::{indent, outdent};
 use std::alloc::Global;
 use std::test::Fail;
 

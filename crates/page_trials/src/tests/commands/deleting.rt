@@ -1,17 +1,17 @@
 //! Deleting: each row of a table is what an editing host holds, where the caret or the ends of a
 //! range stand by labels (1 is the host), where they stand after it, and what the host then holds.
 
-ghost use Rattle.edit_doc.specs.Whole.{IsOpen};
+ghost use Rattle.edit_commands.specs.EditDoc.Whole.{IsOpen};
 
 use crate::tests::fixtures::{Act, At, Row, check_rows, point, selects};
-use delete_core::{
+use edit_commands::deleting::{
     Manner, canonical_spaces, canonicalize, delete_selection, first_equivalent, last_equivalent,
 };
-use edit_doc::{Doc, Setting};
-use html_names::Command;
+use edit_commands::doc::{Doc, Setting};
+use edit_commands::element_names::Command;
+use edit_commands::erase_text::delete;
 use std::alloc::Global;
 use std::test::Fail;
-use text_deletion::delete;
 
 // The command with an anchor and a focus, and those that it leaves.
 struct Delete(At, At, At, At);

@@ -8,18 +8,18 @@ mod nested;
 mod styled;
 
 ghost use Rattle.std.specs.Prelude.{IfOk};
-ghost use Rattle.edit_doc.specs.Held.{EachHeld, Holds};
-ghost use Rattle.edit_doc.specs.Whole.{IsOpen};
+ghost use Rattle.edit_commands.specs.EditDoc.Held.{EachHeld, Holds};
+ghost use Rattle.edit_commands.specs.EditDoc.Whole.{IsOpen};
 
 use crate::tests::fixtures::{Act, Row, chars, check_rows, node_of, point};
-use edit_doc::{Doc, EditFault, NodeRef};
-use html_names::Command;
-use inline_value::{
+use edit_commands::doc::{Doc, EditFault, NodeRef};
+use edit_commands::element_names::Command;
+use edit_commands::inline::{
     clear_value, fix_ancestors, force, push_down, record_values, reorder, restore_values, set_value,
 };
+use edit_commands::wrap::remove_keeping_children;
 use std::alloc::{AllocError, Global};
 use std::test::Fail;
-use wrap_split::remove_keeping_children;
 
 // What is done to a node.
 #[derive(Clone, Copy)]
@@ -345,7 +345,7 @@ fn slice(value: &Option<Vec<char>>) -> Option<&[char]> {
     }
 }
 
-#[tactic(auto, using(edit_doc::proofs::Children::pushed_held, edit_doc::proofs::Children::none_held))]
+#[tactic(auto, using(crate::proofs::Below::pushed_held, crate::proofs::Below::none_held))]
 fn listed(alloc: Global, doc: &Doc, node: NodeRef) -> Result<Vec<NodeRef>, AllocError>
     requires { Holds doc.now node }
     ensures { IfOk result (λ list. EachHeld doc.now list.items) }

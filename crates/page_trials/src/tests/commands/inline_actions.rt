@@ -2,15 +2,15 @@
 //! range by labels (1 is the host), a command and its value, what it answers, and what the host
 //! then holds.
 
-ghost use Rattle.edit_doc.specs.Whole.{IsOpen};
+ghost use Rattle.edit_commands.specs.EditDoc.Whole.{IsOpen};
 
 use crate::tests::fixtures::{Act, Row, chars, check_rows, point};
-use edit_doc::{Doc, EditFault, Setting};
-use html_names::Command;
-use inline_commands::{
+use edit_commands::doc::{Doc, EditFault, Setting};
+use edit_commands::element_names::Command;
+use edit_commands::formats::{
     apply_value, create_link, remove_format, restore_states, toggle_script, toggle_style, unlink,
 };
-use inline_value::record_states;
+use edit_commands::inline::record_states;
 use std::alloc::Global;
 use std::test::Fail;
 

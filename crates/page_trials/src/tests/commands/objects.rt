@@ -2,12 +2,12 @@
 //! the caret or the ends of a range stand by labels (1 is the host), where the caret then stands,
 //! and what the host then holds.
 
-ghost use Rattle.edit_doc.specs.Whole.{IsOpen};
+ghost use Rattle.edit_commands.specs.EditDoc.Whole.{IsOpen};
 
 use crate::tests::fixtures::{Act, At, Row, chars, check_rows, point, selects};
 use Object::{Image, LineBreak, Refused, Rule};
-use edit_doc::Doc;
-use insert_objects::{insert_horizontal_rule, insert_image, insert_line_break};
+use edit_commands::doc::Doc;
+use edit_commands::objects::{insert_horizontal_rule, insert_image, insert_line_break};
 use std::alloc::Global;
 use std::test::Fail;
 

@@ -3,10 +3,10 @@
 //! what the host then holds. The nodes that are made have the labels that come next.
 
 use crate::tests::fixtures::{Act, At, Row, check_rows, point, selects};
-use edit_doc::{Doc, Flags};
+use edit_commands::doc::{Doc, Flags};
+use edit_commands::typing::insert_paragraph;
 use std::alloc::Global;
 use std::test::Fail;
-use text_insertion::insert_paragraph;
 
 // The ends of a range that is parted, and the caret after it.
 struct Parted(At, At, At);

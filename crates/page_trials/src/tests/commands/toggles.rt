@@ -2,8 +2,8 @@
 //! ends of a range by labels (1 is the host) before and after it, and what the host then holds.
 
 use crate::tests::fixtures::{Act, At, Row, check_rows, point, selects};
-use edit_doc::Doc;
-use list_toggle::{ListKind, toggle_lists};
+use edit_commands::doc::Doc;
+use edit_commands::lists::{ListKind, toggle_lists};
 use std::alloc::Global;
 use std::test::Fail;
 

@@ -3,16 +3,16 @@
 //! host then holds. The nodes that are made have the labels that come next.
 
 ghost use Rattle.std.specs.Prelude.{IfOk};
-ghost use Rattle.edit_doc.specs.Whole.{IsOpen};
+ghost use Rattle.edit_commands.specs.EditDoc.Whole.{IsOpen};
 
 use crate::tests::fixtures::{Act, At, Row, chars, check_rows, point, selects};
 use Override::{Off, On, Wording};
-use dom_model::Chars;
-use edit_doc::{Doc, Setting};
-use html_names::Command;
+use edit_commands::doc::{Doc, Setting};
+use edit_commands::dom::Chars;
+use edit_commands::element_names::Command;
+use edit_commands::typing::insert_text;
 use std::alloc::{AllocError, Global};
 use std::test::Fail;
-use text_insertion::insert_text;
 
 // A text that is typed over a range, and the caret after it.
 struct Typed(At, At, &'static str, At);

@@ -1,10 +1,10 @@
 //! Edits as rows of tables.
 
-ghost use Rattle.edit_doc.specs.Held.{Keeps};
-ghost use Rattle.edit_doc.specs.Whole.{IsOpen};
+ghost use Rattle.edit_commands.specs.EditDoc.Held.{Keeps};
+ghost use Rattle.edit_commands.specs.EditDoc.Whole.{IsOpen};
 
 use crate::tests::fixtures::node_of;
-use edit_doc::{Chars, Doc, Name};
+use edit_commands::doc::{Chars, Doc, Name};
 use std::alloc::Global;
 use std::test::Fail;
 
@@ -33,7 +33,7 @@ fn make(alloc: Global, doc: &mut Doc, tag: &str) -> Result<bool, Fail>
     ensures { Keeps doc.old doc.new }
 {
     let tag = name(alloc, tag)?;
-    doc.make_element(&tag, &edit_doc::Attributes::new(alloc))?;
+    doc.make_element(&tag, &edit_commands::doc::Attributes::new(alloc))?;
     Ok(true)
 }
 
@@ -119,7 +119,7 @@ fn rename(alloc: Global, doc: &mut Doc, node: u32, tag: &str) -> Result<bool, Fa
 {
     let tag = name(alloc, tag)?;
     let node = node_of(doc, node)?;
-    if doc.kind(node) == edit_doc::Kind::Element {
+    if doc.kind(node) == edit_commands::doc::Kind::Element {
         Ok(doc.set_tag_name(node, &tag)? != node)
     } else {
         Ok(false)

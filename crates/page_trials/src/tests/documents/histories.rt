@@ -1,18 +1,18 @@
 //! Commands that are taken back, undone and redone.
 
 ghost use Rattle.std.specs.Prelude.{◌≡◌, ◌<◌, IfOk};
-ghost use Rattle.edit_doc.specs.Whole.{IsClosed, IsOpen};
+ghost use Rattle.edit_commands.specs.EditDoc.Whole.{IsClosed, IsOpen};
 
 use super::acts::{Act, make_each};
 use crate::tests::fixtures::{Trial, begin, found, point};
-use edit_doc::{Chars, Committed, Doc, Flags, Pair, Setting};
-use html_names::Command;
+use edit_commands::doc::{Chars, Committed, Doc, Flags, Pair, Setting};
+use edit_commands::element_names::Command;
+use edit_commands::stepping::Steps;
 use page_write::write_html;
 use std::alloc::{AllocError, Global};
 use std::marker::Brand;
 use std::sync::ledger::{Blank, Ledger};
 use std::test::Fail;
-use step_count::Steps;
 
 // 1 div (2 "ab", 3 b (4 "cd"), 5 i (6 "ef"), 7 p (8 "gh", 9 img))
 const PAGE: &str =
@@ -167,7 +167,7 @@ fn start(alloc: Global, doc: &mut Doc) -> Result<(), Fail>
 }
 
 // Begins a command, or one that joins the last entry.
-#[tactic(auto, unfolding(edit_doc::specs::Whole::opened))]
+#[tactic(auto, unfolding(crate::specs::Below::opened))]
 fn open(doc: &mut Doc, resumes: bool) -> Result<(), Fail>
     requires { IsClosed doc.old }
     ensures { IfOk result (λ _. IsOpen doc.new) }

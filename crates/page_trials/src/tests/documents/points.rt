@@ -2,7 +2,7 @@
 
 use super::acts::{Act, make_act};
 use crate::tests::fixtures::{Trial, begin, found};
-use edit_doc::{Doc, Point};
+use edit_commands::doc::{Doc, Point};
 use std::alloc::Global;
 use std::test::Fail;
 

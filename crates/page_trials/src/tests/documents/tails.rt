@@ -1,7 +1,7 @@
 //! Tails that are extracted.
 
 use crate::tests::fixtures::{Act, Row, check_rows, node_of, point};
-use edit_doc::{Attributes, Doc, Name};
+use edit_commands::doc::{Attributes, Doc, Name};
 use std::alloc::Global;
 use std::test::Fail;
 

@@ -1,15 +1,15 @@
 //! The tests of nodes over a document under edits, of a tree that stands apart from the document.
 
 ghost use Rattle.std.specs.Prelude.{IfOk};
-ghost use Rattle.edit_doc.specs.Held.{Holds};
-ghost use Rattle.edit_doc.specs.Whole.{IsClosed};
+ghost use Rattle.edit_commands.specs.EditDoc.Held.{Holds};
+ghost use Rattle.edit_commands.specs.EditDoc.Whole.{IsClosed};
 
 use crate::tests::fixtures::{Trial, begin, found, range_of};
-use edit_doc::{Attributes, Doc, Name, NodeRef};
-use node_tests::{contained_nodes, effective_nodes, resolved};
+use edit_commands::doc::{Attributes, Doc, Name, NodeRef};
+use edit_commands::properties::Property;
+use edit_commands::questions::{contained_nodes, effective_nodes, resolved};
 use std::alloc::Global;
 use std::test::Fail;
-use style_table::Property;
 
 // A loose `b` with a text in it, in a document that is empty.
 fn bold_text(doc: &mut Doc, alloc: Global) -> Result<(NodeRef, NodeRef), Fail>

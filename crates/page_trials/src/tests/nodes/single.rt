@@ -1,10 +1,10 @@
 //! The tests of single nodes.
 
-ghost use Rattle.node_arena.specs.Held.{Holds};
+ghost use Rattle.edit_commands.specs.NodeArena.Held.{Holds};
 
 use crate::tests::fixtures::{Look, Page, check_pages, node_of};
-use node_arena::{Arena, NodeRef};
-use node_tests::*;
+use edit_commands::arena::{Arena, NodeRef};
+use edit_commands::questions::*;
 use std::alloc::{AllocError, Global};
 use std::test::Fail;
 

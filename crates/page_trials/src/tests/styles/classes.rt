@@ -1,8 +1,8 @@
 //! The classes of elements, and which nodes may stand in which.
 
 use crate::tests::fixtures::{Look, Page, check_pages, node_of};
-use node_arena::Arena;
-use node_tests::*;
+use edit_commands::arena::Arena;
+use edit_commands::questions::*;
 use std::alloc::Global;
 use std::test::Fail;
 

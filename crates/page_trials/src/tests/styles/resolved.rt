@@ -1,11 +1,11 @@
 //! Resolved styles.
 
 use crate::tests::fixtures::{Look, Page, chars, check_pages, node_of};
-use node_arena::Arena;
-use node_tests::*;
+use edit_commands::arena::Arena;
+use edit_commands::properties::Property;
+use edit_commands::questions::*;
 use std::alloc::Global;
 use std::test::Fail;
-use style_table::Property;
 
 // A property, and its resolved value at the node of a label.
 struct Resolved(Property, u32, &'static str);

@@ -1,11 +1,11 @@
 //! Line breaks that are removed.
 
-ghost use Rattle.edit_doc.specs.Whole.{IsOpen};
+ghost use Rattle.edit_commands.specs.EditDoc.Whole.{IsOpen};
 
 use crate::tests::fixtures::{Act, Row, check_rows, node_of};
+use edit_commands::wrap::{Doc, breaks_at_end, breaks_before};
 use std::alloc::Global;
 use std::test::Fail;
-use wrap_split::{Doc, breaks_at_end, breaks_before};
 
 // Removes the line breaks before the node of a label.
 struct ClearBefore(u32);

@@ -2,12 +2,12 @@
 
 use super::listed;
 use crate::tests::fixtures::{Act, Row, check_rows};
-use dom_model::{Attributes, Name};
-use std::alloc::{AllocError, Global};
-use std::test::Fail;
-use wrap_split::{
+use edit_commands::dom::{Attributes, Name};
+use edit_commands::wrap::{
     Blank, CopyMade, Doc, IndentationSibling, NamedSibling, NoSibling, NothingMade, WrapRule, wrap,
 };
+use std::alloc::{AllocError, Global};
+use std::test::Fail;
 
 static WRAPS: [Row<Wrap>; 11] = [
     Row("a<b>b</b>c", Wrap(3, 3), "a<div><b>b</b></div>c"),

@@ -1,13 +1,13 @@
 //! Parents that are split, and nodes whose children take their place.
 
 ghost use Rattle.std.specs.Prelude.{IfOk};
-ghost use Rattle.edit_doc.specs.Whole.{IsOpen};
+ghost use Rattle.edit_commands.specs.EditDoc.Whole.{IsOpen};
 
 use super::listed;
 use crate::tests::fixtures::{Act, Row, check_rows, node_of};
+use edit_commands::wrap::{Doc, remove_keeping_children, split_parent};
 use std::alloc::{AllocError, Global};
 use std::test::Fail;
-use wrap_split::{Doc, remove_keeping_children, split_parent};
 
 static SPLITS: [Row<Split>; 21] = [
     // in the middle, at the start and at the end; the id stays on the first half

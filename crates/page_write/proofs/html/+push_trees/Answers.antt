@@ -1,5 +1,5 @@
 use Rattle.std.proofs.Common.{ap, ◌<◌, arith}
-use Rattle.node_arena.specs.Held.{label}
+use Rattle.node_paths.specs.NodeArena.Held.{label}
 use Rattle.node_paths.proofs.Visiting.{size_from, come_to}
 use Rattle.page_write.proofs.Visiting.{leads_on, html_written}
 use Rattle.page_write.proofs.html.+push_trees.Goals as goal

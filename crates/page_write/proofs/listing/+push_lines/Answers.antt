@@ -1,5 +1,5 @@
 use Rattle.std.proofs.Common.{ap, ◌+◌, ◌<◌, ◌^◌, arith}
-use Rattle.node_arena.specs.Held.{label}
+use Rattle.node_paths.specs.NodeArena.Held.{label}
 use Rattle.node_paths.proofs.Visiting.{size_from, come_to, size_here}
 use Rattle.page_write.proofs.Visiting.{leads_on, lines_written}
 use Rattle.page_write.proofs.listing.+push_lines.Goals as goal

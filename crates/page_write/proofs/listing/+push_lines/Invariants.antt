@@ -1,5 +1,5 @@
 use Rattle.std.proofs.Common.{◌≡◌, ◌++◌, ◌≤◌, IfSome}
-use Rattle.node_arena.specs.Held.{Holds, label}
+use Rattle.node_paths.specs.NodeArena.Held.{Holds, label}
 use Rattle.node_paths.specs.Onward.{onward_at, IsInner}
 use Rattle.page_write.specs.Listing.{lines_of}
 use Rattle.node_paths.proofs.Visiting.{size_from}

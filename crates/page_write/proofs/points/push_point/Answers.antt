@@ -1,5 +1,5 @@
 use Rattle.std.proofs.Common.{arith, ◌≡◌}
-use Rattle.dom_model.specs.Forest.{count_of}
+use Rattle.node_paths.specs.DomModel.Forest.{count_of}
 use Rattle.page_write.proofs.Placing.{within_count}
 use Rattle.page_write.proofs.points.push_point.Goals as goal
 

@@ -1,8 +1,8 @@
 use Rattle.std.proofs.Common.{◌≡◌, ◌<◌, ◌^◌, Some, length, subst, sym, ap, ◌∙◌}
-use Rattle.dom_model.specs.Contents.{chars_of}
-use Rattle.node_arena.specs.declared.NodeRef.{NodeRef}
-use Rattle.forest_changes.proofs.Contents.{chars_there}
-use Rattle.forest_changes.proofs.Splices.{part_chars}
+use Rattle.document_edits.specs.DomModel.Contents.{chars_of}
+use Rattle.node_paths.specs.NodeArena.declared.NodeRef.{NodeRef}
+use Rattle.edit_steps.proofs.ForestChanges.Contents.{chars_there}
+use Rattle.edit_steps.proofs.ForestChanges.Splices.{part_chars}
 use Rattle.step_edits.proofs.telling.tell_splice.Goals as goal
 
 pub replaced-requires : goal.replaced-requires

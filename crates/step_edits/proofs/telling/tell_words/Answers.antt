@@ -1,5 +1,5 @@
 use Rattle.std.proofs.Common.{◌≡◌, ◌<◌, ◌^◌, Some, length, subst, sym, ◌∙◌}
-use Rattle.forest_changes.proofs.Contents.{chars_there}
+use Rattle.edit_steps.proofs.ForestChanges.Contents.{chars_there}
 use Rattle.step_edits.proofs.telling.tell_words.Goals as goal
 
 pub replaced-requires : goal.replaced-requires

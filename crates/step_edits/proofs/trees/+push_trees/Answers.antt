@@ -1,5 +1,5 @@
 use Rattle.std.proofs.Common.{ap, ◌+◌, ◌<◌, ◌^◌, arith}
-use Rattle.node_arena.specs.Held.{label}
+use Rattle.node_paths.specs.NodeArena.Held.{label}
 use Rattle.node_paths.proofs.Visiting.{size_from, come_to, size_here}
 use Rattle.step_edits.proofs.Appending.{leads_on, nodes_appended}
 use Rattle.step_edits.proofs.trees.+push_trees.Goals as goal

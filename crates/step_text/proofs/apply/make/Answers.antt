@@ -1,5 +1,5 @@
 use Rattle.std.proofs.Common.{Err, sym, subst, ◌∙◌}
-use Rattle.node_arena.specs.Held.{Makes}
+use Rattle.edit_steps.specs.NodeArena.Held.{Makes}
 use Rattle.step_text.specs.declared.line.StepFault.TheVariants.{Memory}
 use Rattle.step_text.specs.declared.line.StepLine.TheVariants.{Make}
 use Rattle.step_text.specs.Applying.{made_content}

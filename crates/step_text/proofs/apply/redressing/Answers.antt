@@ -1,6 +1,6 @@
 use Rattle.std.proofs.Common.{◌≡◌, ℕ, false, subst, sym, ◌∙◌}
 use Rattle.std.proofs.lemmas.Result.{err_from_is_err_and}
-use Rattle.dom_model.specs.Contents.{has_name}
+use Rattle.page_grammar.specs.DomModel.Contents.{has_name}
 use Rattle.step_text.specs.declared.line.StepLine.TheVariants.{Tag}
 use Rattle.step_text.specs.Applying.{labelled}
 use Rattle.step_text.proofs.Fitting.{exit, tag_of_other, tag_step, tag_unfound}

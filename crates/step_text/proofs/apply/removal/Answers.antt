@@ -1,7 +1,7 @@
 use Rattle.std.proofs.Common.{◌≡◌, ℕ, false, subst, sym, ◌∙◌}
 use Rattle.std.proofs.lemmas.Result.{err_from_is_err_and}
 use Rattle.std.specs.Prelude.{is_some}
-use Rattle.dom_model.specs.Forest.{parent_of}
+use Rattle.page_grammar.specs.DomModel.Forest.{parent_of}
 use Rattle.step_text.specs.declared.line.StepLine.TheVariants.{Remove}
 use Rattle.step_text.specs.Applying.{labelled}
 use Rattle.step_text.proofs.Fitting.{exit, remove_loose, remove_step, remove_unfound}

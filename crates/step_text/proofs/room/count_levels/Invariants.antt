@@ -1,6 +1,6 @@
 use Rattle.std.proofs.Common.{◌≡◌, ℕ, ◌<◌, ◌≤◌, None}
-use Rattle.dom_model.specs.Forest.{count_of, parent_of, tree_of}
-use Rattle.dom_model.specs.Places.{levels}
+use Rattle.page_grammar.specs.DomModel.Forest.{count_of, parent_of, tree_of}
+use Rattle.page_grammar.specs.DomModel.Places.{levels}
 use Rattle.step_text.proofs.room.count_levels.Given as goal
 
 -- no tree of the roots so far has more

@@ -1,9 +1,9 @@
 use Rattle.std.proofs.Common.{◌≡◌}
 use Rattle.std.specs.List.{list_any}
-use Rattle.dom_model.specs.Forest.{depth_of}
-use Rattle.edit_doc.specs.Held.{Holds}
+use Rattle.edit_model.specs.DomModel.Forest.{depth_of}
+use Rattle.text_insertion.specs.EditDoc.Held.{Holds}
 use Rattle.text_deletion.specs.Entries.{indents_line, has_indenter}
-use Rattle.inline_value.specs.Forcing.{ancestors}
+use Rattle.text_insertion.specs.InlineValue.Forcing.{ancestors}
 use Rattle.text_deletion.proofs.outdents.has_indenter.Given as goal
 
 -- the ancestors still to be asked decide

@@ -1,12 +1,12 @@
 use Rattle.std.proofs.Common.{◌≡◌, ℕ, Bool, true, false, ◌||◌, ◌&&◌, List, Option, Some, None, codes, refl, sym, ◌∙◌, true≢false}
 use Rattle.std.specs.Prelude.{bytes_eq, not}
 use Rattle.std.specs.Option.{option_map_or, option_and_then}
-use Rattle.dom_model.specs.declared.Content.{Content}
-use Rattle.dom_model.specs.declared.Content.TheVariants.{Document, Element, Words, Remark}
-use Rattle.dom_model.specs.Contents.{is_element, is_element_at, has_name, name_in}
-use Rattle.dom_model.specs.Forest.{Forest, content_of}
+use Rattle.edit_model.specs.DomModel.declared.Content.{Content}
+use Rattle.edit_model.specs.DomModel.declared.Content.TheVariants.{Document, Element, Words, Remark}
+use Rattle.edit_model.specs.DomModel.Contents.{is_element, is_element_at, has_name, name_in}
+use Rattle.edit_model.specs.DomModel.Forest.{Forest, content_of}
 use Rattle.edit_model.specs.State.{State}
-use Rattle.inline_value.specs.Ancestors.{is_description, has_place}
+use Rattle.list_indent.specs.InlineValue.Ancestors.{is_description, has_place}
 use Rattle.text_insertion.specs.Entries.{is_stray}
 use Rattle.text_insertion.proofs.entries.rename_stray.Goals as goal
 

@@ -1,5 +1,5 @@
 use Rattle.std.proofs.Common.{◌<◌, sym, ap, ◌∙◌, subst}
-use Rattle.dom_model.specs.Forest.{count_of}
+use Rattle.edit_model.specs.DomModel.Forest.{count_of}
 use Rattle.edit_model.specs.Action.{acted}
 use Rattle.edit_model.proofs.OutsideRuns.{trees-selected}
 use Rattle.text_insertion.proofs.paragraph.leave_text.Goals as goal

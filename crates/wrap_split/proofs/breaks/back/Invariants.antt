@@ -1,6 +1,6 @@
 use Rattle.std.proofs.Common.{◌≡◌}
 use Rattle.edit_model.specs.Gives.{label_of}
-use Rattle.edit_doc.specs.Held.{Holds}
+use Rattle.edit_actions.specs.EditDoc.Held.{Holds}
 use Rattle.wrap_split.specs.Breaks.{back_step}
 use Rattle.wrap_split.specs.Walks.{turn_bound, walk}
 use Rattle.wrap_split.proofs.breaks.back.Given as goal

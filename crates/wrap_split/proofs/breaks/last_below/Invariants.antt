@@ -1,6 +1,6 @@
 use Rattle.std.proofs.Common.{◌≡◌}
-use Rattle.edit_doc.specs.Held.{Holds}
-use Rattle.dom_model.specs.Forest.{last_of}
+use Rattle.edit_actions.specs.EditDoc.Held.{Holds}
+use Rattle.edit_model.specs.DomModel.Forest.{last_of}
 use Rattle.wrap_split.specs.Walks.{turn_bound, walk}
 use Rattle.wrap_split.proofs.breaks.last_below.Given as goal
 

@@ -1,5 +1,5 @@
 use Rattle.std.proofs.Common.{◌≡◌}
-use Rattle.edit_doc.specs.Held.{Holds}
+use Rattle.edit_actions.specs.EditDoc.Held.{Holds}
 use Rattle.wrap_split.specs.Breaks.{up_step}
 use Rattle.wrap_split.specs.Walks.{turn_bound, walk}
 use Rattle.wrap_split.proofs.breaks.top_hidden.Given as goal

@@ -1,7 +1,7 @@
 use Rattle.std.proofs.Common.{◌≡◌, drop}
-use Rattle.dom_model.specs.Forest.{either}
+use Rattle.edit_model.specs.DomModel.Forest.{either}
 use Rattle.edit_model.specs.Gives.{label_of, labels_of}
-use Rattle.edit_doc.specs.Held.{IfHeld}
+use Rattle.edit_actions.specs.EditDoc.Held.{IfHeld}
 use Rattle.wrap_split.specs.Wrap.{last_visible}
 use Rattle.wrap_split.proofs.listing.last_visible.Given as goal
 

@@ -1,6 +1,6 @@
 use Rattle.std.proofs.Common.{◌≡◌, ◌++◌}
 use Rattle.edit_model.specs.Gives.{labels_of}
-use Rattle.edit_doc.specs.Held.{Holds, EachHeld}
+use Rattle.edit_actions.specs.EditDoc.Held.{Holds, EachHeld}
 use Rattle.wrap_split.specs.Walks.{turn_bound}
 use Rattle.wrap_split.specs.Wrap.{hidden_after}
 use Rattle.wrap_split.proofs.listing.with_hidden_after.Given as goal

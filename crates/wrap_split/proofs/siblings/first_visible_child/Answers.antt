@@ -1,5 +1,5 @@
 use Rattle.std.proofs.Common.{not, sym, ap, ◌∙◌}
-use Rattle.edit_doc.proofs.Children.{first_child_is, child_held, next_child_is, next_smaller}
+use Rattle.edit_actions.proofs.EditDoc.Children.{first_child_is, child_held, next_child_is, next_smaller}
 use Rattle.wrap_split.specs.Wrap.{first_visible}
 use Rattle.edit_actions.proofs.Children.{all_rest}
 use Rattle.wrap_split.proofs.Children.{first_here, first_next, first_none}

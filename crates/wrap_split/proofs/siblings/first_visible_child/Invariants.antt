@@ -1,8 +1,8 @@
 use Rattle.std.proofs.Common.{◌≡◌}
-use Rattle.dom_model.specs.Forest.{children_of}
+use Rattle.edit_model.specs.DomModel.Forest.{children_of}
 use Rattle.edit_model.specs.Gives.{label_of}
-use Rattle.edit_doc.specs.Held.{IfHeld}
-use Rattle.edit_doc.proofs.Children.{IsChild, size_from}
+use Rattle.edit_actions.specs.EditDoc.Held.{IfHeld}
+use Rattle.edit_actions.proofs.EditDoc.Children.{IsChild, size_from}
 use Rattle.wrap_split.specs.Wrap.{first_visible}
 use Rattle.edit_actions.proofs.Children.{rest_at}
 use Rattle.wrap_split.proofs.siblings.first_visible_child.Given as goal

@@ -1,5 +1,5 @@
 use Rattle.std.proofs.Common.{not, sym, ap, ◌∙◌}
-use Rattle.edit_doc.proofs.Children.{child_held}
+use Rattle.edit_actions.proofs.EditDoc.Children.{child_held}
 use Rattle.wrap_split.specs.Wrap.{last_visible}
 use Rattle.wrap_split.proofs.Children.{all_front, last_child_is, prev_child_is, prev_smaller, last_here, last_next, last_none}
 use Rattle.wrap_split.proofs.siblings.last_visible_child.Goals as goal

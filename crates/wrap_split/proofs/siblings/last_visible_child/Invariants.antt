@@ -1,8 +1,8 @@
 use Rattle.std.proofs.Common.{◌≡◌, length}
-use Rattle.dom_model.specs.Forest.{children_of}
+use Rattle.edit_model.specs.DomModel.Forest.{children_of}
 use Rattle.edit_model.specs.Gives.{label_of}
-use Rattle.edit_doc.specs.Held.{IfHeld}
-use Rattle.edit_doc.proofs.Children.{IsChild}
+use Rattle.edit_actions.specs.EditDoc.Held.{IfHeld}
+use Rattle.edit_actions.proofs.EditDoc.Children.{IsChild}
 use Rattle.wrap_split.specs.Wrap.{last_visible}
 use Rattle.wrap_split.proofs.Children.{front_at}
 use Rattle.wrap_split.proofs.siblings.last_visible_child.Given as goal

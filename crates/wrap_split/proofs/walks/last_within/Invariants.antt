@@ -1,7 +1,7 @@
 use Rattle.std.proofs.Common.{◌≡◌}
-use Rattle.dom_model.specs.Forest.{tree_of}
+use Rattle.edit_model.specs.DomModel.Forest.{tree_of}
 use Rattle.wrap_split.proofs.LastNodes.{nodes}
-use Rattle.edit_doc.specs.Held.{Holds}
+use Rattle.edit_actions.specs.EditDoc.Held.{Holds}
 use Rattle.wrap_split.specs.Walks.{last_within}
 use Rattle.wrap_split.proofs.walks.last_within.Given as goal
 

@@ -1,8 +1,8 @@
 use Rattle.std.proofs.Common.{◌≡◌, ◌<◌, ℕ, arith, Some, rules}
 use Rattle.std.proofs.lemmas.Bool.Decides.{nat_tests}
-use Rattle.live_range.specs.declared.places.Point.{Point}
-use Rattle.live_range.specs.PointsEdit.{Insert, PointFits}
-use Rattle.live_range.specs.LivePoints.{Fits, LivePoints, no_points}
+use Rattle.step_text.specs.LiveRange.declared.places.Point.{Point}
+use Rattle.step_text.specs.LiveRange.PointsEdit.{Insert, PointFits}
+use Rattle.step_text.specs.LiveRange.LivePoints.{Fits, LivePoints, no_points}
 use Rattle.base_trials.proofs.tests.parts.after_insertion.Goals as goal
 
 below : (parent index : ℕ) (at : Point) → at.offset < 1000 → PointFits (Insert parent index) at

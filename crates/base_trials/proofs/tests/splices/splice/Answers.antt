@@ -1,12 +1,12 @@
 use Rattle.std.proofs.Common.{◌≡◌, ◌^◌, ℕ, ◌+◌, ◌<◌, ◌≤◌, List, ◌++◌, length, take, drop, Some, refl, sym, ap, subst, ◌∙◌, arith}
 use Rattle.std.proofs.lemmas.List.{length-take, take-append-drop}
-use Rattle.dom_model.specs.ArenaState.{ArenaState, IsValid, IsSlotted}
-use Rattle.dom_model.specs.Contents.{chars_of}
-use Rattle.node_arena.specs.declared.NodeRef.{NodeRef}
-use Rattle.node_arena.specs.Held.{Holds}
-use Rattle.forest_changes.proofs.Twice.{forest_of}
-use Rattle.edit_steps.specs.Step.{StepFits}
-use Rattle.edit_steps.specs.declared.step.Step.TheVariants as step
+use Rattle.document_edits.specs.DomModel.ArenaState.{ArenaState, IsValid, IsSlotted}
+use Rattle.document_edits.specs.DomModel.Contents.{chars_of}
+use Rattle.page_read.specs.NodeArena.declared.NodeRef.{NodeRef}
+use Rattle.page_read.specs.NodeArena.Held.{Holds}
+use Rattle.document_edits.proofs.ForestChanges.Twice.{forest_of}
+use Rattle.step_text.specs.EditSteps.Step.{StepFits}
+use Rattle.step_text.specs.EditSteps.declared.step.Step.TheVariants as step
 use Rattle.base_trials.proofs.tests.splices.splice.Goals as goal
 
 parts : (text rest taken behind : List ℕ) (at count : ℕ) → rest ≡ drop at text → taken ≡ take count rest → behind ≡ drop count rest → text ≡ take at text ++ (taken ++ behind)

@@ -1,5 +1,5 @@
 use Rattle.std.proofs.Common.{Bool, true, false, true≢false, IsTrue, not, None, refl, sym}
-use Rattle.forest_changes.proofs.Twice.{forest_of, can_shift}
+use Rattle.document_edits.proofs.ForestChanges.Twice.{forest_of, can_shift}
 use Rattle.base_trials.proofs.tests.steps.can_place.Goals as goal
 
 not_both : (b : Bool) → IsTrue (not b) → IsTrue b → ⊥

@@ -1,6 +1,6 @@
 use Rattle.std.proofs.Common.{◌≡◌, Bool, true, false, not, bytes_eq, refl, sym, ap, ◌∙◌}
-use Rattle.css_value.specs.Values.{text_align_keyword}
-use Rattle.command_value.specs.Alignment.{alignment_value}
+use Rattle.inline_value.specs.CssValue.Values.{text_align_keyword}
+use Rattle.inline_value.specs.CommandValue.Alignment.{alignment_value}
 use Rattle.block_commands.proofs.Handing.{handed_on}
 use Rattle.block_commands.proofs.aligned.Misaligned.is_aligned.Goals as goal
 

@@ -1,7 +1,7 @@
 use Rattle.std.proofs.Common.{◌≡◌, ◌∙◌, sym, subst}
-use Rattle.dom_model.specs.ArenaState.{ArenaState as Arena}
-use Rattle.edit_steps.specs.Step.{StepFits, step_applied, step_inverse}
-use Rattle.edit_steps.specs.StepLaws.{step_fits_again, step_state_again}
+use Rattle.edit_model.specs.DomModel.ArenaState.{ArenaState as Arena}
+use Rattle.step_edits.specs.EditSteps.Step.{StepFits, step_applied, step_inverse}
+use Rattle.step_edits.specs.EditSteps.StepLaws.{step_fits_again, step_state_again}
 use Rattle.edit_doc.specs.Counted.{IsCounted}
 use Rattle.edit_doc.proofs.counted_arena.CountedArena.change.Goals as goal
 

@@ -1,8 +1,8 @@
 use Rattle.std.proofs.Common.{◌≡◌, ◌∙◌, sym, ap, subst}
 use Rattle.std.proofs.lemmas.Result.{IfOk-weaker}
-use Rattle.undo_log.specs.Log.{Log, FitsUndo}
-use Rattle.edit_steps.specs.declared.step.Step.{Step}
-use Rattle.edit_steps.specs.Step.{StepFits, step_applied}
+use Rattle.step_edits.specs.UndoLog.Log.{Log, FitsUndo}
+use Rattle.step_edits.specs.EditSteps.declared.step.Step.{Step}
+use Rattle.step_edits.specs.EditSteps.Step.{StepFits, step_applied}
 use Rattle.edit_doc.specs.Logging.{steps_logged}
 use Rattle.edit_doc.specs.Trail.{Trail}
 use Rattle.edit_doc.proofs.LoggedEdits.{last_kept}

@@ -1,7 +1,7 @@
 use Rattle.std.proofs.Common.{◌≡◌, [], length, unwrap_or, refl, sym, ap, ◌∙◌, arith, rules}
-use Rattle.dom_model.specs.Contents.{chars_of, with_chars}
-use Rattle.dom_model.specs.Revised.{revised}
-use Rattle.dom_model.specs.Room.{spliced}
+use Rattle.forest_changes.specs.DomModel.Contents.{chars_of, with_chars}
+use Rattle.forest_changes.specs.DomModel.Revised.{revised}
+use Rattle.forest_changes.specs.DomModel.Room.{spliced}
 use Rattle.forest_changes.specs.Change.{applied}
 use Rattle.edit_steps.specs.Step.{step_applied}
 use Rattle.edit_steps.proofs.splice.Exchange.apply.Goals as goal

@@ -1,7 +1,7 @@
 use Rattle.std.proofs.Common.{◌≡◌, ◌+◌, ◌-◌, ◌≤◌, List, ℕ, [], length, take, drop, unwrap_or, sym, ap, subst, ◌∙◌, arith, rules, length-drop, length-take-le}
 use Rattle.std.specs.Prelude.{vec_capacity, vec_len}
-use Rattle.dom_model.specs.Contents.{chars_of}
-use Rattle.dom_model.specs.Room.{room_of, spliced}
+use Rattle.forest_changes.specs.DomModel.Contents.{chars_of}
+use Rattle.forest_changes.specs.DomModel.Room.{room_of, spliced}
 use Rattle.edit_steps.proofs.Rebuilding.{parts_fit}
 use Rattle.edit_steps.proofs.splice.Exchange.rebuild.Goals as goal
 

@@ -3,7 +3,7 @@
 use super::Block::Align;
 use super::Lines;
 use crate::tests::fixtures::{Row, check_rows};
-use css_value::TextAlign;
+use edit_commands::css::TextAlign;
 use std::test::Fail;
 
 static ALIGNED: [Row<Lines>; 36] = [

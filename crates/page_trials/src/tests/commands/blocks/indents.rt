@@ -3,8 +3,8 @@
 use super::Block::{Indent, Outdent};
 use super::Lines;
 use crate::tests::fixtures::{Act, Row, check_rows, node_of};
-use edit_doc::{Doc, Flags};
-use list_indent::normalize_sublists;
+use edit_commands::doc::{Doc, Flags};
+use edit_commands::indents::normalize_sublists;
 use std::alloc::Global;
 use std::test::Fail;
 

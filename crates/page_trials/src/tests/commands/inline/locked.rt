@@ -2,7 +2,7 @@
 
 use super::{Change, How};
 use crate::tests::fixtures::{Row, check_rows};
-use html_names::Command;
+use edit_commands::element_names::Command;
 use std::test::Fail;
 
 static LOCKED: [Row<Change>; 16] = [

@@ -2,8 +2,8 @@
 
 use super::{Change, How};
 use crate::tests::fixtures::{Act, Row, check_rows};
-use edit_doc::{Doc, Flags};
-use html_names::Command;
+use edit_commands::doc::{Doc, Flags};
+use edit_commands::element_names::Command;
 use std::alloc::Global;
 use std::test::Fail;
 

@@ -1,4 +1,4 @@
-use Rattle.edit_doc.specs.Held.{Keeps}
+use Rattle.edit_commands.specs.EditDoc.Held.{Keeps}
 use Rattle.page_trials.proofs.tests.documents.acts.make_each.Given as goal
 
 abbrev pub invariant-loop-act : goal.invariant-loop-act

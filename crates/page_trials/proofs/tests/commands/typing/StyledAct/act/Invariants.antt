@@ -1,4 +1,4 @@
-use Rattle.edit_doc.specs.Whole.{IsOpen}
+use Rattle.edit_commands.specs.EditDoc.Whole.{IsOpen}
 use Rattle.page_trials.proofs.tests.commands.typing.StyledAct.act.Given as goal
 
 abbrev pub invariant-loop-kept : goal.invariant-loop-kept

@@ -1,0 +1,4 @@
+-- Lemmas of the crates below that tactics of this crate name.
+pub use Rattle.inline_value.proofs.EditActions.Named.{finds_named}
+pub use Rattle.inline_value.proofs.EditActions.Placed.{placed_here}
+pub use Rattle.inline_value.proofs.WrapSplit.Turns.{walks}
