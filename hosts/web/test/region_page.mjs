@@ -169,9 +169,11 @@ export class RegionPage {
     return this.#page.evaluate((name, rest) => window.region[name](...rest), call, words);
   }
 
-  /** The text as it is shown, with each run of line feeds as one. */
+  /** The text as it is shown, with each run of line feeds as one: WebKit has some more at the end. */
   text() {
-    return this.#page.evaluate(() => window.region.element.innerText.replace(/\n+/g, "\n"));
+    return this.#page.evaluate(() =>
+      window.region.element.innerText.replace(/\n+/g, "\n").replace(/\n$/, ""),
+    );
   }
 
   events() {

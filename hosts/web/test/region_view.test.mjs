@@ -1,9 +1,9 @@
 /** What a region shows, what it undoes, and what can be switched off. */
 import assert from "node:assert/strict";
 import { readFile } from "node:fs/promises";
-import { describe, it } from "node:test";
+import { describe } from "node:test";
 import { HABITS, Region } from "../region.js";
-import { BROWSERS } from "./browsers.mjs";
+import { BROWSERS, it } from "./browsers.mjs";
 import { RegionPage } from "./region_page.mjs";
 import { serve } from "./server.mjs";
 

@@ -1,0 +1,161 @@
+/** The lines of a clean page: their blanks, and what an empty line holds. */
+import { hasContent, isBlock, isElement, isVoid, makeElement, namesOf, seriesOf } from "./clean_tree.js";
+
+/** @typedef {import("./clean_tree.js").CleanElement} CleanElement */
+/** @typedef {import("./clean_tree.js").CleanNode} CleanNode */
+
+/** Blocks that show a line even where nothing is in them. */
+const LINES = namesOf("p h1 h2 h3 h4 h5 h6 pre li dt dd td th");
+
+/** Collapses the blanks of one line, as browsers show them. */
+class Line {
+  /** Whether a blank here isn't shown. */
+  #isAfterBlank = true;
+
+  /**
+   * Where the text before ends with a blank.
+   * @type {{ list: CleanNode[], index: number } | null}
+   */
+  #blank = null;
+
+  /** @param {CleanNode[]} nodes */
+  collapse(nodes) {
+    nodes.forEach((node, index) => {
+      if (!isElement(node)) {
+        nodes[index] = this.#text(node, nodes, index);
+      } else if (isVoid(node.name)) {
+        this.#void(node.name);
+      } else {
+        this.collapse(node.children);
+      }
+    });
+  }
+
+  /**
+   * @param {string} given
+   * @param {CleanNode[]} list
+   * @param {number} index
+   */
+  #text(given, list, index) {
+    const text = given.replace(/[\t\n\f\r ]+/g, " ");
+    const shown = this.#isAfterBlank && text.startsWith(" ") ? text.slice(1) : text;
+    if (shown !== "") {
+      this.#isAfterBlank = shown.endsWith(" ");
+      this.#blank = this.#isAfterBlank ? { list, index } : null;
+    }
+    return shown;
+  }
+
+  /** @param {string} name */
+  #void(name) {
+    if (name === "br") {
+      this.end();
+    }
+    this.#isAfterBlank = name === "br";
+    this.#blank = null;
+  }
+
+  /** A blank at the start is shown too: something may be before it. */
+  keepStart() {
+    this.#isAfterBlank = false;
+  }
+
+  /** Takes the blank at the end away. */
+  end() {
+    if (this.#blank) {
+      const { list, index } = this.#blank;
+      list[index] = /** @type {string} */ (list[index]).slice(0, -1);
+      this.#blank = null;
+    }
+  }
+}
+
+/**
+ * Leaves out texts without characters, and inline elements without content.
+ * @param {readonly CleanNode[]} nodes
+ * @returns {CleanNode[]}
+ */
+function prune(nodes) {
+  /** @type {CleanNode[]} */
+  const kept = [];
+  for (const node of nodes) {
+    const children = isElement(node) ? prune(node.children) : [];
+    if (!isElement(node)) {
+      kept.push(...(node === "" ? [] : [node]));
+    } else if (children.length > 0 || isVoid(node.name)) {
+      kept.push({ ...node, children });
+    }
+  }
+  return kept;
+}
+
+/**
+ * Whether a line shows nothing: editors write U+00A0 alone for that.
+ * @param {CleanNode} node
+ * @returns {boolean}
+ */
+function isEmpty(node) {
+  return isElement(node)
+    ? node.name !== "br" && node.name !== "img" && node.children.every(isEmpty)
+    : /^[\t\n\f\r \u00a0]*$/.test(node);
+}
+
+/** @param {CleanNode[]} nodes */
+function tidyLine(nodes) {
+  const line = new Line();
+  line.collapse(nodes);
+  line.end();
+  return prune(nodes);
+}
+
+/**
+ * A line feed that a pre begins with isn't shown: it becomes a break.
+ * @param {readonly CleanNode[]} nodes
+ * @returns {CleanNode[]}
+ */
+function tidyPre(nodes) {
+  const [first, ...others] = prune(nodes);
+  if (first === undefined || isElement(first)) {
+    return first === undefined ? [] : [first, ...others];
+  }
+  const text = first.replace(/^\n+/, "");
+  const breaks = Array.from({ length: first.length - text.length }, () => makeElement("br", []));
+  return prune([...breaks, text, ...others]);
+}
+
+/**
+ * @param {CleanElement} block
+ * @returns {CleanElement}
+ */
+function tidyBlock(block) {
+  const { name } = block;
+  if (isVoid(name)) {
+    return block;
+  }
+  const children = name === "pre" ? tidyPre(block.children) : tidy(block.children);
+  const isBare = LINES.has(name) && children.every(isEmpty) && !children.some(isBlock);
+  return { ...block, children: isBare ? [makeElement("br", [])] : children };
+}
+
+/**
+ * Tidies what a page or a block holds.
+ * @param {readonly CleanNode[]} nodes
+ * @returns {CleanNode[]}
+ */
+export function tidy(nodes) {
+  return seriesOf(nodes, isBlock).flatMap(({ key, nodes: series }) =>
+    key ? series.map((node) => tidyBlock(/** @type {CleanElement} */ (node))) : tidyLine(series),
+  );
+}
+
+/**
+ * Tidies a page without blocks. Blanks at its ends stay, since it may become part of a line.
+ * @param {CleanNode[]} nodes
+ * @returns {CleanNode[]}
+ */
+export function tidyInline(nodes) {
+  const line = new Line();
+  line.keepStart();
+  line.collapse(nodes);
+  return prune(nodes);
+}
