@@ -92,7 +92,7 @@ class Manual(Small):
         page = "".join(f"\n.SH {section}\n.TP\n.B first\nIs the first.\n" for section in sections)
         heads = ("Status" if head.endswith("tatus") else head for head in sections.values())
         table = "\n".join(f"| {head} | Does |\n|---|---|\n| `first` | it |\n" for head in heads)
-        self.write(docs__hedit_1=page, README_md=table)
+        self.write(docs__hedit_1=page, docs__FORMATS_md=table)
 
     def main(self) -> tuple[int, str]:
         said = io.StringIO()
@@ -103,8 +103,8 @@ class Manual(Small):
         self.assertEqual(self.main(), (0, ""))
 
     def test_a_row_that_the_page_lacks_fails(self) -> None:
-        text = (self.room / "README.md").read_text()
-        self.write(README_md=text.replace("| `first` | it |\n", "| `first` | it |\n| `second` | it |\n", 1))
+        text = (self.room / "docs" / "FORMATS.md").read_text()
+        self.write(docs__FORMATS_md=text.replace("| `first` | it |\n", "| `first` | it |\n| `second` | it |\n", 1))
         status, said = self.main()
         self.assertEqual(status, 1)
         self.assertIn("second", said)
@@ -115,7 +115,7 @@ class Manual(Small):
         self.assertEqual(self.main()[0], 1)
 
     def test_a_section_without_items_fails(self) -> None:
-        self.write(docs__hedit_1="", README_md="")
+        self.write(docs__hedit_1="")
         self.assertEqual(self.main()[0], 1)
 
 
