@@ -114,6 +114,29 @@ for (const { Browser, name, skip } of BROWSERS) {
       assert.deepEqual(cleaned, ['<p class="m-a m-b">a</p>', '<p class="x">a</p>']);
     });
 
+    it("takes pages that are made to be slow", { timeout: 120_000 }, async () => {
+      const numbered = Array.from({ length: 20_000 }, (_, number) => `a${number}=b`).join(" ");
+      for (const [html, least] of [
+        [`<p ${numbered}>x`, 8],
+        [`<p style='${"color: red; ".repeat(20_000)}'>x`, 8],
+        [`<p class='${"a ".repeat(50_000)}'>x`, 8],
+        ["<div>a".repeat(3_000), 3_000],
+        ["<b><i>a".repeat(1_000), 1_000],
+        ["<blockquote><ul><li>a".repeat(1_000), 1_000],
+        ["<table><tr><td>a".repeat(500), 500],
+        ["<a href=https://x/>a".repeat(2_000), 40_000],
+        [`${"<b>".repeat(50)}${"<p>x".repeat(1_000)}`, 300_000],
+        [`<p style='white-space: pre-wrap'>${" \n".repeat(20_000)}x`, 100_000],
+        [`<pre>${"\n".repeat(20_000)}x`, 80_000],
+        [`<p>${"&".repeat(50_000)}`, 250_000],
+        [`<a href='${" ".repeat(50_000)}https://x/'>x`, 20],
+        ["<p style='mso-list: l0 level9 lfo1'>1. a</p>".repeat(1_000), 10_000],
+      ]) {
+        const cleaned = await page.clean(html);
+        assert.ok(cleaned.length >= least, `${html.slice(0, 40)}: ${cleaned.length}`);
+      }
+    });
+
     it("keeps no more levels than asked for, and no more than the engine reads", async () => {
       const deep = "<blockquote>a".repeat(450);
       const depthOf = (html) => html.match(/^(<blockquote>(<p>a<\/p>)?)+/)[0].match(/<b/g).length;
