@@ -1,15 +1,16 @@
 """Makes the library and the program for other systems from the module of the library: LLVM's code, as
 clang compiled it for x86-64 Linux when the library was built. bin/release calls this."""
+import hashlib
 import re
 import subprocess
 import sys
-import tempfile
 from collections.abc import Sequence
 from dataclasses import dataclass
 from pathlib import Path
 
 HERE = Path(__file__).resolve().parent
 ROOT = HERE.parent.parent
+KEPT = HERE / "out"
 HEADER = ROOT / "include" / "hedit.h"
 OPTIONS = ("--no-default-config", "-O2", "-fPIC", "-ffunction-sections", "-fdata-sections",
            "-fno-addrsig")
@@ -37,7 +38,7 @@ class Target:
         return self.name.endswith("windows")
 
 
-LINUX = Target("x86_64-linux", "x86_64-unknown-linux-gnu", "x86_64-linux-gnu-", (
+LINUX = Target("x86_64-linux", "x86_64-unknown-linux-gnu", "", (
     "manylinux_2_17_x86_64", "manylinux2014_x86_64", "musllinux_1_1_x86_64"))
 ARM = Target("aarch64-linux", "aarch64-unknown-linux-gnu", "aarch64-linux-gnu-", (
     "manylinux_2_17_aarch64", "manylinux2014_aarch64", "musllinux_1_1_aarch64"))
@@ -60,40 +61,62 @@ def module_for(target: Target, text: str) -> str:
     return OF_STACK.sub("", plain) if target.is_windows else plain
 
 
+def hide_names(target: Target, whole: Path) -> None:
+    """Leaves an object with no names for others but those of hedit.h."""
+    kept = whole.with_name("names")
+    kept.write_text("".join(f"{name}\n" for name in names_of_calls()))
+    run(f"{target.tools}objcopy", f"--keep-global-symbols={kept}", whole)
+
+
 class Workshop:
-    """A folder in which the module is compiled and linked, with the toolchain's clang."""
+    """A folder in which the module is compiled and linked, with the toolchain's clang. What is compiled of
+    the engine is kept in hosts/targets/out, by what it was compiled of: that takes a minute each."""
 
     def __init__(self, folder: Path, tools: Path, module: Path) -> None:
         self.folder, self.tools = folder, tools
         self.text = self._disassemble(module)
 
     def _disassemble(self, module: Path) -> str:
+        if module.suffix == ".ll":
+            return module.read_text()
         target = self.folder / "module.ll"
         run(self.tools / "clang", "--no-default-config", "-S", "-emit-llvm", "-O0", "-Xclang",
             "-disable-llvm-passes", "-Wno-override-module", "-x", "ir", module, "-o", target)
         return target.read_text()
 
-    def _compile(self, target: Target, source: Path) -> Path:
-        made = source.with_suffix(".o")
+    def _compile(self, target: Target, text: str, made: Path) -> Path:
+        source = self.folder / f"{target.name}.ll"
+        source.write_text(text)
         run(self.tools / "clang", f"--target={target.triple}", *OPTIONS, "-Wno-override-module",
             "-c", "-x", "ir", source, "-o", made)
+        source.unlink()
+        return made
+
+    def engine(self, target: Target) -> Path:
+        """The object of the engine."""
+        text = module_for(target, self.text)
+        what = f"{target.triple} {OPTIONS} {self.tools.resolve()}\n{text}"
+        made = KEPT / f"{target.name}-{hashlib.sha256(what.encode()).hexdigest()[:32]}.o"
+        if not made.is_file():
+            KEPT.mkdir(exist_ok=True)
+            for other in KEPT.glob(f"{target.name}-*.o"):
+                other.unlink()
+            self._compile(target, text, made.with_suffix(".part")).rename(made)
         return made
 
     def objects(self, target: Target) -> tuple[Path, Path]:
         """The engine and its memory."""
         folder = self.folder / target.name
         folder.mkdir()
-        engine, memory = folder / "engine.ll", folder / "memory.ll"
-        engine.write_text(module_for(target, self.text))
-        memory.write_text((HERE / "memory.ll").read_text())
-        return self._compile(target, engine), self._compile(target, memory)
+        engine = folder / "engine.o"
+        engine.write_bytes(self.engine(target).read_bytes())
+        return engine, self._compile(target, (HERE / "memory.ll").read_text(), folder / "memory.o")
 
     def whole(self, target: Target) -> Path:
-        """One object with the engine and its memory, which shows no names but those of hedit.h."""
-        kept, made = self.folder / "names", self.folder / target.name / "hedit.o"
-        kept.write_text("".join(f"{name}\n" for name in names_of_calls()))
+        """One object with the engine and its memory."""
+        made = self.folder / target.name / "hedit.o"
         run(f"{target.tools}ld", "-r", "-o", made, *self.objects(target))
-        run(f"{target.tools}objcopy", f"--keep-global-symbols={kept}", made)
+        hide_names(target, made)
         return made
 
     def mac_archive(self, target: Target) -> bytes:
