@@ -1,4 +1,0 @@
-use Rattle.base_trials.proofs.tests.arenas.builds_reads_and_changes.Given as goal
-
-abbrev pub ghosts-page_right : goal.ghosts-page_right
-ghosts-page_right a = record { name = a.blank.name; parts = a.blank.parts }

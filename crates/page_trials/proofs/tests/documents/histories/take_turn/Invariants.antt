@@ -1,4 +1,0 @@
-use Rattle.page_trials.proofs.tests.documents.histories.take_turn.Given as goal
-
-abbrev pub ghosts-turn_uncounted : goal.ghosts-turn_uncounted
-ghosts-turn_uncounted a = record { name = a.blank.name; parts = a.blank.parts }

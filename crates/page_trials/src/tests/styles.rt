@@ -1,4 +1,0 @@
-//! Resolved styles, and the classes of elements.
-
-mod classes;
-mod resolved;
