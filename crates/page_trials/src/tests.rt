@@ -1,9 +1,5 @@
 mod commands;
-mod documents;
-mod extending;
 mod fixtures;
 mod nodes;
-mod queries;
-mod styles;
 mod values;
 mod wraps;

@@ -1,5 +1,5 @@
 //! A list of numbers, edited by writes and swaps under a log of their inverses.
-ghost use Rattle.std.specs.Prelude.{◌≡◌, ◌+◌, ◌<◌, ◌↔◌, IsTrue, length};
+ghost use Rattle.std.specs.Prelude.{◌≡◌, ◌<◌, ◌↔◌, IsTrue, length};
 
 use std::alloc::{AllocError, Global};
 use std::marker::{Brand, Model};
@@ -485,26 +485,5 @@ fn shows_an_entry(rt: HostRuntime) -> Result<(), Fail> {
     assert_eq!(rt; made, [MADE[0], MADE[1], MADE[2], NONE]);
     assert_eq!(rt; undone, [NONE, UNDONE]);
     assert_eq!(rt; numbers, [4, 2, 3, 9]);
-    Ok(())
-}
-
-fn tick_twice<L: Ledger>(steps: &mut Steps<L>)
-    ensures { steps.new ≡ steps.old + 2 }
-{
-    steps.tick();
-    steps.tick();
-}
-
-fn tick_anew<L: Ledger>(blank: Blank)
-    requires name { blank.name ≡ L.name }
-    requires parts { blank.parts ≡ L.parts }
-    requires some { 0 < blank.parts }
-{
-    tick_twice(&mut Steps::<L>::open(blank));
-}
-
-#[test]
-fn counts_without_bytes(_rt: HostRuntime) -> Result<(), Fail> {
-    tick_anew::<Brand>(Blank::new(1));
     Ok(())
 }

@@ -1,16 +1,8 @@
-//! Commands and what they share: each row of a table is what an editing host holds, nodes of it by
-//! their labels (1 is the host), and what the host then holds.
+//! Steps of commands, each row of a table with what an editing host holds, nodes of it by their
+//! labels (1 is the host), and what the host then holds. Whole commands are in the sessions of
+//! `tests/sessions`.
 //!
-//! A module a layer: `inline` for `inline_value`, `inline_actions` for `inline_commands`, `blocks`
-//! for `block_commands` and `list_indent`, `deleting` for `delete_core` and `text_deletion`,
-//! `typing` and `paragraphs` for `text_insertion`, `toggles` for `list_toggle`, `objects` for
-//! `insert_objects`.
+//! A module a layer: `inline` for `inline_value`, `deleting` for `delete_core`.
 
-mod blocks;
 mod deleting;
 mod inline;
-mod inline_actions;
-mod objects;
-mod paragraphs;
-mod toggles;
-mod typing;

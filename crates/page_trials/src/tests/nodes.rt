@@ -3,4 +3,3 @@
 mod breaks;
 mod loose;
 mod ranges;
-mod single;

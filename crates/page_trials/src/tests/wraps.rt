@@ -1,9 +1,8 @@
-//! Lists that are wrapped, parents that are split, and line breaks that are removed.
+//! Lists that are wrapped, and parents that are split.
 //!
 //! Each row of a table is what an editing host holds, what is done to nodes of it by their labels
 //! (1 is the host), and what it then holds.
 
-mod breaks;
 mod lists;
 mod splits;
 

@@ -3,9 +3,6 @@
 //! and what the host then holds.
 
 mod ends;
-mod locked;
-mod nested;
-mod styled;
 
 ghost use Rattle.std.specs.Prelude.{IfOk};
 ghost use Rattle.edit_doc.specs.Held.{EachHeld, Holds};
@@ -40,20 +37,9 @@ enum How {
 // A change of the node of a label, for a command and a value, None where it is null.
 struct Change(How, u32, Command, Option<&'static str>);
 
-static ROWS: [Row<Change>; 55] = [
+static ROWS: [Row<Change>; 43] = [
     // an element that does nothing else gives way, another one loses what it says, or becomes a
     // span
-    Row("<b>a</b>", Change(How::Clear, 2, Command::Bold, None), "a"),
-    Row(
-        "<b class=\"c\">a</b>",
-        Change(How::Clear, 2, Command::Bold, None),
-        "<span class=\"c\">a</span>",
-    ),
-    Row(
-        "<span style=\"font-weight: bold; color: red\">a</span>",
-        Change(How::Clear, 2, Command::Bold, None),
-        "<span style=\"color: red;\">a</span>",
-    ),
     Row(
         "<font color=\"red\" size=\"5\">a</font>",
         Change(How::Clear, 2, Command::ForeColor, None),
@@ -63,11 +49,6 @@ static ROWS: [Row<Change>; 55] = [
         "<a href=\"u\" class=\"c\">a</a>",
         Change(How::Clear, 2, Command::CreateLink, None),
         "<a class=\"c\">a</a>",
-    ),
-    Row(
-        "<u style=\"text-decoration: underline  line-through\">a</u>",
-        Change(How::Clear, 2, Command::Underline, None),
-        "<u style=\"text-decoration: line-through;\">a</u>",
     ),
     // an island keeps its value, and so does an element that gives none
     Row(
@@ -82,24 +63,9 @@ static ROWS: [Row<Change>; 55] = [
     ),
     // values of ancestors go to the other children
     Row(
-        "<b>a<i>b<u>c</u></i></b>",
-        Change(How::Push, 7, Command::Bold, None),
-        "<b>a</b><i><b>b</b><u>c</u></i>",
-    ),
-    Row(
-        "<b>a<i>b</i></b>",
-        Change(How::Push, 4, Command::Bold, None),
-        "<b>a</b><i>b</i>",
-    ),
-    Row(
         "<font color=\"red\">a<b>b</b></font>",
         Change(How::Push, 5, Command::ForeColor, None),
         "<font color=\"#ff0000\">a</font><b>b</b>",
-    ),
-    Row(
-        "<p>a</p>",
-        Change(How::Push, 3, Command::Bold, None),
-        "<p>a</p>",
     ),
     Row(
         "<b contenteditable=\"false\">a</b>",
@@ -107,21 +73,6 @@ static ROWS: [Row<Change>; 55] = [
         "<b contenteditable=\"false\">a</b>",
     ),
     // a modifiable element with the value comes to the outside of a chain
-    Row(
-        "<i><b>x</b></i>",
-        Change(How::Reorder, 2, Command::Bold, Some("bold")),
-        "<b><i>x</i></b>",
-    ),
-    Row(
-        "<i><u><b>x</b></u></i>",
-        Change(How::Reorder, 2, Command::Bold, Some("bold")),
-        "<b><i><u>x</u></i></b>",
-    ),
-    Row(
-        "<b>x</b>",
-        Change(How::Reorder, 2, Command::Bold, Some("bold")),
-        "<b>x</b>",
-    ),
     Row(
         "<i><b>x</b>y</i>",
         Change(How::Reorder, 2, Command::Bold, Some("bold")),
@@ -135,63 +86,8 @@ static ROWS: [Row<Change>; 55] = [
     // a value is forced by a sibling that has it, or by a new element
     Row(
         "x",
-        Change(How::Force, 2, Command::Bold, Some("bold")),
-        "<b>x</b>",
-    ),
-    Row(
-        "<b>x</b>y",
-        Change(How::Force, 4, Command::Bold, Some("bold")),
-        "<b>xy</b>",
-    ),
-    Row(
-        "y<b>x</b>",
-        Change(How::Force, 2, Command::Bold, Some("bold")),
-        "<b>yx</b>",
-    ),
-    Row(
-        "<i><b>x</b></i>y",
-        Change(How::Force, 5, Command::Bold, Some("bold")),
-        "<b><i>x</i>y</b>",
-    ),
-    Row(
-        "x",
-        Change(How::Force, 2, Command::Italic, Some("italic")),
-        "<i>x</i>",
-    ),
-    Row(
-        "x",
-        Change(How::Force, 2, Command::Strikethrough, Some("line-through")),
-        "<s>x</s>",
-    ),
-    Row(
-        "x",
-        Change(How::Force, 2, Command::Subscript, Some("subscript")),
-        "<sub>x</sub>",
-    ),
-    Row(
-        "x",
-        Change(How::Force, 2, Command::FontName, Some("Arial")),
-        "<font face=\"Arial\">x</font>",
-    ),
-    Row(
-        "x",
-        Change(How::Force, 2, Command::FontSize, Some("large")),
-        "<font size=\"4\">x</font>",
-    ),
-    Row(
-        "x",
         Change(How::Force, 2, Command::FontSize, Some("20px")),
         "<span style=\"font-size: 20px;\">x</span>",
-    ),
-    Row(
-        "x",
-        Change(How::Force, 2, Command::ForeColor, Some("rgb(0, 128, 255)")),
-        "<font color=\"#0080ff\">x</font>",
-    ),
-    Row(
-        "x",
-        Change(How::Force, 2, Command::HiliteColor, Some("red")),
-        "<span style=\"background-color: red;\">x</span>",
     ),
     Row(
         "<a href=\"u\">x</a>",
@@ -199,11 +95,6 @@ static ROWS: [Row<Change>; 55] = [
         "<span href=\"u\"><a href=\"v\">x</a></span>",
     ),
     // a block hands it to its children, and so does an element that keeps another value
-    Row(
-        "<p>a</p>",
-        Change(How::Force, 2, Command::Bold, Some("bold")),
-        "<p><b>a</b></p>",
-    ),
     Row(
         "<b style=\"font-weight: normal\">x</b>",
         Change(How::Force, 2, Command::Bold, Some("bold")),
@@ -225,17 +116,6 @@ static ROWS: [Row<Change>; 55] = [
         Change(How::Force, 2, Command::Bold, Some("bold")),
         "<b><span contenteditable=\"false\">x</span></b>",
     ),
-    Row(
-        "<b>x</b>",
-        Change(How::Force, 3, Command::Bold, Some("bold")),
-        "<b>x</b>",
-    ),
-    Row(
-        "<p>a<br></p>",
-        Change(How::Force, 4, Command::Bold, Some("bold")),
-        "<p>a<br></p>",
-    ),
-    Row("x", Change(How::Force, 2, Command::Bold, None), "x"),
     // recorded values come back where the parent is gone
     Row(
         "<b>x</b>",
@@ -283,51 +163,113 @@ static ROWS: [Row<Change>; 55] = [
         Change(How::FixAncestors, 2, Command::Bold, None),
         "<div>x</div><p>y</p>",
     ),
-    Row(
-        "<p>a</p>",
-        Change(How::FixAncestors, 2, Command::Bold, None),
-        "<p>a</p>",
-    ),
     // what is selected gets the value
-    Row(
-        "foobar",
-        Change(How::Set { from: 1, to: 4 }, 2, Command::Bold, Some("bold")),
-        "f<b>oob</b>ar",
-    ),
-    Row(
-        "foobar",
-        Change(How::Set { from: 0, to: 6 }, 2, Command::Bold, Some("bold")),
-        "<b>foobar</b>",
-    ),
-    Row(
-        "<b>foobar</b>",
-        Change(
-            How::Set { from: 1, to: 4 },
-            3,
-            Command::Bold,
-            Some("normal"),
-        ),
-        "<b>f</b>oob<b>ar</b>",
-    ),
-    Row(
-        "<b>foobar</b>",
-        Change(
-            How::Set { from: 4, to: 1 },
-            3,
-            Command::Bold,
-            Some("normal"),
-        ),
-        "<b>f</b>oob<b>ar</b>",
-    ),
-    Row(
-        "foobar",
-        Change(How::Set { from: 2, to: 2 }, 2, Command::Bold, Some("bold")),
-        "foobar",
-    ),
     Row(
         "<span contenteditable=\"false\">foobar</span>",
         Change(How::Set { from: 1, to: 4 }, 3, Command::Bold, Some("bold")),
         "<span contenteditable=\"false\">foobar</span>",
+    ),
+    // but a block that is locked can't get it
+    Row(
+        "<p>a<span contenteditable=\"false\">b</span><div contenteditable=\"true\">c</div></p>",
+        Change(How::Force, 2, Command::Bold, Some("bold")),
+        "<p><b>a<span contenteditable=\"false\">b</span></b><div contenteditable=\"true\">c</div></p>",
+    ),
+    // nothing is done to them, and nothing in them
+    Row(
+        "<div contenteditable=\"true\"><b>x</b></div>",
+        Change(How::Clear, 3, Command::Bold, None),
+        "<div contenteditable=\"true\"><b>x</b></div>",
+    ),
+    Row(
+        "<span contenteditable=\"true\">x</span>",
+        Change(How::Force, 2, Command::Bold, Some("bold")),
+        "<b><span contenteditable=\"true\">x</span></b>",
+    ),
+    // values come back to them where they may be wrapped
+    Row(
+        "<b><span contenteditable=\"false\">x</span>y</b>",
+        Change(How::Restore, 3, Command::Bold, None),
+        "<b><span contenteditable=\"false\">x</span></b>y",
+    ),
+    Row(
+        "<b><div contenteditable=\"true\">x</div>y</b>",
+        Change(How::Restore, 3, Command::Bold, None),
+        "<div contenteditable=\"true\">x</div>y",
+    ),
+    // values of the pages at which values are told
+    Row(
+        "<sub>a<sup>b</sup></sub>",
+        Change(How::Clear, 2, Command::Subscript, None),
+        "a<sup>b</sup>",
+    ),
+    Row(
+        "<sub>a<sup>b</sup></sub>",
+        Change(How::Clear, 4, Command::Superscript, None),
+        "<sub>ab</sub>",
+    ),
+    Row(
+        "<sub>a<sup>b</sup></sub>",
+        Change(How::Force, 5, Command::Subscript, Some("subscript")),
+        "<sub>a<sup><sub>b</sub></sup></sub>",
+    ),
+    Row(
+        "<sub>a<sup>b</sup></sub>",
+        Change(How::Force, 3, Command::Superscript, Some("superscript")),
+        "<sub><sup>a</sup><sup>b</sup></sub>",
+    ),
+    Row(
+        "<font size=\"+1\">x<i>y</i></font>",
+        Change(How::Push, 3, Command::FontSize, None),
+        "x<font size=\"4\"><i>y</i></font>",
+    ),
+    Row(
+        "<font size=\"+1\">x</font>",
+        Change(How::Force, 3, Command::FontSize, Some("18px")),
+        "<font size=\"+1\">x</font>",
+    ),
+    Row(
+        "<font size=\"+1\">x</font>",
+        Change(How::Force, 3, Command::FontSize, Some("x-large")),
+        "<font size=\"+1\"><font size=\"5\">x</font></font>",
+    ),
+    // styles and hints against names
+    Row(
+        "<span style=\"font-weight: 600; color: red\"><b>x</b></span>",
+        Change(How::Clear, 2, Command::Bold, None),
+        "<span style=\"color: red;\"><b>x</b></span>",
+    ),
+    Row(
+        "<font size=\"+1\" style=\"font-size: 9px\">x</font>",
+        Change(How::Clear, 2, Command::FontSize, None),
+        "<font>x</font>",
+    ),
+    Row(
+        "<b>a<i style=\"font-weight: normal\">b</i></b>",
+        Change(How::Push, 5, Command::Bold, None),
+        "<b>a</b><i>b</i>",
+    ),
+    // a link in a link
+    Row(
+        "<a href=\"u\"><a href=\"v\">x</a></a>",
+        Change(How::Clear, 3, Command::CreateLink, None),
+        "<a href=\"u\">x</a>",
+    ),
+    Row(
+        "<a href=\"u\"><a href=\"v\">x</a></a>",
+        Change(How::Force, 4, Command::CreateLink, Some("w")),
+        "<span href=\"u\"><span href=\"v\"><a href=\"w\">x</a></span></span>",
+    ),
+    // the value of the nearest element comes back, and none where there was none
+    Row(
+        "<b><i style=\"font-weight: normal\">x</i></b>",
+        Change(How::Restore, 4, Command::Bold, None),
+        "<b><span style=\"font-weight: normal;\"><i>x</i></span></b>",
+    ),
+    Row(
+        "<font color=\"red\"><i>a</i></font><u>x</u>",
+        Change(How::Adopt, 5, Command::ForeColor, None),
+        "<font color=\"#ff0000\"><i>a</i></font><u>x</u>",
     ),
 ];
 

@@ -1,13 +1,13 @@
-//! Parents that are split, and nodes whose children take their place.
+//! Parents that are split.
 
 ghost use Rattle.std.specs.Prelude.{IfOk};
 ghost use Rattle.edit_doc.specs.Whole.{IsOpen};
 
 use super::listed;
-use crate::tests::fixtures::{Act, Row, check_rows, node_of};
+use crate::tests::fixtures::{Act, Row, check_rows};
 use std::alloc::{AllocError, Global};
 use std::test::Fail;
-use wrap_split::{Doc, remove_keeping_children, split_parent};
+use wrap_split::{Doc, split_parent};
 
 static SPLITS: [Row<Split>; 21] = [
     // in the middle, at the start and at the end; the id stays on the first half
@@ -91,93 +91,4 @@ impl Act for Split {
 #[test]
 fn parents_are_split(rt: HostRuntime) -> Result<(), Fail> {
     check_rows(rt.alloc(), &SPLITS)
-}
-
-static COUNTED: [Row<Counted>; 4] = [
-    Row(
-        "<div id=\"d\"><p>a</p><p>b</p><p>c</p></div>",
-        Counted {
-            label: 5,
-            edits: 4,
-            next: 10,
-        },
-        "<div id=\"d\"><p>a</p></div><p>b</p><div><p>c</p></div>",
-    ),
-    Row(
-        "<div id=\"d\"><p>a</p><p>b</p><p>c</p></div>",
-        Counted {
-            label: 7,
-            edits: 1,
-            next: 9,
-        },
-        "<div id=\"d\"><p>a</p><p>b</p></div><p>c</p>",
-    ),
-    Row(
-        "<p>a</p>b",
-        Counted {
-            label: 3,
-            edits: 3,
-            next: 6,
-        },
-        "a<br>b",
-    ),
-    Row(
-        "<p>a</p>",
-        Counted {
-            label: 2,
-            edits: 0,
-            next: 4,
-        },
-        "<p>a</p>",
-    ),
-];
-
-// Splits the parent of the node of a label, ends the command with so many edits, and this label
-// comes next.
-struct Counted {
-    label: u32,
-    edits: usize,
-    next: u32,
-}
-
-impl Act for Counted {
-    fn act(&self, alloc: Global, doc: &mut Doc) -> Result<bool, Fail> {
-        let split = splits(alloc, doc, (self.label, self.label))?;
-        let next = doc.arena().next_label();
-        doc.commit();
-        Ok(split && doc.edits() == self.edits && next == self.next)
-    }
-}
-
-#[test]
-fn edits_and_labels_are_counted(rt: HostRuntime) -> Result<(), Fail> {
-    check_rows(rt.alloc(), &COUNTED)
-}
-
-static REMOVALS: [Row<Unwrap>; 6] = [
-    Row("<b>x</b>y", Unwrap(2), "xy"),
-    Row("<b></b>y", Unwrap(2), "y"),
-    Row("<p><b>x<i>y</i></b></p>", Unwrap(3), "<p>x<i>y</i></p>"),
-    Row("<ul><li>a</li></ul>", Unwrap(3), "<ul>a</ul>"),
-    Row("a<p>b</p>c", Unwrap(3), "a<br>b<br>c"),
-    Row(
-        "<b contenteditable=\"false\">x</b>",
-        Unwrap(2),
-        "<b contenteditable=\"false\">x</b>",
-    ),
-];
-
-// Removes the node of a label, whose children stay.
-struct Unwrap(u32);
-
-impl Act for Unwrap {
-    fn act(&self, alloc: Global, doc: &mut Doc) -> Result<bool, Fail> {
-        let node = node_of(doc, self.0)?;
-        Ok(remove_keeping_children(alloc, doc, node).is_ok())
-    }
-}
-
-#[test]
-fn children_take_the_place_of_their_parent(rt: HostRuntime) -> Result<(), Fail> {
-    check_rows(rt.alloc(), &REMOVALS)
 }
