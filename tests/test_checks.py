@@ -1,4 +1,4 @@
-"""Tests of ./check, .ci/examples, .ci/manual and bin/try-build on small repositories:
+"""Tests of ./check, .ci/examples, .ci/manual and bin/try-library on small repositories:
 python3 -m unittest discover tests"""
 import contextlib
 import importlib.machinery
@@ -172,7 +172,7 @@ class Check(Small):
 class Builds(Small):
     def setUp(self) -> None:
         super().setUp()
-        self.build = loaded("bin/try-build", self.room)
+        self.build = loaded("bin/try-library", self.room)
 
     def test_arguments_of_all_kinds_are_made(self) -> None:
         structs = {"Facts": "\n    pub kind: u32,\n    pub ends: Pair,", "Pair": "\n    pub first: usize,"}
