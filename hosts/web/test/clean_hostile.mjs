@@ -1,4 +1,4 @@
-/** Random pages that no editor wrote, for the tests of `cleanPage`. */
+/** Makes random hostile pages for the tests of `cleanPage`. */
 
 const TAGS = (
   "p p div div span b i u a a h1 h2 ul ol li li dl dt dd table tbody thead tr td th caption col colgroup " +
@@ -98,7 +98,7 @@ const TEXTS = [
 ];
 
 /**
- * A page of random tags and texts.
+ * Makes a page of random tags and texts.
  * @param {Iterator<number>} random
  */
 export function hostilePage(random) {

@@ -1,4 +1,4 @@
-/** A page with `cleanPage` in a browser, and what has to hold of each result. */
+/** Opens a page with `cleanPage` in a browser, and checks each result. */
 import assert from "node:assert/strict";
 import { after, before } from "node:test";
 import { load } from "../hedit.js";
@@ -15,7 +15,7 @@ const MARKUP = `<!doctype html>
   import { CLEAN_BLOCKS, CLEAN_INLINES } from "/clean_tree.js";
   import { isShownStyle, shownAttribute } from "/shown.js";
 
-  /** Names go: they would hide properties of documents and forms. */
+  /** Parses markup, and removes names that hide properties of documents and forms. */
   function parse(html) {
     const document = new DOMParser().parseFromString("<body>" + html, "text/html");
     for (const element of Document.prototype.querySelectorAll.call(document, "[id], [name]")) {
@@ -25,7 +25,7 @@ const MARKUP = `<!doctype html>
     return document;
   }
 
-  /** What of an element the tables don't have. */
+  /** Returns the names that the tables don't have: of the element, its attributes and its styles. */
   function strangeOf(element, options) {
     const { localName: name } = element;
     const isKnown = CLEAN_BLOCKS.has(name) || CLEAN_INLINES.has(name);
@@ -43,7 +43,7 @@ const MARKUP = `<!doctype html>
     return [...(isKnown && isHtml ? [] : [name]), ...attributes.map((each) => each.name), ...properties];
   }
 
-  /** The characters of a page in order, without blanks, and without what goes by a rule. */
+  /** Returns the characters of a page, sorted, without whitespace and without removed elements. */
   function charactersOf(html) {
     const { body } = parse(html);
     const gone = [...DROPPED, "[hidden]"].join();
@@ -60,7 +60,7 @@ const MARKUP = `<!doctype html>
 
   window.cleanPage = cleanPage;
 
-  /** What cleaning gives, and again, how often it parsed, and what is wrong. */
+  /** Cleans a page twice, and returns both results with what is checked of them. */
   window.tryPage = (html, options) => {
     let parses = 0;
     const counting = (text) => {
@@ -79,7 +79,7 @@ const MARKUP = `<!doctype html>
 
 const engine = await load(BYTES);
 
-/** Throws where the engine doesn't read a page. */
+/** Throws if the engine doesn't read a page. */
 export function read(html) {
   engine.open(html).close();
 }
@@ -110,8 +110,8 @@ export class CleaningPage {
   }
 
   /**
-   * What cleaning gives: the engine reads it, it has nothing but what the tables have, and it stays when
-   * it is cleaned again.
+   * Returns the result of cleaning a page. Fails if the engine doesn't read it, if the tables don't have
+   * all of it, or if cleaning it again changes it.
    */
   async clean(html, options = {}) {
     const tried = await this.#page.evaluate(

@@ -1,4 +1,4 @@
-/** What `cleanPage` makes of whole mails and of hostile pages, its options, and its limits. */
+/** Tests `cleanPage` with whole mails and hostile pages, and its options and limits. */
 import assert from "node:assert/strict";
 import { readFile, readdir } from "node:fs/promises";
 import { describe } from "node:test";
@@ -8,7 +8,7 @@ import { serve } from "./server.mjs";
 
 const CORPUS = new URL("clean_corpus/", import.meta.url);
 
-/** Pages that other sanitizers let something out of, or that parsers read in two ways. */
+/** Pages that got something past other sanitizers, or that parsers read in two ways. */
 const HOSTILE = [
   "<svg></p><style><a id='</style><img src=1 onerror=alert(1)>'>",
   "<svg><style><img src=x onerror=alert(1)></style></svg>a",
@@ -45,7 +45,7 @@ const HOSTILE = [
   "<ruby>a<rp>(<rt>b<rp>)</ruby><table><tr><td><table><td>c",
 ];
 
-/** Pages with names that hide properties of the document or of a form, and what they become. */
+/** Pages with names that hide properties of the document or of a form, and their results. */
 const NAMED = [
   ["<img name=body src=https://x/i>a", '<p><img src="https://x/i">a</p>'],
   ["<form name=body>a</form>b", "<p>a</p><p>b</p>"],
@@ -168,7 +168,7 @@ for (const { Browser, name, skip } of BROWSERS) {
   });
 
   describe(`cleaning under strict policies in ${name}`, { skip }, () => {
-    /** What a page with a policy says of itself. */
+    /** Runs a script in a page with a strict policy, and returns its answer. */
     async function ask(types, script) {
       const policy =
         "default-src 'none'; script-src 'self' 'nonce-hedit'; connect-src 'self'; style-src 'none'; " +

@@ -1,4 +1,4 @@
-/** Random hostile pages: what `cleanPage` gives is read by the engine, stays, and has all the text. */
+/** Tests `cleanPage` with random hostile pages. */
 import assert from "node:assert/strict";
 import { describe } from "node:test";
 import { BROWSERS, IS_WHOLE, it } from "./browsers.mjs";
@@ -8,7 +8,7 @@ import { numbers } from "./region_page.mjs";
 
 const PAGES = IS_WHOLE ? 10_000 : 300;
 
-/** How many pages a browser is given at once. */
+/** How many pages a browser cleans in one call. */
 const BATCH = 50;
 
 const OPTIONS = [
@@ -19,13 +19,13 @@ const OPTIONS = [
   { maxDepth: 5 },
 ];
 
-/** A page is parsed once a round, and the last round changes nothing. */
+/** Each round parses the page once, and the last round changes nothing. */
 const PARSES_OF_ONE_PASS = 2;
 
-/** Six rounds, and the text of the page. */
+/** Six rounds, and one parse for the text of the page. */
 const PARSES_OF_FALLBACK = 7;
 
-/** Text of Word's marks goes, and that of images comes: such pages have other characters. */
+/** Markers of Word's lists are removed, so the results of such pages have other characters. */
 const hasOtherText = (html) => html.includes("mso-list");
 
 for (const { Browser, name, skip } of BROWSERS) {
