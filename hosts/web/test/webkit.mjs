@@ -56,6 +56,8 @@ async function startScreen() {
 class Session {
   #child;
 
+  #exit;
+
   #port;
 
   #id = "";
@@ -70,6 +72,7 @@ class Session {
   constructor(environment, port) {
     this.#port = port;
     this.#child = spawn(PROGRAM, [`--port=${port}`], { env: environment, stdio: "ignore" });
+    this.#exit = once(this.#child, "exit");
   }
 
   async #begin() {
@@ -121,10 +124,9 @@ class Session {
   }
 
   async close() {
-    const exit = once(this.#child, "exit");
     await Promise.race([this.#ask("DELETE", this.#id).catch(() => {}), sleep(5000)]);
     this.#child.kill();
-    await exit;
+    await this.#exit;
   }
 }
 
