@@ -1,6 +1,7 @@
 /** What a region gives while an input method composes, and where its engine fails. */
 import assert from "node:assert/strict";
 import { describe } from "node:test";
+import { setTimeout as sleep } from "node:timers/promises";
 import { BROWSERS, it } from "./browsers.mjs";
 import { hostPage } from "./region_host.mjs";
 import { RegionPage } from "./region_page.mjs";
@@ -98,6 +99,8 @@ for (const { Browser, name, skip } of BROWSERS) {
 
     describe("whose engine fails", () => {
       it("shows the page where it can't be told what changed", async () => {
+        // So that the click isn't one more of those before, for WebKit.
+        await sleep(600);
         await region.page.evaluate(openFailing, "<p>ab</p>");
         await region.click([0, 0], 1);
         await region.page.evaluate(() => {
