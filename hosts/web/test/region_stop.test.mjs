@@ -124,8 +124,8 @@ for (const { Browser, name, skip } of BROWSERS) {
         const look = () =>
           region.page.evaluate(() => {
             const { region, events } = window;
-            const { element, status } = region;
-            return [status, region.html(), element.isContentEditable, element.textContent, events.splice(0)];
+            const { isContentEditable, textContent } = region.element;
+            return [region.status, region.html(), isContentEditable, textContent, events.splice(0)];
           });
         const html = "<p>axb <b>c</b></p>";
         assert.deepEqual(await look(), ["stopped", html, false, "axb c", ["change", "error"]]);
