@@ -384,7 +384,8 @@ class Nodes(unittest.TestCase):
 
     def test_a_node_has_a_path(self) -> None:
         editor = self.editor
-        for path in ([], [0], [1], [1, 0], [1, 0, 0], [1, 1]):
+        paths: list[list[int]] = [[], [0], [1], [1, 0], [1, 0, 0], [1, 1]]
+        for path in paths:
             self.assertEqual(editor.path_of(editor.label_at(path)), path)
         deep = "<div>" * 150 + "x" + "</div>" * 150
         with Editor(deep) as nested:

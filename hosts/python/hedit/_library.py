@@ -7,6 +7,9 @@ from typing import Any
 
 __version__ = "0.9.0"
 
+# The library's file, as wheels have it.
+FILE = "hedit.dll" if os.name == "nt" else "libhedit.so"
+
 
 class Handle(ctypes.Structure):
     """An editor, as the library holds it; None where it is closed."""
@@ -130,9 +133,9 @@ def path_of_library() -> str:
     repository = package.parent.parent.parent
     release = repository / "dist" / f"hedit-{__version__}-x86_64-linux" / "lib"
     for folder in (package, release):
-        if (folder / "libhedit.so").is_file():
-            return str(folder / "libhedit.so")
-    return f"libhedit.so.{__version__.rpartition('.')[0]}"
+        if (folder / FILE).is_file():
+            return str(folder / FILE)
+    return FILE if os.name == "nt" else f"{FILE}.{__version__.rpartition('.')[0]}"
 
 
 @functools.cache
@@ -141,7 +144,7 @@ def library() -> ctypes.CDLL:
     try:
         loaded = ctypes.CDLL(path_of_library())
     except OSError as error:
-        error.add_note("hedit: set the environment variable HEDIT_LIBRARY to the path of libhedit.so")
+        error.add_note(f"hedit: set the environment variable HEDIT_LIBRARY to the path of {FILE}")
         raise
     for name, types in CALLS.items():
         call = getattr(loaded, name)

@@ -82,6 +82,8 @@ export class RegionPage {
 
   /** Opens a region, with the focus at the start. */
   async open(html, choices = {}) {
+    // WebKit stays where it was scrolled to, also below the end of a shorter page.
+    await this.#page.evaluate(() => window.scrollTo(0, 0));
     await this.#page.evaluate((...words) => window.start(...words), html, choices);
     await this.agrees();
   }
@@ -164,7 +166,7 @@ export class RegionPage {
     await this.shows(after);
   }
 
-  /** The text that is selected: WebKit has line feeds behind the last line. */
+  /** What is selected, without the line feeds that WebKit has at the end. */
   selected() {
     return this.#page.evaluate(() => String(document.getSelection()).replace(/\n+$/, ""));
   }

@@ -84,6 +84,9 @@ async function act(region, [name, ...words]) {
     case "exec":
       return region.ask("exec", ...words);
     case "compose":
+      if (!page.hasInputMethods) {
+        return;
+      }
       await page.compose(words[0]);
       return page.commit(words[0]);
     default:

@@ -56,6 +56,8 @@ async function startScreen() {
 class Session {
   #child;
 
+  #exit;
+
   #port;
 
   #id = "";
@@ -70,6 +72,7 @@ class Session {
   constructor(environment, port) {
     this.#port = port;
     this.#child = spawn(PROGRAM, [`--port=${port}`], { env: environment, stdio: "ignore" });
+    this.#exit = once(this.#child, "exit");
   }
 
   async #begin() {
@@ -121,10 +124,9 @@ class Session {
   }
 
   async close() {
-    const exit = once(this.#child, "exit");
     await Promise.race([this.#ask("DELETE", this.#id).catch(() => {}), sleep(5000)]);
     this.#child.kill();
-    await exit;
+    await this.#exit;
   }
 }
 
@@ -203,9 +205,14 @@ export class WebKit {
 
 /** A page of WebKit. */
 class WebKitPage extends Page {
+  hasInputMethods = false;
+
   #session;
 
   #browser;
+
+  /** @type {{ x: number, y: number } | undefined} where the last click was */
+  #clicked;
 
   constructor(session, browser) {
     super();
@@ -263,19 +270,28 @@ class WebKitPage extends Page {
     return { type: "pointerMove", duration: 0, x: Math.round(x), y: Math.round(y) };
   }
 
+  /**
+   * A place of its own for the next click: two at one place within a second would count as a double one.
+   */
+  #apart({ x, y }) {
+    const isSame = this.#clicked?.x === Math.round(x) && this.#clicked.y === Math.round(y);
+    this.#clicked = { x: Math.round(x), y: Math.round(y) + (isSame ? 1 : 0) };
+    return this.#clicked;
+  }
+
   async clickAt(at, clickCount = 1) {
     const click = [
       { type: "pointerDown", button: 0 },
       { type: "pointerUp", button: 0 },
     ];
     const clicks = Array.from({ length: clickCount }, () => click).flat();
-    await this.#mouse([this.#move(at), ...clicks]);
+    await this.#mouse([this.#move(this.#apart(at)), ...clicks]);
     await this.settle();
   }
 
   async drag([first, ...others]) {
     await this.#mouse([
-      this.#move(first),
+      this.#move(this.#apart(first)),
       { type: "pointerDown", button: 0 },
       ...others.map((at) => this.#move(at)),
       { type: "pointerUp", button: 0 },
