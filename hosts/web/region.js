@@ -257,7 +257,7 @@ export class Region extends EventTarget {
       return;
     }
     if (!this.#stop) {
-      this.#settle();
+      this.#guard(() => this.#settle());
     }
     this.#isReadOnly = isReadOnly;
     this.#lockUp();
@@ -292,7 +292,7 @@ export class Region extends EventTarget {
   async recover() {
     const { reload } = this.#choices;
     if (this.status === "contested") {
-      this.#settle();
+      this.#guard(() => this.#settle());
     }
     if (this.status !== "stopped") {
       return;
@@ -355,7 +355,7 @@ export class Region extends EventTarget {
    */
   step(call) {
     if (this.#isEditable) {
-      this.#settle();
+      this.#guard(() => this.#settle());
     }
     const { commands, steps } = this.#session;
     const before = steps.length;
@@ -424,10 +424,11 @@ export class Region extends EventTarget {
       throw new EditorClosed();
     }
     if (this.status === "ready" && !this.#mends.isComposing) {
-      this.#answer(() => this.#mends.mend());
+      this.#answer(() => this.#mends.catchUp());
     }
+    const { isBehind, isComposing, isContested } = this.#mends;
     const isKept = composing === "without" || this.#isDenied("insertText");
-    const isOfEngine = this.#mends.isContested || (this.#mends.isComposing && isKept);
+    const isOfEngine = isBehind || isContested || (isComposing && isKept);
     return isOfEngine && !this.#stop ? this.#session.html() : this.#session.view.html();
   }
 
@@ -538,9 +539,12 @@ export class Region extends EventTarget {
       return;
     }
     this.#read();
+    if (this.#mends.isBehind) {
+      return;
+    }
     const found = this.check();
     const [page, shown] = [this.#session.html(), this.#session.view.html()];
-    if (found || (page !== shown && !this.#mends.isBehind)) {
+    if (found || page !== shown) {
       throw new Error(found ?? `${shown} is printed, and not ${page}`);
     }
   }
@@ -702,9 +706,13 @@ export class Region extends EventTarget {
     });
   }
 
-  /** Selects what the page shows as selected. */
+  /** Selects what the page shows as selected, once what it changed by itself is mended. */
   #read() {
-    if (!this.#mends.isComposing && this.#session.selections.read()) {
+    if (this.#mends.isComposing) {
+      return;
+    }
+    this.#mends.catchUp();
+    if (this.#session.selections.read()) {
       this.#tell(false, true);
     }
   }

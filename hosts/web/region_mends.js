@@ -113,6 +113,14 @@ export class Mends {
     }
   }
 
+  /** Mends what waits, if it may: the markup is asked for. */
+  catchUp() {
+    this.#note(this.#observer.takeRecords());
+    if (this.isBehind && this.#budget.take()) {
+      this.mend();
+    }
+  }
+
   /** Reads what the browser did that wasn't told yet, as the user acts now. */
   settle() {
     this.composed();

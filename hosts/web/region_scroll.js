@@ -10,7 +10,8 @@ import { isElement, windowOf } from "./region_nodes.js";
  */
 function scrollTo(element, top, bottom) {
   const isPage = element === element.ownerDocument.scrollingElement;
-  const isScrolled = isPage || /auto|scroll/.test(windowOf(element).getComputedStyle(element).overflowY);
+  const { overflowY } = windowOf(element).getComputedStyle(element);
+  const isScrolled = isPage || /auto|scroll/.test(overflowY);
   if (!isScrolled || element.scrollHeight <= element.clientHeight) {
     return 0;
   }

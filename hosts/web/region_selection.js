@@ -95,6 +95,9 @@ export class Selections {
     if (!ends) {
       return null;
     }
+    if (!("host" in this.#root)) {
+      return this.#selection?.isCollapsed ? null : (this.#selection?.getRangeAt(0) ?? null);
+    }
     const range = this.#element.ownerDocument.createRange();
     range.setStart(ends.anchor.node, ends.anchor.offset);
     range.setEnd(ends.anchor.node, ends.anchor.offset);

@@ -121,6 +121,9 @@ export class User {
     });
     if (!isDone && whole !== "") {
       this.#acts.refuse("insertText", "impossible", whole);
+    } else if (text === "") {
+      // As where a file is pasted.
+      this.#acts.refuse(event.inputType, "unknown");
     }
   }
 

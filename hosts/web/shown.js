@@ -309,7 +309,8 @@ function lengthTo(most, hundredths = 0) {
 }
 
 /** @type {StyleTest} */
-const isLine = (value) => lengthTo(400, 1000)(value) || (/^\d*\.?\d+$/.test(value) && Number(value) <= 10);
+const isLine = (value) =>
+  lengthTo(400, 1000)(value) || (/^\d*\.?\d+$/.test(value) && Number(value) <= 10);
 
 /** @type {StyleTest} */
 const isFont = (value) => /^[^()\\;{}<>]{1,200}$/.test(value);

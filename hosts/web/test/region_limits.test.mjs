@@ -1,4 +1,4 @@
-/** What a region doesn't do: denied commands, steps that the history has lost, and all where it is only read. */
+/** What a region doesn't do: what is denied, steps that the history has lost, and all where it is only read. */
 import assert from "node:assert/strict";
 import { describe } from "node:test";
 import { BROWSERS, it } from "./browsers.mjs";
@@ -94,7 +94,8 @@ for (const { Browser, name, skip } of BROWSERS) {
         );
 
       for (const undoDepth of [1, 2, 5]) {
-        it(`is undone as a whole or not at all, with ${undoDepth} entries`, { timeout: 120_000 }, async () => {
+        const what = `is undone as a whole or not at all, with ${undoDepth} entries`;
+        it(what, { timeout: 120_000 }, async () => {
           for (const count of [1, 2, 3, 5, 6, 20]) {
             await region.open("<p>ab</p>", { undoDepth });
             await region.click([0, 0], 1);

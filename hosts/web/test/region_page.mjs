@@ -49,11 +49,12 @@ export class RegionPage {
       const { region } = window;
       await new Promise((resolve) => requestAnimationFrame(() => requestAnimationFrame(resolve)));
       // A command may put a br into a rule, and the browser's markup leaves that out.
+      // What links and images get beside their own attributes.
+      const added = / (?:rel|referrerpolicy)="[^"]*"/g;
       const isPlain = !region.element.querySelector(":is(br, hr, img) *");
       return {
         difference: region.check(),
-        // What links and images get beside their own attributes.
-        shown: isPlain ? region.element.innerHTML.replace(/ (?:rel|referrerpolicy)="[^"]*"/g, "") : null,
+        shown: isPlain ? region.element.innerHTML.replace(added, "") : null,
         html: region.html(),
       };
     });

@@ -98,7 +98,8 @@ for (const { Browser, name, skip } of BROWSERS) {
         assert.equal(await region.ask("exec", "italic"), true);
         assert.match(await region.agrees(), /^<p><i>one <b>two<\/b><\/i><\/p>/);
         assert.equal(await region.ask("state", "italic"), true);
-        assert.equal(await region.page.evaluate(() => window.Region.of(window.region.element) !== null), true);
+        const isFound = () => window.Region.of(window.region.element) === window.region;
+        assert.equal(await region.page.evaluate(isFound), true);
       });
     });
   }

@@ -6,6 +6,10 @@ import { BROWSERS } from "./browsers.mjs";
 import { POLICY, hostPage, trap } from "./region_host.mjs";
 import { RegionPage } from "./region_page.mjs";
 
+/** The attributes that a page may have of a hostile one, where the host allows nothing more. */
+const SHOWN =
+  /^(?:dir|lang|title|style|href|rel|src|alt|width|height|referrerpolicy|data-hedit(?:-link|-image)?)$/;
+
 /** How long a page has to ask for what it loads. */
 const PAUSE = 400;
 
@@ -17,12 +21,14 @@ const HOSTILE = {
     '<link rel="stylesheet" href="TRAP/css"><link rel="prefetch" href="TRAP/pre">' +
     '<link rel="preload" as="image" href="TRAP/image"><link rel="icon" href="TRAP/icon">',
   "joins the host's form":
-    '<p><input form="form" name="stolen" value="1"><button form="form" formaction="TRAP/f">x</button></p>',
+    '<p><input form="form" name="stolen" value="1">' +
+    '<button form="form" formaction="TRAP/f">x</button></p>',
   "has a form of its own": '<form action="TRAP/form" id="f"><input name="a" autofocus></form>',
   "makes a custom element of the host": '<x-host>a</x-host><p is="x-host">b</p>',
   "shadows elements by ids": '<p id="field">a</p><p id="ran">b</p><a id="victim">c</a>',
   "shadows properties of the document by names":
-    '<img name="cookie" src="data:image/gif;base64,AA=="><form name="body"></form><embed name="title">',
+    '<img name="cookie" src="data:image/gif;base64,AA=="><form name="body"></form>' +
+    '<embed name="title">',
   "covers the page by position":
     '<div style="position:fixed;inset:0;z-index:9999;background:red">x</div>' +
     '<p style="position:absolute;top:-99px;left:0;width:2000px;height:2000px">y</p>' +
@@ -70,6 +76,9 @@ for (const { Browser, name, skip } of BROWSERS) {
     const look = () =>
       region.page.evaluate(() => {
         const { top, left } = document.getElementById("cover").getBoundingClientRect();
+        const all = [...window.region.element.querySelectorAll("*")];
+        const isComment = ({ nodeType }) => nodeType === 8;
+        const comments = [...window.region.element.childNodes].filter(isComment);
         return {
           isCovered: document.elementFromPoint(left + 5, top + 5)?.id !== "cover",
           fields: [...document.getElementById("form").elements].map((each) => each.id),
@@ -81,7 +90,9 @@ for (const { Browser, name, skip } of BROWSERS) {
           forms: document.forms.length,
           ran: window.ran,
           made: window.made,
-          names: [...window.region.element.querySelectorAll("*")].map((each) => each.localName),
+          names: all.map((each) => each.localName),
+          attributes: all.flatMap((each) => each.getAttributeNames()),
+          comments: comments.map((each) => each.data.trim()),
           difference: window.region.check(),
           html: window.region.html(),
         };
@@ -93,7 +104,7 @@ for (const { Browser, name, skip } of BROWSERS) {
         for (const id of ["host", "page"]) {
           await start(html, id);
           await sleep(PAUSE);
-          const { names, html: printed, ...rest } = await look();
+          const { names, attributes, comments, html: printed, ...rest } = await look();
           assert.deepEqual(rest, {
             isCovered: false,
             fields: ["field"],
@@ -110,6 +121,8 @@ for (const { Browser, name, skip } of BROWSERS) {
           assert.deepEqual(heard.asked, []);
           const acting = /^(base|meta|link|form|input|button|object|embed|video|audio|frame|x-)/;
           assert.deepEqual(names.filter((each) => acting.test(each)), []);
+          assert.deepEqual(attributes.filter((each) => !SHOWN.test(each)), []);
+          assert.equal(comments.join(""), "");
           // What isn't shown is in the HTML that the region gives.
           assert.equal(printed.length > 0, true);
           const [tag] = /<[a-z-]+/.exec(html);
@@ -128,8 +141,9 @@ for (const { Browser, name, skip } of BROWSERS) {
           return { "cid:b": gif, "cid:c": Promise.resolve(gif), x: "javascript:x" }[src] ?? null;
         };
         window.start(page, { view: { image } });
-        const sources = () => [...region.element.querySelectorAll("img")].map((each) => each.src.slice(0, 9));
         const { region } = window;
+        const images = [...region.element.querySelectorAll("img")];
+        const sources = () => images.map((each) => each.src.slice(0, 9));
         const before = sources();
         await new Promise((resolve) => setTimeout(resolve, 50));
         return [asked, before, sources(), region.check(), region.html()];
@@ -163,7 +177,7 @@ for (const { Browser, name, skip } of BROWSERS) {
       ]);
       const less = await region.page.evaluate((html) => {
         const element = (name) => name !== "li" && undefined;
-        const attribute = (name, each, value) => (each === "title" ? value.toUpperCase() : undefined);
+        const attribute = (_, each, value) => (each === "title" ? value.toUpperCase() : undefined);
         window.start(html, { view: { element, attribute, classes: ["m"] } });
         return [window.region.element.innerHTML, window.region.check()];
       }, page);
