@@ -1,5 +1,5 @@
 #!/usr/bin/env python3
-"""Tries the wrong bodies of bench/bugs, which were written by hand: bench/bugs.py [CRATE | CRATE/BODY ..]
+"""Tries the wrong bodies of bench/bugs, which were written by hand: bench/bugs.py [--list] [CRATE | CRATE/BODY ..]
 
 Without names it tries all. Each is a must-fail edit that the gate doesn't try. In a copy of the crates they take the place of the edits of
 their crate, and `rt must-fail` tries them there. It prints a line for each, which begins with what came of it:
@@ -12,7 +12,11 @@ their crate, and `rt must-fail` tries them there. It prints a line for each, whi
 
 The status is 1 where one is let through, bad or not tried. bench/mutants.tsv says what each violates. It takes as long as the proofs
 of the crates, and up to a minute for each body.
+
+With `--list` it tries none, and prints them, each with the public call that it makes wrong where its first line names one. The status is 1
+where one can't be applied, since a line that it changes doesn't stand once in its file.
 """
+import argparse
 import re
 import shutil
 import subprocess
@@ -59,13 +63,56 @@ def copy_with(found, room):
             shutil.copy(file, folder)
 
 
+def call_of(file):
+    """The public call that a body makes wrong, or nothing where its first line names none."""
+    first = file.read_text(encoding="utf-8").splitlines()[0]
+    return first.removeprefix("call: ") if first.startswith("call: ") else ""
+
+
+def applies(file):
+    """Whether each line that a body changes stands once in its file, as the changes before it leave that."""
+    text = ""
+    for line in file.read_text(encoding="utf-8").splitlines():
+        word, _, rest = line.partition(": ")
+        if word == "file":
+            text = (ROOT / "crates" / file.parent.name / rest).read_text(encoding="utf-8")
+        elif word == "old":
+            old = rest
+        elif line.startswith("new:"):
+            if text.count(old) != 1:
+                return False
+            text = text.replace(old, rest)
+    return True
+
+
+def list_all(found):
+    """Prints the bodies. The status is 1 where one can't be applied."""
+    lost = 0
+    for crate, files in found.items():
+        for file in files:
+            fits = applies(file)
+            lost += not fits
+            print(f"{crate}/{file.stem} {call_of(file)}".rstrip() + ("" if fits else " (can't be applied)"))
+    return 1 if lost else 0
+
+
 def verdict(text):
     """The word for what rt says of an edit."""
     return next(word for said, word in WORDS.items() if text.startswith(said))
 
 
 def main():
-    found, told = bodies(sys.argv[1:]), Counter()
+    words = argparse.ArgumentParser(description=__doc__, formatter_class=argparse.RawDescriptionHelpFormatter)
+    words.add_argument("--list", action="store_true", help="print the bodies and the calls that they make wrong")
+    words.add_argument("names", nargs="*", metavar="CRATE | CRATE/BODY")
+    given = words.parse_args()
+    found = bodies(given.names)
+    return list_all(found) if given.list else try_all(found)
+
+
+def try_all(found):
+    """Tries the bodies, and prints what came of each. The status is 1 where one isn't refused."""
+    told = Counter()
     with TemporaryDirectory() as room:
         copy_with(found, room)
         words = ["rt", "must-fail", *found]

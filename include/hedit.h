@@ -1,8 +1,8 @@
 /* hedit.h: the engine behind a contenteditable region, for programs in C and in languages that
  * call C.
  *
- * Link with libhedit.so or libhedit.a, which bin/release makes. They take malloc, realloc and free
- * from the C library.
+ * Link with libhedit.so or libhedit.a, which bin/release makes, or on Windows with hedit.dll. They take
+ * malloc, realloc and free from the C library.
  *
  *     cc host.c $(pkg-config --cflags --libs hedit)
  *
@@ -44,6 +44,14 @@
 #include <stddef.h>
 #include <stdint.h>
 
+/* Marks the calls of the library. A program for Windows that links with libhedit.a and not with hedit.dll
+ * defines HEDIT_STATIC before it includes this header. */
+#if defined(_WIN32) && !defined(HEDIT_STATIC)
+#define HEDIT_API __declspec(dllimport)
+#else
+#define HEDIT_API
+#endif
+
 #ifdef __cplusplus
 extern "C" {
 #endif
@@ -56,6 +64,7 @@ extern "C" {
 
 /* The version of the library that is linked: a byte each for the major, the minor and the patch
  * number, as 0x000900 for 0.9.0. */
+HEDIT_API
 uint32_t hedit_version(void);
 
 /* How a call ended. */
@@ -130,15 +139,18 @@ typedef struct hedit_refusal {
  * node gets a number from label_cap on (2,000,000 is usual), and undo_depth commands can be
  * undone (100, say); neither may be 0. HEDIT_DONE, HEDIT_PAGE_REFUSED with *refusal,
  * HEDIT_MEMORY, HEDIT_BAD_ARGUMENT. Only HEDIT_PAGE_REFUSED gives *refusal a meaning. */
+HEDIT_API
 uint32_t hedit_open(hedit_editor *editor, const uint8_t *page, size_t page_length,
                     uint32_t label_cap, size_t undo_depth, hedit_refusal *refusal);
 
 /* Closes *editor and frees its memory. A closed one stays closed. */
+HEDIT_API
 void hedit_close(hedit_editor *editor);
 
 /* Executes a command by its name, in any case, as "bold" or "fontName", with a value, which is
  * empty for most. HEDIT_DONE, or HEDIT_NO where the command isn't supported or not enabled or
  * refuses the value; HEDIT_FULL, HEDIT_DEEP, HEDIT_MEMORY, HEDIT_BAD_ARGUMENT, HEDIT_CLOSED. */
+HEDIT_API
 uint32_t hedit_exec(hedit_editor *editor, const uint8_t *name, size_t name_length,
                     const uint8_t *value, size_t value_length);
 
@@ -146,6 +158,7 @@ uint32_t hedit_exec(hedit_editor *editor, const uint8_t *name, size_t name_lengt
  * a comma between, as "bold,insertImage", in any case: 1 to 16 different ones of 1 to 64 ASCII
  * letters, digits and '-'; or no bytes, and then none is denied. Commands that a command takes
  * inside itself are not asked for. Also HEDIT_BAD_ARGUMENT where it is no such list. */
+HEDIT_API
 uint32_t hedit_exec_gated(hedit_editor *editor, const uint8_t *denied, size_t denied_length,
                           const uint8_t *name, size_t name_length, const uint8_t *value,
                           size_t value_length);
@@ -156,6 +169,7 @@ uint32_t hedit_exec_gated(hedit_editor *editor, const uint8_t *denied, size_t de
  * selects or marks, and no command by hedit_exec or hedit_exec_gated that was HEDIT_DONE without a
  * change. Otherwise it is a step of its own. A command that isn't HEDIT_DONE leaves the last step
  * as it was, open to be joined. */
+HEDIT_API
 uint32_t hedit_exec_joined(hedit_editor *editor, const uint8_t *name, size_t name_length,
                            const uint8_t *value, size_t value_length);
 
@@ -165,16 +179,20 @@ uint32_t hedit_exec_joined(hedit_editor *editor, const uint8_t *name, size_t nam
  * typed and put in place in a row. HEDIT_DONE, HEDIT_NO where the points stand in no editing host,
  * HEDIT_BAD_PLACE, HEDIT_FULL, HEDIT_DEEP, HEDIT_MEMORY, HEDIT_BAD_ARGUMENT, HEDIT_CLOSED. After any
  * but HEDIT_DONE the selection is as before, too. */
+HEDIT_API
 uint32_t hedit_replace(hedit_editor *editor, uint32_t anchor, uint32_t anchor_offset,
                        uint32_t focus, uint32_t focus_offset, const uint8_t *text,
                        size_t text_length);
 
 /* Takes one step back, or forth again. HEDIT_DONE, HEDIT_NO where there is none, HEDIT_CLOSED.
  * They take no memory. */
+HEDIT_API
 uint32_t hedit_undo(hedit_editor *editor);
+HEDIT_API
 uint32_t hedit_redo(hedit_editor *editor);
 
 /* Selects from an anchor to a focus. HEDIT_DONE, HEDIT_BAD_PLACE, HEDIT_MEMORY, HEDIT_CLOSED. */
+HEDIT_API
 uint32_t hedit_select(hedit_editor *editor, const uint32_t *anchor, size_t anchor_length,
                       uint32_t anchor_offset, const uint32_t *focus, size_t focus_length,
                       uint32_t focus_offset);
@@ -183,26 +201,31 @@ uint32_t hedit_select(hedit_editor *editor, const uint32_t *anchor, size_t ancho
  * HEDIT_BAD_PLACE where no node of the document has the label or the offset is past its length,
  * HEDIT_CLOSED. It takes no memory, and costs as much as the nodes are deep, and in an element the
  * children before the offset. */
+HEDIT_API
 uint32_t hedit_select_points(hedit_editor *editor, uint32_t anchor, uint32_t anchor_offset,
                              uint32_t focus, uint32_t focus_offset);
 
 /* Gives the selection up. HEDIT_DONE, HEDIT_CLOSED. */
+HEDIT_API
 uint32_t hedit_unselect(hedit_editor *editor);
 
 /* Gives a name to what is between two points; the mark goes along with the text. A mark of that
  * name is set anew. The name is any bytes; letters and digits keep hedit_view's lines readable.
  * HEDIT_DONE, HEDIT_BAD_PLACE, HEDIT_TOO_MANY_MARKS, HEDIT_MEMORY, HEDIT_CLOSED. */
+HEDIT_API
 uint32_t hedit_mark(hedit_editor *editor, const uint8_t *name, size_t name_length,
                     const uint32_t *anchor, size_t anchor_length, uint32_t anchor_offset,
                     const uint32_t *focus, size_t focus_length, uint32_t focus_offset);
 
 /* The same between two points, each the label of a node and an offset in it. */
+HEDIT_API
 uint32_t hedit_mark_points(hedit_editor *editor, const uint8_t *name, size_t name_length,
                            uint32_t anchor, uint32_t anchor_offset, uint32_t focus,
                            uint32_t focus_offset);
 
 /* Takes the mark of a name out. HEDIT_DONE, HEDIT_NO where there is none, HEDIT_MEMORY,
  * HEDIT_CLOSED. */
+HEDIT_API
 uint32_t hedit_unmark(hedit_editor *editor, const uint8_t *name, size_t name_length);
 
 /* What can be asked of a command. */
@@ -217,6 +240,7 @@ enum hedit_question {
 /* Asks a question about the command that a name names. The first four give *flag, 0 or 1, and an
  * empty text; HEDIT_VALUE gives the text, and *flag is 0. Without an error *length is the text's.
  * HEDIT_DONE, HEDIT_TOO_SMALL, HEDIT_MEMORY, HEDIT_BAD_ARGUMENT, HEDIT_CLOSED. */
+HEDIT_API
 uint32_t hedit_query(hedit_editor *editor, uint32_t question, const uint8_t *name,
                      size_t name_length, uint32_t *flag, uint8_t *buffer, size_t capacity,
                      size_t *length);
@@ -232,6 +256,7 @@ enum hedit_view_kind {
 
 /* Gives what is printed of the editor. HEDIT_DONE, HEDIT_TOO_SMALL, HEDIT_MEMORY,
  * HEDIT_BAD_ARGUMENT, HEDIT_CLOSED. */
+HEDIT_API
 uint32_t hedit_view(hedit_editor *editor, uint32_t kind, uint8_t *buffer, size_t capacity,
                     size_t *length);
 
@@ -264,31 +289,38 @@ typedef struct hedit_node_facts {
 
 /* Gives what the node of a label is. HEDIT_DONE, HEDIT_BAD_PLACE where no node of the document has
  * the label, HEDIT_CLOSED. It takes no memory. */
+HEDIT_API
 uint32_t hedit_node(hedit_editor *editor, uint32_t label, hedit_node_facts *facts);
 
 /* Gives the label of the node at a path. HEDIT_DONE, HEDIT_BAD_PLACE, HEDIT_MEMORY,
  * HEDIT_CLOSED. */
+HEDIT_API
 uint32_t hedit_label_at(hedit_editor *editor, const uint32_t *path, size_t path_length,
                         uint32_t *label);
 
 /* Gives the path of the node of a label, into an array for `capacity` indexes; *length is how many
  * it has. HEDIT_DONE, HEDIT_BAD_PLACE, HEDIT_TOO_SMALL, HEDIT_MEMORY, HEDIT_CLOSED. */
+HEDIT_API
 uint32_t hedit_path_of(hedit_editor *editor, uint32_t label, uint32_t *path, size_t capacity,
                        size_t *length);
 
 /* Give the name of an element, and the characters of a text or a comment; the text is empty for a
  * node of another kind. HEDIT_DONE, HEDIT_BAD_PLACE, HEDIT_TOO_SMALL, HEDIT_MEMORY (of the
  * characters alone), HEDIT_CLOSED. */
+HEDIT_API
 uint32_t hedit_node_name(hedit_editor *editor, uint32_t label, uint8_t *buffer, size_t capacity,
                          size_t *length);
+HEDIT_API
 uint32_t hedit_node_value(hedit_editor *editor, uint32_t label, uint8_t *buffer, size_t capacity,
                           size_t *length);
 
 /* Give the name and the value of an attribute by its place in the node's list, from 0 on.
  * HEDIT_DONE, HEDIT_NO where the list has no such place, HEDIT_BAD_PLACE, HEDIT_TOO_SMALL,
  * HEDIT_MEMORY (of the value alone), HEDIT_CLOSED. */
+HEDIT_API
 uint32_t hedit_attribute_name(hedit_editor *editor, uint32_t label, size_t place, uint8_t *buffer,
                               size_t capacity, size_t *length);
+HEDIT_API
 uint32_t hedit_attribute_value(hedit_editor *editor, uint32_t label, size_t place,
                                uint8_t *buffer, size_t capacity, size_t *length);
 
@@ -297,8 +329,10 @@ uint32_t hedit_attribute_value(hedit_editor *editor, uint32_t label, size_t plac
  * br, in tree order; where a block begins or ends between two of these, a line feed comes between
  * them, unless the first one is a line feed. HEDIT_DONE, HEDIT_BAD_PLACE, HEDIT_TOO_SMALL,
  * HEDIT_MEMORY, HEDIT_CLOSED. */
+HEDIT_API
 uint32_t hedit_node_html(hedit_editor *editor, uint32_t label, uint8_t *buffer, size_t capacity,
                          size_t *length);
+HEDIT_API
 uint32_t hedit_node_text(hedit_editor *editor, uint32_t label, uint8_t *buffer, size_t capacity,
                          size_t *length);
 
@@ -313,6 +347,7 @@ typedef struct hedit_point {
  * the first on, and none overlaps the one before. Each occurrence stands in one text, and has the
  * very characters: nothing is folded. The empty text occurs nowhere. HEDIT_DONE, HEDIT_BAD_PLACE,
  * HEDIT_TOO_SMALL, HEDIT_MEMORY, HEDIT_BAD_ARGUMENT, HEDIT_CLOSED. */
+HEDIT_API
 uint32_t hedit_find(hedit_editor *editor, uint32_t label, const uint8_t *text, size_t text_length,
                     hedit_point *points, size_t capacity, size_t *count);
 
@@ -326,13 +361,16 @@ typedef struct hedit_selection_facts {
 
 /* Gives the points of the selection. HEDIT_DONE, HEDIT_NO where nothing is selected,
  * HEDIT_CLOSED. */
+HEDIT_API
 uint32_t hedit_selection(hedit_editor *editor, hedit_selection_facts *facts);
 
 /* Give the name and the points of a mark by its place in the list of marks, from 0 on: a new mark goes
  * last, and one that is set anew keeps its place. HEDIT_DONE, HEDIT_NO where the list has no such place,
  * HEDIT_TOO_SMALL (of the name alone), HEDIT_CLOSED. They take no memory. */
+HEDIT_API
 uint32_t hedit_mark_name(hedit_editor *editor, size_t place, uint8_t *buffer, size_t capacity,
                          size_t *length);
+HEDIT_API
 uint32_t hedit_mark_range(hedit_editor *editor, size_t place, hedit_selection_facts *facts);
 
 /* Give the HTML and the plain text of what is selected, for the clipboard: what stands between the two
@@ -340,8 +378,10 @@ uint32_t hedit_mark_range(hedit_editor *editor, size_t place, hedit_selection_fa
  * points, from the one to the other, as DOM's cloneContents gives them; an element in which a point
  * stands has its tags. HEDIT_DONE, HEDIT_NO where nothing is selected, HEDIT_TOO_SMALL,
  * HEDIT_MEMORY, HEDIT_CLOSED. */
+HEDIT_API
 uint32_t hedit_selection_html(hedit_editor *editor, uint8_t *buffer, size_t capacity,
                               size_t *length);
+HEDIT_API
 uint32_t hedit_selection_text(hedit_editor *editor, uint8_t *buffer, size_t capacity,
                               size_t *length);
 
@@ -356,12 +396,14 @@ typedef struct hedit_number_facts {
 } hedit_number_facts;
 
 /* Gives the numbers. HEDIT_DONE, HEDIT_CLOSED. */
+HEDIT_API
 uint32_t hedit_numbers(hedit_editor *editor, hedit_number_facts *facts);
 
 /* Gives how many calls of hedit_exec and its kind, hedit_replace, hedit_undo and hedit_redo have
  * changed the page since it was opened. Where the number is the one that you saw before a call, the
  * call changed nothing; where it is more than one greater, you missed a change. HEDIT_DONE,
  * HEDIT_CLOSED. */
+HEDIT_API
 uint32_t hedit_revision(hedit_editor *editor, uint64_t *revision);
 
 /* Gives what the last of these calls changed that changed something: edits by the labels of nodes,
@@ -389,6 +431,7 @@ enum hedit_change {
     HEDIT_ATTRIBUTES_SET = 5
 };
 
+HEDIT_API
 uint32_t hedit_changes(hedit_editor *editor, uint8_t *buffer, size_t capacity, size_t *length);
 
 /* Whether the node of a label is in the document, or may come back by hedit_undo or hedit_redo.
@@ -398,17 +441,20 @@ uint32_t hedit_changes(hedit_editor *editor, uint8_t *buffer, size_t capacity, s
  * steps that hedit_redo would take, and the oldest one where there are more than undo_depth: so ask
  * after commands, and not after hedit_undo and hedit_redo. It takes no memory, and its cost doesn't
  * grow with the page or the history. */
+HEDIT_API
 uint32_t hedit_is_kept(hedit_editor *editor, uint32_t label);
 
 /* Runs a session, as `hedit run` does over its standard input, and gives the transcript. The
  * status is the number that the program exits with: HEDIT_DONE, HEDIT_MEMORY, HEDIT_PAGE_REFUSED,
  * where the transcript is the line that says so, HEDIT_TOO_LONG; or HEDIT_TOO_SMALL. It needs no
  * editor. */
+HEDIT_API
 uint32_t hedit_session(const uint8_t *input, size_t input_length, uint8_t *output,
                        size_t capacity, size_t *written);
 
 /* The same with the words of a command line, as "run\n--undo\n9\n": each line is a word. Also
  * HEDIT_USAGE and HEDIT_STEP_REFUSED. */
+HEDIT_API
 uint32_t hedit_session_with_words(const uint8_t *words, size_t words_length, const uint8_t *input,
                                   size_t input_length, uint8_t *output, size_t capacity,
                                   size_t *written);

@@ -101,13 +101,19 @@ class Claims(SmallRepository):
     def test_takes_mutants_that_are_listed(self):
         self.assertEqual(([], 1), self.claims.faults_of_mutants(self.crates))
 
+    def test_takes_mutants_that_name_their_call(self):
+        self.write("bench/bugs/low/forgets.edit", "call: add\nfile: src/counting.rt\n")
+        self.assertEqual(([], 2), self.claims.faults_of_mutants(self.crates))
+        self.write("bench/bugs/low/forgets.edit", "call: sub\n")
+        self.assertEqual(["bench/mutants.tsv: low has no call sub"], self.claims.faults_of_mutants(self.crates)[0])
+
     def test_finds_mutants_that_are_missing_or_not_listed(self):
         self.write("bench/bugs/low/forgets.edit", "")
         self.claims.MUTANTS.write_text("low/counts_three\tlow add fewer; high add more\n")
         faults, mutants = self.claims.faults_of_mutants(self.crates)
         self.assertEqual(2, mutants)
         self.assertEqual(["low add has no clause fewer", "there is no crate high", "there is no mutant low/counts_three",
-                          "low/counts_two isn't listed", "low/forgets isn't listed"],
+                          "low/counts_two names no call, and isn't listed", "low/forgets names no call, and isn't listed"],
                          [fault.removeprefix("bench/mutants.tsv: ") for fault in faults])
 
     def test_writes_the_index(self):

@@ -1,5 +1,4 @@
-"""sessions.py FOLDER..: runs stored sessions (NNN.args, .stdin, .stdout, .status) through the
-library.
+"""sessions.py [FOLDER..]: runs stored sessions through the library, by default those of tests/sessions.
 
 Each goes through hedit_session_with_words, which has to give what is stored. Those of `run` also go
 through an Editor, call by call: the lines that are acts for which it has calls, which the library
@@ -12,6 +11,9 @@ from pathlib import Path
 
 from follow import Tree
 from hedit import BadPlace, Editor, HeditError, PageFull, Place, TooDeep, TooManyMarks, session
+
+sys.path.append(str(Path(__file__).resolve().parents[2] / "tests"))
+import session_form
 
 FAULTS: dict[type[HeditError], str] = {
     BadPlace: "! 4 bad place",
@@ -174,7 +176,7 @@ def by_calls(text: str, options: dict[str, int], denied: list[str]) -> tuple[str
     return transcript, "\n".join([opening, *page, closing, *(line for line, _ in known), ""]), is_followed
 
 
-def options_of(arguments: list[str]) -> tuple[dict[str, int], list[str]] | None:
+def options_of(arguments: tuple[str, ...]) -> tuple[dict[str, int], list[str]] | None:
     """The limits that the words ask for, and the names that they deny; None where they ask for
     something else."""
     if not arguments or arguments[0] != "run":
@@ -196,22 +198,21 @@ def options_of(arguments: list[str]) -> tuple[dict[str, int], list[str]] | None:
 
 def main(folders: list[str]) -> int:
     whole, calls, bad = 0, 0, []
-    for stdin in sorted(path for folder in folders for path in Path(folder).glob("*.stdin")):
-        arguments = stdin.with_suffix(".args").read_text().split("\n")[:-1]
-        text, wanted = stdin.read_bytes(), stdin.with_suffix(".stdout").read_bytes()
-        status = int(stdin.with_suffix(".status").read_text())
+    for path in session_form.files(folders):
+        stored = session_form.read(path)
         whole += 1
-        if session(text, arguments) != (status, wanted):
-            bad.append(f"{stdin} as a session")
-        options = options_of(arguments)
-        if options is None or status != 0:
+        if session(stored.input, stored.arguments) != (stored.status, stored.reply):
+            bad.append(f"{path} as a session")
+        options = options_of(stored.arguments)
+        if options is None or stored.status != 0:
             continue
         calls += 1
-        transcript, known, is_followed = by_calls(text.decode(errors="surrogateescape"), *options)
-        if session(known, arguments) != (0, transcript.encode()):
-            bad.append(f"{stdin} call by call")
+        text = stored.input.decode(errors="surrogateescape")
+        transcript, known, is_followed = by_calls(text, *options)
+        if session(known, stored.arguments) != (0, transcript.encode()):
+            bad.append(f"{path} call by call")
         if not is_followed:
-            bad.append(f"{stdin} followed")
+            bad.append(f"{path} followed")
     print(f"hosts: {whole} stored sessions as sessions, {calls} call by call and followed; {len(bad)} differ")
     for name in bad[:20]:
         print(name)

@@ -5,7 +5,7 @@
 import { HeditError, NodeKind, load } from "./hedit.js";
 import { Region } from "./region.js";
 import { dropDraft, fileName, keepDraft, keptDraft, messageOf } from "./composer_draft.js";
-import { addressOf, coloured, countWords, counted, hexOf } from "./composer_text.js";
+import { addressOf, coloured, countWords, counted, hexOf, withoutLocks } from "./composer_text.js";
 import { startTheme } from "./composer_theme.js";
 import {
   Menu,
@@ -23,6 +23,9 @@ import {
 const NEW_MESSAGE =
   '<p><br></p><div class="signature" contenteditable="false"><p><b>Ada Lovelace</b><br>' +
   "Analytical Engines, 12 St James’s Square, London</p></div>";
+
+/** The signature keeps its look, and stays locked. */
+const CHOICES = { clean: { locked: true }, view: { classes: ["signature"] } };
 
 /**
  * The colours to choose from, by command. A mail is read on light and on dark: text can be read on
@@ -231,7 +234,7 @@ class Composer {
    */
   #open(html) {
     try {
-      const region = new Region(this.#engine, part("message"), { html });
+      const region = new Region(this.#engine, part("message"), { ...CHOICES, html });
       this.#listen(region);
       return region;
     } catch (error) {
@@ -247,7 +250,15 @@ class Composer {
   #listen(region) {
     region.addEventListener("statechange", () => this.#refreshSoon());
     region.addEventListener("change", () => this.#changed());
-    region.addEventListener("error", ({ message }) => this.#say(`That wasn’t done: ${message}`));
+    region.addEventListener("input", () => this.#keepSoon());
+    region.addEventListener("error", (event) => {
+      event.preventDefault();
+      this.#say(`That wasn’t done: ${event.message}`);
+    });
+    region.addEventListener("refused", (event) => {
+      event.preventDefault();
+      this.#say("That isn’t possible here");
+    });
     region.select({ label: region.editor.labelAt([0, 0]), offset: 0 });
   }
 
@@ -659,12 +670,8 @@ class Composer {
    * Saves the mail as a message that a mail program opens. There its locked parts can be written in.
    */
   #save() {
-    const body = part("message").cloneNode(true);
-    for (const element of body.querySelectorAll("[contenteditable]")) {
-      element.removeAttribute("contenteditable");
-    }
     const subject = part("subject").value;
-    const message = messageOf(part("to").value, subject, body.innerHTML);
+    const message = messageOf(part("to").value, subject, withoutLocks(this.#region.html()));
     const link = document.createElement("a");
     link.href = URL.createObjectURL(new Blob([message], { type: "message/rfc822" }));
     link.download = fileName(subject);

@@ -51,6 +51,15 @@ export function addressOf(text) {
 }
 
 /**
+ * HTML as a mail program gets it: without what says that a part can't be edited.
+ * @param {string} html
+ */
+export function withoutLocks(html) {
+  const isTag = /<(?:"[^"]*"|[^">])*>/g;
+  return html.replace(isTag, (tag) => tag.replace(/ contenteditable="[^"]*"/, ""));
+}
+
+/**
  * HTML with a span around each tag, each value of an attribute, and each reference, where it isn't
  * long. The text stays.
  * @param {string} html

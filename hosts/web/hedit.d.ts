@@ -193,6 +193,19 @@ export declare class EditorClosed extends HeditError {}
 /** An earlier call stopped in the middle, by the `cause`. Load another engine. */
 export declare class EngineStopped extends HeditError {}
 
+/** The browser, or this version of Node, lacks what the engine needs. */
+export declare class EngineUnsupported extends HeditError {
+  constructor(missing: readonly string[]);
+  /** Names of what is missing, as `missingFeatures` gives them. */
+  readonly missing: readonly string[];
+}
+
+/** The engine's file couldn't be loaded: the message says from where and why. */
+export declare class EngineNotLoaded extends HeditError {}
+
+/** Names what the engine needs and this browser doesn't have: nothing where the engine runs. */
+export declare function missingFeatures(): string[];
+
 /** An offset in a text node in characters, from one in UTF-16 units. */
 export declare function toCharacters(text: string, units: number): number;
 
@@ -348,7 +361,10 @@ export declare class Engine {
   session(text: Text, words?: readonly string[]): { status: Status; transcript: string };
 }
 
-/** Loads the engine: hedit.wasm beside hedit.js, or at another address, or its response or bytes. */
+/**
+ * Loads the engine: hedit.wasm beside hedit.js, or at another address, or its response or bytes. Throws
+ * EngineUnsupported or EngineNotLoaded.
+ */
 export declare function load(
   source?: string | URL | Response | PromiseLike<Response> | BufferSource,
 ): Promise<Engine>;

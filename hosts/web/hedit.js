@@ -24,8 +24,8 @@
  * A call that is refused throws a `HeditError`, with a class of its own for each cause, and leaves
  * the editor as it was.
  *
- * The engine is a WebAssembly module with a memory of 64 bits. Its pointers and counts are BigInt,
- * and no call here takes or gives one.
+ * The engine is a WebAssembly module with a memory of 32 bits. Its pointers and counts are BigInt,
+ * and no call here takes or gives one. `missingFeatures` names what an older browser lacks for it.
  */
 
 import { readChanges } from "./changes.js";
@@ -33,6 +33,7 @@ import { limit, listOf, member, placeNumber } from "./hedit_arguments.js";
 import { NodeKind, Question, View } from "./hedit_constants.js";
 import { EditorClosed, answer } from "./hedit_errors.js";
 import { Library } from "./hedit_library.js";
+import { compileModule } from "./hedit_load.js";
 import { DECODER, bytesOf } from "./hedit_text.js";
 
 export { NodeKind, PageKind, Question, Status, View } from "./hedit_constants.js";
@@ -40,7 +41,9 @@ export {
   BadArgument,
   BadPlace,
   EditorClosed,
+  EngineNotLoaded,
   EngineStopped,
+  EngineUnsupported,
   HeditError,
   OutOfMemory,
   PageFull,
@@ -48,6 +51,7 @@ export {
   TooDeep,
   TooManyMarks,
 } from "./hedit_errors.js";
+export { missingFeatures } from "./hedit_load.js";
 export { toCharacters, toUnits } from "./hedit_text.js";
 
 /** The version of this file, and of the module that it came with. */
@@ -710,14 +714,12 @@ export class Editor {
       found.set(name, this.#text("hedit_attribute_value", 256, number, place));
     }
   }
+}
 
-  static {
-    // Some browsers that run the engine have no `using` yet.
-    const dispose = /** @type {any} */ (Symbol).dispose;
-    if (dispose) {
-      Object.defineProperty(this.prototype, dispose, { value: this.prototype.close });
-    }
-  }
+// Some browsers that run the engine have no `using` yet.
+const { dispose } = /** @type {any} */ (Symbol);
+if (dispose) {
+  Object.defineProperty(Editor.prototype, dispose, { value: Editor.prototype.close });
 }
 
 /** The engine. Its editors share a memory, which grows as they need and is freed with the engine. */
@@ -764,15 +766,11 @@ export class Engine {
 
 /**
  * Loads the engine: hedit.wasm beside this file, or at another address, or its response or bytes.
- * A server has to send it as application/wasm.
- * @param {string | URL | Response | PromiseLike<Response> | BufferSource} source
+ * Throws EngineUnsupported where the browser lacks what the engine needs, and EngineNotLoaded where a
+ * server gives no engine. A server that sends it as application/wasm lets it be compiled while it comes.
+ * @param {import("./hedit_load.js").Source} source
  */
 export async function load(source = new URL("hedit.wasm", import.meta.url)) {
-  const isAddress = typeof source === "string" || source instanceof URL;
-  const given = await (isAddress ? fetch(source) : source);
-  const module = await (given instanceof Response
-    ? WebAssembly.compileStreaming(given)
-    : WebAssembly.compile(given));
-  const { exports } = await WebAssembly.instantiate(module);
+  const { exports } = await WebAssembly.instantiate(await compileModule(source));
   return new Engine(exports);
 }

@@ -112,6 +112,22 @@ export class EngineStopped extends HeditError {
   name = "EngineStopped";
 }
 
+/** The browser lacks what the engine needs, and `missing` names that. */
+export class EngineUnsupported extends HeditError {
+  name = "EngineUnsupported";
+
+  /** @param {readonly string[]} missing */
+  constructor(missing) {
+    super(`the engine can't run here, since ${missing.join(", ")} is missing: use a newer version`);
+    this.missing = missing;
+  }
+}
+
+/** The engine's file couldn't be loaded: the message says from where and why. */
+export class EngineNotLoaded extends HeditError {
+  name = "EngineNotLoaded";
+}
+
 /** @type {Readonly<Record<number, new () => HeditError>>} */
 const REFUSALS = {
   [Status.MEMORY]: OutOfMemory,

@@ -150,13 +150,16 @@ static void keep(block *it, size_t size) {
     free_block(left);
 }
 
+/* Grows the memory from so many pages by some more. The instruction answers the count of pages before.
+ * A refusal is -1, and once the module is lowered to a memory of 32 bits, 2^32 - 1. */
+static bool is_grown(size_t had, size_t more) { return __builtin_wasm_memory_grow(0, more) == had; }
+
 /* Grows the memory by a free block of at least this size. */
 static bool grow(size_t size) {
     size_t had = __builtin_wasm_memory_size(0);
     size_t needed = (size + UNIT + PAGE - 1) / PAGE, eighth = had / 8;
     /* More than is needed, so that a page that grows does so seldom; or else what is needed. */
-    if ((eighth <= needed || __builtin_wasm_memory_grow(0, eighth) == (size_t)-1) &&
-        __builtin_wasm_memory_grow(0, needed) == (size_t)-1)
+    if (!(eighth > needed && is_grown(had, eighth)) && !is_grown(had, needed))
         return false;
     if (!end)
         end = block_of((void *)(((size_t)&__heap_base + sizeof(size_t) + UNIT - 1) & ~(size_t)(UNIT - 1)));

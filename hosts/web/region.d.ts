@@ -1,5 +1,6 @@
 /** The types of region.js, which says more of each call. */
 
+import type { CleanOptions } from "./clean.js";
 import type { Editor, Engine, Limits, Point } from "./hedit.js";
 
 /** What a region does beside what the engine's commands do. Each is on, and `false` switches it off. */
@@ -34,37 +35,111 @@ export interface Habits {
 
 export declare const HABITS: Readonly<Habits>;
 
+/**
+ * What is shown of the page's HTML. Where a call answers undefined, the tables of shown.js decide. No
+ * call can show what acts: scripts, addresses that run them, forms, frames, custom elements, styles
+ * that the tables leave out.
+ */
+export interface ViewOptions {
+  /** Words of `class` that are shown: a list, or an expression that matches whole words. By default none. */
+  readonly classes?: RegExp | Iterable<string>;
+  /** Whether addresses that depend on the page are shown. By default they aren't. */
+  readonly relative?: boolean;
+  /** The address to show an image from, null for none, or a promise of these. It is asked once for each. */
+  readonly image?: (
+    src: string,
+  ) => string | null | undefined | Promise<string | null | undefined>;
+  /** Whether an element is shown. Others have a placeholder, a `div` or a `span`. */
+  readonly element?: (name: string, attributes: ReadonlyMap<string, string>) => boolean | undefined;
+  /** Whether an attribute of an element is shown, or the value that is. */
+  readonly attribute?: (
+    name: string,
+    attribute: string,
+    value: string,
+  ) => boolean | string | null | undefined;
+}
+
 export interface Choices extends Partial<Habits>, Limits {
   /** What the engine opens: by default the element's own markup. */
   readonly html?: string;
+  /**
+   * Whether the page is cleaned before the engine reads it, and how. By default it is in an editing
+   * host, and an element without `contenteditable` has it as it is: then the engine refuses what
+   * isn't written as it wants it.
+   */
+  readonly clean?: boolean | CleanOptions;
   /** The element that Enter makes where no block is around the caret: by default `p`. */
   readonly separator?: "p" | "div";
-  /** Names of up to 16 commands that do nothing. */
+  /** Names of commands that do nothing, by whatever way they are meant. */
   readonly denied?: Iterable<string>;
+  /** What is shown of the page. */
+  readonly view?: ViewOptions;
+  /** Whether nothing can be edited: by default it can. */
+  readonly readOnly?: boolean;
+  /** Gives another engine where this one has stopped. */
+  readonly reload?: () => Promise<Engine>;
   /** After each event the region checks itself, and throws what differs. */
   readonly debug?: boolean;
+}
+
+/** What the user did, and what isn't done. A console is told, unless it is prevented. */
+export interface RefusedEvent extends Event {
+  /** The command that it comes to, or the kind of the input. */
+  readonly command: string;
+  /** `denied`, `impossible` where the selection is, or `unknown`. */
+  readonly reason: "denied" | "impossible" | "unknown";
+  /** The text that isn't inserted. */
+  readonly text: string;
 }
 
 export interface RegionEvents {
   /** The page has other nodes, attributes or texts now. */
   change: Event;
+  /** An input method composes, and `html` has other texts now. */
+  input: Event;
   /** The selection is another one. */
   selectionchange: Event;
-  /** States and values may have changed. */
+  /** States, values and `status` may have changed. */
   statechange: Event;
-  /** The engine refused what the user did. */
+  /** The engine refused what the user did, or stopped. A console is told, unless it is prevented. */
   error: ErrorEvent;
+  /** What the user did isn't done. */
+  refused: RefusedEvent;
+  /** The region goes on after the engine stopped. */
+  recovered: Event;
 }
 
 /** An editor behind an element of a page: its editing host, or what holds one. */
 export declare class Region extends EventTarget {
   constructor(engine: Engine, element: HTMLElement, choices?: Choices);
 
+  /** Whether a region can work in this browser, and what is missing. */
+  static isSupported(): { ok: boolean; missing: string[] };
+
+  /** The region of an element; null where it has none. */
+  static of(element: Element): Region | null;
+
   /** The element that was given. */
   get element(): HTMLElement;
 
   /** The editor, to read from. */
   get editor(): Editor;
+
+  /**
+   * `contested` where a script of the page undoes what is shown, until the user acts; `stopped` where
+   * the engine has stopped, until `recover`.
+   */
+  get status(): "ready" | "contested" | "stopped" | "closed";
+
+  /** Whether nothing can be edited. What is there can be selected and copied. */
+  get readOnly(): boolean;
+  set readOnly(isReadOnly: boolean);
+
+  /**
+   * Goes on after the engine stopped, with the one that the choice `reload` gives. The page stays, and
+   * its history is lost.
+   */
+  recover(): Promise<void>;
 
   /** Closes the editor. The element's children stay as they are. */
   close(): void;
@@ -96,8 +171,11 @@ export declare class Region extends EventTarget {
   /** The command's value: a font, a colour, the name of a block. */
   value(command: string): string;
 
-  /** The markup: what is in the element, where that is the editing host, and else the engine's page. */
-  html(): string;
+  /**
+   * The markup: what is in the element, where that is the editing host, and else the engine's page. It
+   * has what an input method composes, or with `composing: "without"` what was there before.
+   */
+  html(options?: { composing?: "with" | "without" }): string;
 
   /** Puts the focus into the region, where the engine's selection is. */
   focus(): void;

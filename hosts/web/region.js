@@ -16,91 +16,147 @@
  * `contenteditable` holds a whole page of the engine, with the editing hosts and what stands around
  * them.
  *
- * What the page gets of the engine's nodes is a view. It leaves out attributes whose names begin with
- * `on`, and addresses that run JavaScript, such as links with `javascript:`. So the engine's page
- * doesn't act while it is edited; but it isn't cleaned: `html` still has these attributes, and
- * elements that load something load it.
+ * What the page gets of the engine's nodes is a view: what the tables of shown.js have, and
+ * placeholders for the rest. So nothing in it acts, and `html` still has all.
  *
  * A region is an EventTarget, with these events:
  * - `change`: the page has other nodes, attributes or texts now;
+ * - `input`: an input method composes, and `html` has other texts now; `change` comes when it ends;
  * - `selectionchange`: the selection is another one;
- * - `statechange`: after both and after each command, for toolbars, as states and values may have
- *   changed;
- * - `error`, an ErrorEvent: the engine refused what the user did, and `error` says why. What the
- *   methods do throws it.
+ * - `statechange`: after both and after each command, for toolbars, as states, values and `status` may
+ *   have changed;
+ * - `error`, an ErrorEvent: the engine refused what the user did, or stopped, and `error` says why.
+ *   What the methods do throws it;
+ * - `refused`: what the user did isn't done, as `command`, `reason` and `text` say;
+ * - `recovered`: the region goes on after the engine stopped.
+ * A console is told of an `error` or a `refused` that nobody prevents.
  *
  * These of what differs from browsers stay as the engine has them: `formatBlock` drops classes and other
  * attributes of the block, `unlink` at a caret takes the link around it away, `outdent` of several
  * quoted blocks takes those with formats apart, and the elements for a style are the engine's.
  */
-import { HeditError } from "./hedit.js";
+import { BadArgument, EditorClosed, EngineStopped, HeditError } from "./hedit.js";
+import { Budget } from "./region_budget.js";
 import { Commands, HABITS } from "./region_commands.js";
-import { Halves, commandOfKey, isOfBrowser, meaningOf } from "./region_input.js";
-import { open } from "./region_open.js";
-import { isPartOfText, lockedPart } from "./region_places.js";
+import { Halves, commandOfKey, isOfBrowser, isOfField, meaningOf } from "./region_input.js";
+import { Lock } from "./region_lock.js";
+import { isCaret, isElement, isSame, windowOf } from "./region_nodes.js";
+import { isHost, open, pageOf, tagsOf } from "./region_open.js";
+import { disown, own, regionOf } from "./region_owner.js";
+import { Readback } from "./region_readback.js";
+import { Scroll } from "./region_scroll.js";
+import { Selections } from "./region_selection.js";
+import { MARK, adoptSheet } from "./region_sheet.js";
+import { Shown } from "./region_shown.js";
 import { Steps } from "./region_steps.js";
-import { View, difference, isCaret, isSame, isText } from "./region_view.js";
+import { missing } from "./region_support.js";
+import { View } from "./region_view.js";
 
 export { HABITS };
 
+/** @typedef {import("./clean.js").CleanOptions} CleanOptions */
 /** @typedef {import("./hedit.js").Editor} Editor */
 /** @typedef {import("./hedit.js").Engine} Engine */
 /** @typedef {import("./hedit.js").Limits} Limits */
 /** @typedef {import("./hedit.js").Point} Point */
 /** @typedef {import("./hedit.js").Selection} Selection */
 /** @typedef {import("./region_commands.js").Habits} Habits */
+/** @typedef {import("./region_input.js").Meaning} Meaning */
+/** @typedef {import("./region_shown.js").ViewOptions} ViewOptions */
 
 /**
  * What a region is made with, beside the habits:
- * - `html`: what the engine opens, by default the element's own markup; it has to be a page as
- *   docs/FORMATS.md says, and others throw PageRefused;
+ * - `html`: what the engine opens, by default the element's own markup;
+ * - `clean`: whether that is cleaned before, and how: by default it is in an editing host. What isn't
+ *   cleaned has to be a page as docs/FORMATS.md says, and others throw PageRefused;
  * - `labelCap`, `undoDepth`: those of `Engine.open`;
  * - `separator`: the element that Enter makes where no block is around the caret, by default `p`;
- * - `denied`: names of up to 16 commands that do nothing;
+ * - `denied`: names of commands that do nothing: they are asked for what is meant, by whatever way, and
+ *   not for what a command or a habit does inside itself;
+ * - `view`: what is shown of the page;
+ * - `readOnly`: whether nothing can be edited;
+ * - `reload`: gives another engine where this one has stopped;
  * - `debug`: after each event the region checks itself, and throws what differs.
  * @typedef {Partial<Habits> & Limits & {
  *   html?: string,
+ *   clean?: boolean | CleanOptions,
  *   separator?: "p" | "div",
  *   denied?: Iterable<string>,
+ *   view?: ViewOptions,
+ *   readOnly?: boolean,
+ *   reload?: () => Promise<Engine>,
  *   debug?: boolean,
  * }} Choices
  */
 
+/** The most changes of the page that wait to be looked at one by one. */
+const MOST_WAITING = 1000;
+
 /**
- * Whether an event is of a field in the region, which the browser edits.
- * @param {Event} event
+ * @param {Iterable<string>} names
+ * @returns {ReadonlySet<string>}
  */
-function isOfField({ target }) {
-  return target instanceof HTMLInputElement || target instanceof HTMLSelectElement;
+function deniedNames(names) {
+  const each = typeof names === "string" ? [] : [...names];
+  if (typeof names === "string" || each.some((name) => typeof name !== "string")) {
+    throw new TypeError("what is denied are several names of commands");
+  }
+  return new Set(each.map((name) => name.toLowerCase()));
 }
 
 /** An editor behind an element of a page. */
 export class Region extends EventTarget {
   #element;
 
-  #editor;
+  #choices;
 
-  #view;
+  #denied;
 
-  #commands;
+  /** The element's tags, where it is an editing host. */
+  #tags;
 
-  #isDebugged;
+  #shown;
+
+  #lock;
+
+  #scroll;
 
   #observer;
+
+  #budget;
+
+  /** @type {Editor} */
+  #editor;
+
+  /** @type {View} */
+  #view;
+
+  /** @type {Commands} */
+  #commands;
+
+  /** @type {Selections} */
+  #selections;
+
+  /** @type {Readback} */
+  #readback;
 
   /** Ends what listens to the page. */
   #ends = new AbortController();
 
-  /**
-   * The selection as the page had it when it was last read or shown, and as the engine has it: an end
-   * in a locked part is elsewhere there.
-   * @type {{ page: Selection, engine: Selection } | null}
-   */
-  #selected = null;
-
   #steps = new Steps();
 
   #halves = new Halves();
+
+  #isReadOnly = false;
+
+  /** Why the engine stopped. @type {EngineStopped | null} */
+  #stop = null;
+
+  /** What the page changed by itself and wasn't looked at yet. @type {MutationRecord[]} */
+  #waiting = [];
+
+  /** Whether it changed more than what waits. */
+  #isAdrift = false;
 
   /**
    * What the browser changed while an input method composes, and how many steps there were before.
@@ -121,24 +177,72 @@ export class Region extends EventTarget {
    */
   constructor(engine, element, choices = {}) {
     super();
-    const { html = element.innerHTML, separator = "p", debug = false, denied = [] } = choices;
-    const { undoDepth = 100, labelCap } = choices;
-    const limits = { undoDepth, ...(labelCap === undefined ? {} : { labelCap }) };
-    const { editor, root } = open(engine, element, html, limits);
-    editor.exec("defaultParagraphSeparator", separator);
+    const window = /** @type {Window & typeof globalThis} */ (windowOf(element));
     this.#element = element;
+    this.#choices = choices;
+    this.#denied = deniedNames(choices.denied ?? []);
+    this.#tags = isHost(element) ? tagsOf(element) : null;
+    const refresh = (/** @type {string} */ src) => this.#refreshImages(src);
+    this.#shown = new Shown(element.ownerDocument, choices.view ?? {}, refresh);
+    this.#lock = new Lock(element, this.#tags !== null);
+    this.#scroll = new Scroll(element, () => this.#selections.ends()?.focus ?? null);
+    const mend = () => this.#answer(() => this.#mend());
+    this.#budget = new Budget(window, mend, () => this.#giveIn());
+    this.#observer = new window.MutationObserver((records) => {
+      this.#answer(() => this.#observe(records));
+    });
+    own(element, this);
+    try {
+      const { html, clean = this.#tags !== null, view = {} } = choices;
+      const page = pageOf(html ?? element.innerHTML, clean, view);
+      this.#begin(engine, page, html === undefined);
+    } catch (error) {
+      disown(element);
+      throw error;
+    }
+    adoptSheet(element);
+    element.setAttribute(MARK, "");
+    this.#listen();
+    this.readOnly = choices.readOnly ?? false;
+    this.#read();
+  }
+
+  /**
+   * Opens a page in an engine, and shows it.
+   * @param {Engine} engine
+   * @param {string} html
+   * @param {boolean} isThere whether the element's nodes show it already
+   */
+  #begin(engine, html, isThere) {
+    const { undoDepth = 100, labelCap, separator = "p" } = this.#choices;
+    const limits = { undoDepth, ...(labelCap === undefined ? {} : { labelCap }) };
+    const { editor, root } = open(engine, this.#tags, html, limits);
+    editor.exec("defaultParagraphSeparator", separator);
+    const habits = { ...HABITS, ...this.#choices };
     this.#editor = editor;
-    this.#isDebugged = debug;
-    this.#view = new View(editor, element, root);
-    if (choices.html === undefined) {
+    this.#view = new View(editor, this.#element, root, this.#shown);
+    this.#commands = new Commands(editor, this.#view, habits, undoDepth);
+    this.#selections = new Selections(editor, this.#view, this.#commands);
+    this.#readback = new Readback(editor, this.#view, this.#commands, this.#selections);
+    this.#steps = new Steps();
+    if (isThere) {
       this.#view.adopt();
     }
     this.#view.follow();
-    const habits = { ...HABITS, ...choices };
-    this.#commands = new Commands(editor, this.#view, habits, [...denied], undoDepth);
-    this.#observer = new MutationObserver((records) => this.#answer(() => this.#mend(records)));
-    this.#listen();
-    this.#read();
+  }
+
+  /** Whether a region can work in this browser, and what is missing. */
+  static isSupported() {
+    const names = missing();
+    return { ok: names.length === 0, missing: names };
+  }
+
+  /**
+   * The region of an element; null where it has none.
+   * @param {Element} element
+   */
+  static of(element) {
+    return regionOf(element);
   }
 
   /** The element that was given. */
@@ -154,12 +258,83 @@ export class Region extends EventTarget {
   }
 
   /**
+   * What the region can do:
+   * - `ready`: all;
+   * - `contested`: a script of the page undoes what the region shows, which waits for the user's next
+   *   act;
+   * - `stopped`: the engine has stopped, and nothing can be edited until `recover`;
+   * - `closed`: nothing more.
+   */
+  get status() {
+    if (this.#ends.signal.aborted) {
+      return "closed";
+    }
+    return this.#stop ? "stopped" : this.#budget.isSpent ? "contested" : "ready";
+  }
+
+  /** Whether nothing can be edited. What is there can be selected and copied. */
+  get readOnly() {
+    return this.#isReadOnly;
+  }
+
+  set readOnly(isReadOnly) {
+    if (isReadOnly === this.#isReadOnly || this.status === "closed") {
+      return;
+    }
+    if (!this.#stop) {
+      this.#settle();
+    }
+    this.#isReadOnly = isReadOnly;
+    this.#lockUp();
+    this.dispatchEvent(new Event("statechange"));
+  }
+
+  /** Whether the user, or the host, can change something. */
+  get #isEditable() {
+    return !this.#isReadOnly && !this.#stop;
+  }
+
+  /**
    * Closes the editor. The element's children stay as they are, and nothing listens to them any more.
    */
   close() {
+    if (this.status === "closed") {
+      return;
+    }
     this.#ends.abort();
     this.#observer.disconnect();
+    this.#lock.lift();
+    this.#element.removeAttribute(MARK);
+    disown(this.#element);
     this.#editor.close();
+  }
+
+  /**
+   * Goes on after the engine stopped, with the one that the choice `reload` gives: the page is what it
+   * was, and its history is lost. Where a script of the page undoes what the region shows, it is shown
+   * again.
+   */
+  async recover() {
+    const { reload } = this.#choices;
+    if (this.status === "contested") {
+      this.#settle();
+    }
+    if (this.status !== "stopped") {
+      return;
+    }
+    if (!reload) {
+      throw new BadArgument("there is no choice `reload` to get an engine from");
+    }
+    const engine = await reload();
+    if (this.status === "stopped") {
+      this.#begin(engine, this.#view.html(), true);
+      this.#stop = null;
+      this.#lockUp();
+      this.#watch();
+      this.#read();
+      this.dispatchEvent(new Event("recovered"));
+      this.#tell(false, true);
+    }
   }
 
   /**
@@ -169,7 +344,11 @@ export class Region extends EventTarget {
    * @param {string} value
    */
   exec(command, value = "") {
-    switch (command.toLowerCase()) {
+    const name = command.toLowerCase();
+    if (this.#isDenied(name)) {
+      return false;
+    }
+    switch (name) {
       case "undo":
         return this.undo();
       case "redo":
@@ -177,7 +356,7 @@ export class Region extends EventTarget {
       case "forwarddelete":
         return this.#act(() => this.#deleteForward());
       default:
-        return this.#act(() => this.#commands.run(command.toLowerCase(), value));
+        return this.#act(() => this.#commands.run(name, value));
     }
   }
 
@@ -200,11 +379,17 @@ export class Region extends EventTarget {
    * @returns {T}
    */
   step(call) {
-    this.#settle();
+    if (this.#isEditable) {
+      this.#settle();
+    }
     const steps = this.#steps.length;
+    const commands = this.#commands;
+    const isWithin = commands.isInStep;
+    commands.isInStep = true;
     try {
       return call();
     } finally {
+      commands.isInStep = isWithin;
       this.#steps.join(steps);
     }
   }
@@ -212,13 +397,16 @@ export class Region extends EventTarget {
   /** Takes a step back. False where there is none. */
   undo() {
     const undo = () => this.#editor.undo();
-    return this.#turn(() => this.#steps.undo((most) => this.#commands.turn(most, undo)));
+    const take = (/** @type {number} */ most) => this.#commands.turn(most, undo);
+    const isThere = () => this.#steps.canUndo(this.#editor.counts().undo);
+    return !this.#isDenied("undo") && this.#turn(() => (isThere() ? this.#steps.undo(take) : undefined));
   }
 
   /** Takes a step forth again. False where there is none. */
   redo() {
     const redo = () => this.#editor.redo();
-    return this.#turn(() => this.#steps.redo((most) => this.#commands.turn(most, redo)));
+    const take = (/** @type {number} */ most) => this.#commands.turn(most, redo);
+    return !this.#isDenied("redo") && this.#turn(() => this.#steps.redo(take));
   }
 
   /**
@@ -226,15 +414,21 @@ export class Region extends EventTarget {
    * @param {string} command
    */
   enabled(command) {
-    switch (command.toLowerCase()) {
+    const name = command.toLowerCase();
+    return this.#isEditable && !this.#isDenied(name) && this.#ask(() => this.#isEnabled(name), false);
+  }
+
+  /** @param {string} name in lower case */
+  #isEnabled(name) {
+    switch (name) {
       case "undo":
-        return this.#editor.counts().undo > 0;
+        return this.#steps.canUndo(this.#editor.counts().undo);
       case "redo":
         return this.#editor.counts().redo > 0;
       case "forwarddelete":
         return this.#editor.enabled("delete");
       default:
-        return this.#editor.enabled(command);
+        return this.#editor.enabled(name);
     }
   }
 
@@ -243,7 +437,7 @@ export class Region extends EventTarget {
    * @param {string} command
    */
   state(command) {
-    return this.#editor.state(command);
+    return this.#ask(() => this.#editor.state(command), false);
   }
 
   /**
@@ -251,7 +445,7 @@ export class Region extends EventTarget {
    * @param {string} command
    */
   indeterm(command) {
-    return this.#editor.indeterm(command);
+    return this.#ask(() => this.#editor.indeterm(command), false);
   }
 
   /**
@@ -259,26 +453,42 @@ export class Region extends EventTarget {
    * @param {string} command
    */
   value(command) {
-    return this.#editor.value(command);
+    return this.#ask(() => this.#editor.value(command), "");
   }
 
   /**
    * The markup: what is in the element, where that is the editing host, and else the engine's page.
+   * It has what an input method composes, or with `composing: "without"` what was there before. It is
+   * there after the engine stopped too.
+   * @param {{ composing?: "with" | "without" }} options
    */
-  html() {
+  html({ composing = "with" } = {}) {
+    if (this.status === "closed") {
+      throw new EditorClosed();
+    }
+    if (this.status === "ready" && !this.#composing) {
+      this.#answer(() => this.#mend());
+    }
+    const isKept = this.#composing && (composing === "without" || this.#isDenied("inserttext"));
+    const isOfEngine = !this.#stop && (isKept || this.#budget.isSpent);
+    return isOfEngine ? this.#engineHtml() : this.#view.html();
+  }
+
+  #engineHtml() {
     const page = this.#editor.html().slice(0, -1);
-    const isWhole = this.#view.root === 0;
-    return isWhole ? page : page.replace(/^<(?:[^">]|"[^"]*")*>/, "").replace(/<\/[^<]*$/, "");
+    return this.#tags ? page.replace(/^<(?:[^">]|"[^"]*")*>/, "").replace(/<\/[^<]*$/, "") : page;
   }
 
   /** Puts the focus into the region, where the engine's selection is. */
   focus() {
-    const selection = this.#editor.selection();
+    const selection = this.#ask(() => this.#editor.selection(), null);
     const node = selection ? this.#view.place(selection.focus).node : this.#element;
-    const around = node instanceof Element ? node : node.parentElement;
+    const around = isElement(node) ? node : node.parentElement;
     const host = around?.closest('[contenteditable=""], [contenteditable="true"]');
     /** @type {HTMLElement} */ (host ?? this.#element).focus({ preventScroll: true });
-    this.#show(true);
+    if (selection) {
+      this.#selections.show(true);
+    }
   }
 
   /**
@@ -286,18 +496,9 @@ export class Region extends EventTarget {
    * selection. Null where there is none, and while an input method composes.
    */
   check() {
-    if (this.#composing) {
-      return null;
-    }
-    const page = this.#pageSelection();
-    if (page && !isSame(page, this.#selected?.page ?? null)) {
-      return `the page selects ${JSON.stringify(page)}, and that wasn't read`;
-    }
-    const engine = this.#editor.selection();
-    if (!isSame(engine, this.#selected?.engine ?? null)) {
-      return `the engine selects ${JSON.stringify(engine)}, and that isn't shown`;
-    }
-    return this.#view.difference();
+    return this.#composing || this.#stop
+      ? null
+      : (this.#selections.difference() ?? this.#view.difference());
   }
 
   // What the user does.
@@ -323,6 +524,10 @@ export class Region extends EventTarget {
       };
       this.#element.addEventListener(kind, answer, { signal });
     }
+    this.#watch();
+  }
+
+  #watch() {
     this.#observer.observe(this.#element, {
       attributes: true,
       characterData: true,
@@ -336,35 +541,78 @@ export class Region extends EventTarget {
    * @param {() => void} call
    */
   #answer(call) {
+    if (this.#stop || this.status === "closed") {
+      return;
+    }
     try {
       call();
     } catch (error) {
-      if (!(error instanceof HeditError)) {
+      if (this.#hasStopped()) {
+        this.#halt(error);
+      } else if (error instanceof HeditError) {
+        this.#tellError(error);
+      } else {
         throw error;
       }
-      this.dispatchEvent(new ErrorEvent("error", { error, message: error.message }));
     }
-    if (this.#isDebugged) {
+    if (this.#choices.debug && !this.#stop) {
       this.#debug();
     }
   }
 
+  /** @param {Error} error */
+  #tellError(error) {
+    const { message } = error;
+    const event = new ErrorEvent("error", { error, message, cancelable: true });
+    if (this.dispatchEvent(event)) {
+      console.warn(`hedit: ${message}`);
+    }
+  }
+
+  /**
+   * Tells that what the user did isn't done.
+   * @param {string} command
+   * @param {"denied" | "impossible" | "unknown"} reason
+   * @param {string} text
+   */
+  #refuse(command, reason, text = "") {
+    const event = Object.assign(new Event("refused", { cancelable: true }), { command, reason, text });
+    if (this.dispatchEvent(event)) {
+      console.warn(`hedit: ${command} wasn't done, as it is ${reason}`);
+    }
+    return false;
+  }
+
+  /** @param {readonly string[]} names */
+  #isDenied(...names) {
+    return names.some((name) => this.#denied.has(name.toLowerCase()));
+  }
+
   /** Throws what differs. A selection that the browser didn't tell of yet is read before. */
   #debug() {
+    if (this.#budget.isSpent || this.#composing) {
+      return;
+    }
     this.#read();
     const found = this.check();
-    if (found) {
-      throw new Error(found);
+    const [page, shown] = [this.#engineHtml(), this.#view.html()];
+    if (found || (page !== shown && this.#waiting.length === 0)) {
+      throw new Error(found ?? `${shown} is printed, and not ${page}`);
     }
   }
 
   /** @param {KeyboardEvent} event */
   #key(event) {
-    const command = commandOfKey(event);
-    if (command) {
-      event.preventDefault();
+    const command = this.#isEditable ? commandOfKey(event) : null;
+    if (!command) {
+      return;
+    }
+    event.preventDefault();
+    if (this.#isDenied(command)) {
+      this.#refuse(command, "denied");
+    } else {
       this.exec(command);
-      this.#view.reveal();
+      this.#scroll.reveal();
     }
   }
 
@@ -377,11 +625,30 @@ export class Region extends EventTarget {
       return;
     }
     event.preventDefault();
-    const steps = this.#steps.length;
     const meaning = meaningOf(event);
-    switch (meaning?.act) {
+    const steps = this.#steps.length;
+    if (!meaning) {
+      this.#refuse(event.inputType, "unknown");
+    } else if (this.#isDenied(...meaning.commands)) {
+      this.#refuse(meaning.commands[0], "denied", "text" in meaning ? meaning.text : "");
+    } else if (this.#isEditable) {
+      this.#do(event, meaning);
+    }
+    if (event.inputType === "insertFromDrop") {
+      this.#steps.join(this.#dragged ?? steps);
+    }
+    this.#dragged = event.inputType === "deleteByDrag" ? steps : null;
+    this.#scroll.reveal();
+  }
+
+  /**
+   * @param {InputEvent} event
+   * @param {Meaning} meaning
+   */
+  #do(event, meaning) {
+    switch (meaning.act) {
       case "command":
-        this.exec(meaning.command, meaning.value);
+        this.exec(meaning.commands[0], meaning.value);
         break;
       case "insert":
         this.#insert(event, meaning);
@@ -389,16 +656,9 @@ export class Region extends EventTarget {
       case "replace":
         this.#act(() => this.#replace(event, meaning.text));
         break;
-      case "delete":
-        this.#act(() => this.#delete(event, meaning));
-        break;
       default:
+        this.#act(() => this.#delete(event, meaning));
     }
-    if (event.inputType === "insertFromDrop") {
-      this.#steps.join(this.#dragged ?? steps);
-    }
-    this.#dragged = event.inputType === "deleteByDrag" ? steps : null;
-    this.#view.reveal();
   }
 
   /**
@@ -407,10 +667,13 @@ export class Region extends EventTarget {
    */
   #insert(event, { text, isAimed }) {
     const whole = this.#halves.join(text);
-    this.#act(() => {
+    const isDone = this.#act(() => {
       this.#aim(event, isAimed);
       return whole !== "" && this.#commands.type(whole);
     });
+    if (!isDone && whole !== "") {
+      this.#refuse("insertText", "impossible", whole);
+    }
   }
 
   /**
@@ -460,8 +723,8 @@ export class Region extends EventTarget {
     if (event) {
       return this.#deleteRange(event, false);
     }
-    if (isCaret(this.#editor.selection()) && this.#pageSelection()) {
-      this.#element.ownerDocument.getSelection()?.modify("extend", "forward", "character");
+    if (isCaret(this.#editor.selection())) {
+      this.#selections.extendForward();
       this.#read();
     }
     return !isCaret(this.#editor.selection()) && this.#commands.deleteSelection();
@@ -497,14 +760,14 @@ export class Region extends EventTarget {
 
   /** @param {ClipboardEvent} event */
   #copy(event) {
-    const page = this.#element.ownerDocument;
-    const selection = page.getSelection();
-    if (!selection || selection.isCollapsed || !this.#pageSelection() || !event.clipboardData) {
+    const range = this.#selections.range();
+    const text = this.#editor.selectionText();
+    if (!range || text === null || !event.clipboardData) {
       return false;
     }
-    const holder = page.createElement("div");
-    holder.append(selection.getRangeAt(0).cloneContents());
-    event.clipboardData.setData("text/plain", selection.toString());
+    const holder = this.#element.ownerDocument.createElement("div");
+    holder.append(range.cloneContents());
+    event.clipboardData.setData("text/plain", text);
     event.clipboardData.setData("text/html", holder.innerHTML);
     event.preventDefault();
     return true;
@@ -512,7 +775,12 @@ export class Region extends EventTarget {
 
   /** @param {ClipboardEvent} event */
   #cut(event) {
-    if (this.#copy(event)) {
+    if (!this.#copy(event)) {
+      return;
+    }
+    if (this.#isDenied("delete")) {
+      this.#refuse("delete", "denied");
+    } else {
       this.#act(() => this.#commands.deleteSelection());
     }
   }
@@ -524,10 +792,13 @@ export class Region extends EventTarget {
    * a part of one: then the engine puts what is composed in its place at once.
    */
   #compose() {
+    if (!this.#isEditable) {
+      return;
+    }
     this.#settle();
     const steps = this.#steps.length;
-    const selection = this.#element.ownerDocument.getSelection();
-    if (!isCaret(this.#editor.selection()) && !isPartOfText(selection)) {
+    const isWhole = !isCaret(this.#editor.selection()) && !this.#selections.isPartOfText();
+    if (isWhole && !this.#isDenied("inserttext")) {
       this.#act(() => this.#commands.deleteSelection());
     }
     this.#composing = { records: [], steps };
@@ -543,106 +814,185 @@ export class Region extends EventTarget {
     }
     const { records, steps } = this.#composing;
     this.#composing = null;
-    this.#mend([...records, ...this.#observer.takeRecords()], text);
+    this.#note(records);
+    this.#mend(text);
     this.#steps.join(steps);
   }
 
   /**
-   * Reads back what the browser changed by itself, where it is in one text, and shows the engine's
-   * nodes again in all that it changed.
+   * Hears what the page changed by itself. While an input method composes, that is the browser's.
    * @param {readonly MutationRecord[]} records
-   * @param {string | null} composed what an input method gave, where one did it
    */
-  #mend(records, composed = null) {
+  #observe(records) {
+    this.#note(records);
     if (this.#composing) {
-      this.#composing.records.push(...records);
-      return;
+      this.#composing.records.push(...this.#waiting.splice(0));
+      this.dispatchEvent(new Event("input"));
+    } else if ((this.#waiting.length > 0 || this.#isAdrift) && this.#budget.take()) {
+      this.#mend();
     }
+  }
+
+  /**
+   * Keeps what the page changed, but for the element's own attributes: these are the page's.
+   * @param {readonly MutationRecord[]} records
+   */
+  #note(records) {
     const isPages = (/** @type {MutationRecord} */ { type, target }) =>
       type === "attributes" && target === this.#element;
-    const ours = records.filter((record) => !isPages(record));
-    if (ours.length === 0) {
+    this.#waiting.push(...records.filter((record) => !isPages(record)));
+    if (this.#waiting.length > MOST_WAITING && !this.#composing) {
+      this.#waiting = [];
+      this.#isAdrift = true;
+    }
+  }
+
+  /**
+   * Reads back what the page changed by itself, where it is in one text, and shows the engine's nodes
+   * again in all that it changed.
+   * @param {string | null} composed what an input method gave, where one did it
+   */
+  #mend(composed = null) {
+    this.#note(this.#observer.takeRecords());
+    const [records, isAdrift] = [this.#waiting.splice(0), this.#isAdrift];
+    this.#isAdrift = false;
+    if (records.length === 0 && !isAdrift) {
       return;
     }
-    const write = this.#changeOfText(ours) ?? this.#composedElsewhere(ours, composed);
-    const labels = ours.flatMap(({ target }) => this.#view.nearest(target) ?? []);
-    for (const label of new Set(labels)) {
+    const isRead = !isAdrift && this.#isEditable;
+    const write = isRead ? this.#readback.writeOf(records, composed) : null;
+    const labels = records.flatMap(({ target }) => this.#view.nearest(target) ?? []);
+    for (const label of new Set(isAdrift ? [this.#view.root] : labels)) {
       this.#view.mend(label);
     }
     this.#observer.takeRecords();
-    this.#finish(write ?? (() => false));
+    const isDenied = write !== null && this.#isDenied(write.command);
+    this.#finish(write && !isDenied ? write.call : () => false);
+    if (isDenied) {
+      this.#refuse(write.command, "denied", composed ?? "");
+    }
   }
 
-  /**
-   * What writes the change into the engine where the browser changed one text, and nothing else but
-   * attributes; null where it did something else.
-   * @param {readonly MutationRecord[]} records
-   * @returns {(() => boolean) | null}
-   */
-  #changeOfText(records) {
-    const inTexts = records.filter(({ type }) => type !== "attributes");
-    const [text, ...others] = new Set(inTexts.map(({ target }) => target));
-    const label = isText(text) ? this.#view.label(text) : undefined;
-    if (!isText(text) || others.length > 0 || label === undefined || !this.#view.nearest(text)) {
-      return null;
-    }
-    const [old, now] = [this.#editor.nodeValue(label), text.data];
-    const selection = this.#element.ownerDocument.getSelection();
-    const isThere = selection?.isCollapsed && selection.focusNode === text;
-    const change = difference(old, now, isThere ? now.length - selection.focusOffset : undefined);
-    const shown = this.#pageSelection();
-    return () => this.#commands.takeOver(text, change, shown);
-  }
-
-  /**
-   * What writes into the engine what an input method did otherwise than in one text: a text of its
-   * own, or else what it gave, so that no word is lost where something else changed meanwhile.
-   * @param {readonly MutationRecord[]} records
-   * @param {string | null} composed
-   * @returns {(() => boolean) | null}
-   */
-  #composedElsewhere(records, composed) {
-    if (composed === null) {
-      return null;
-    }
-    const typed = composed === "" ? null : () => this.#commands.type(composed);
-    return this.#newText(records) ?? typed;
-  }
-
-  /**
-   * What writes a text into the engine that an input method began where there was none; null where it
-   * did something else.
-   * @param {readonly MutationRecord[]} records
-   * @returns {(() => boolean) | null}
-   */
-  #newText(records) {
-    const added = new Set(records.flatMap(({ addedNodes }) => [...addedNodes]));
-    const there = [...added].filter((node) => this.#element.contains(node));
-    const [text, ...others] = there.filter((node) => this.#view.label(node) === undefined);
-    if (!isText(text) || text.length === 0 || others.some((node) => node.nodeName !== "BR")) {
-      return null;
-    }
-    const { data } = text;
-    const isThere = this.#element.ownerDocument.getSelection()?.focusNode === text;
-    const shown = isThere ? null : this.#pageSelection();
-    return () => {
-      const isDone = this.#commands.type(data);
-      if (shown) {
-        this.#commands.selectAgain(shown);
-      }
-      return isDone;
-    };
+  /** Begins to rest, as a script of the page undoes each mend. */
+  #giveIn() {
+    console.warn("hedit: a script of the page undoes what the region shows");
+    this.dispatchEvent(new Event("statechange"));
   }
 
   // What comes of it.
 
   /**
-   * Does something as one step of undo, and says what it answers.
+   * Does something as one step of undo, and says what it answers. False where nothing can be edited.
    * @param {() => boolean} call
    */
   #act(call) {
-    this.#settle();
-    return this.#finish(call);
+    if (!this.#isEditable) {
+      return false;
+    }
+    return this.#guard(() => {
+      this.#settle();
+      return this.#finish(call);
+    });
+  }
+
+  /**
+   * Does what asks the engine. Where that stops on the way, the region does too.
+   * @template T
+   * @param {() => T} call
+   * @returns {T}
+   */
+  #guard(call) {
+    try {
+      return call();
+    } catch (error) {
+      throw this.#hasStopped() ? this.#halt(error) : error;
+    }
+  }
+
+  /**
+   * What a question is answered; something else where the engine has stopped.
+   * @template T
+   * @param {() => T} question
+   * @param {T} other
+   * @returns {T}
+   */
+  #ask(question, other) {
+    if (this.#stop) {
+      return other;
+    }
+    try {
+      return this.#guard(question);
+    } catch (error) {
+      if (error instanceof EngineStopped) {
+        return other;
+      }
+      throw error;
+    }
+  }
+
+  /** Whether the engine has stopped, here or in another of its editors. */
+  #hasStopped() {
+    try {
+      this.#editor.revision();
+      return false;
+    } catch (error) {
+      return error instanceof EngineStopped;
+    }
+  }
+
+  /**
+   * Lets nothing be edited any more. What the page shows stays.
+   * @param {unknown} cause
+   */
+  #halt(cause) {
+    const isNews = this.#stop === null;
+    const why = cause instanceof EngineStopped ? cause : new EngineStopped("the engine has stopped", { cause });
+    this.#stop ??= why;
+    if (isNews) {
+      this.#observer.disconnect();
+      this.#composing = null;
+      this.#lockUp();
+      this.#tellError(this.#stop);
+      this.dispatchEvent(new Event("statechange"));
+    }
+    return this.#stop;
+  }
+
+  /** Has the page say whether it can be edited. */
+  #lockUp() {
+    const isLocked = !this.#isEditable;
+    if (isLocked) {
+      this.#lock.set();
+    } else {
+      this.#lock.lift();
+    }
+    if (isLocked !== this.#shown.isLocked) {
+      this.#shown.isLocked = isLocked;
+      this.#quietly(() => this.#view.refresh(({ attributes }) => attributes.has("contenteditable")));
+    }
+  }
+
+  /**
+   * Shows an image from another address.
+   * @param {string} src
+   */
+  #refreshImages(src) {
+    if (this.status !== "closed") {
+      this.#quietly(() => this.#view.refresh((content) => content.attributes.get("src") === src));
+    }
+  }
+
+  /**
+   * Changes the page otherwise than to show what the engine did.
+   * @param {() => void} call
+   */
+  #quietly(call) {
+    const records = this.#observer.takeRecords();
+    call();
+    this.#observer.takeRecords();
+    if (records.length > 0) {
+      this.#answer(() => this.#observe(records));
+    }
   }
 
   /** Reads what the browser did that wasn't told yet. */
@@ -650,7 +1000,9 @@ export class Region extends EventTarget {
     if (this.#composing) {
       this.#composed();
     }
-    this.#mend(this.#observer.takeRecords());
+    this.#isAdrift ||= this.#budget.isSpent;
+    this.#budget.reset();
+    this.#mend();
     this.#read();
   }
 
@@ -660,13 +1012,21 @@ export class Region extends EventTarget {
     try {
       return call();
     } finally {
-      this.#observer.takeRecords();
-      this.#show();
-      const { entries, isChanged } = this.#commands.take();
-      const after = this.#editor.selection();
-      this.#steps.note({ entries, before, after }, isChanged);
-      this.#tell(isChanged, !isSame(before, after));
+      if (!this.#hasStopped()) {
+        this.#conclude(before);
+      }
     }
+  }
+
+  /** @param {Selection | null} before what was selected */
+  #conclude(before) {
+    this.#observer.takeRecords();
+    this.#selections.show();
+    const { entries, isChanged } = this.#commands.take();
+    const after = this.#editor.selection();
+    this.#steps.note({ entries, before, after }, isChanged);
+    this.#steps.fit(this.#editor.counts().undo);
+    this.#tell(isChanged, !isSame(before, after));
   }
 
   /**
@@ -697,80 +1057,10 @@ export class Region extends EventTarget {
     });
   }
 
-  /**
-   * The selection that the page shows, as points; null where it is elsewhere.
-   * @returns {Selection | null}
-   */
-  #pageSelection() {
-    const selection = this.#element.ownerDocument.getSelection();
-    const anchor = selection && this.#view.point(selection.anchorNode, selection.anchorOffset);
-    const focus = selection && this.#view.point(selection.focusNode, selection.focusOffset);
-    return anchor && focus ? { anchor, focus } : null;
-  }
-
-  /**
-   * Selects what the page shows as selected. The same again isn't selected: that would end the
-   * typing.
-   */
+  /** Selects what the page shows as selected. */
   #read() {
-    const page = this.#composing ? null : this.#pageSelection();
-    if (!page || isSame(page, this.#selected?.page ?? null)) {
-      return;
-    }
-    const before = this.#editor.selection();
-    this.#commands.select(isCaret(page) ? this.#view.inBlock(page) : page);
-    if (!this.#editor.enabled("delete")) {
-      this.#commands.select(this.#withoutLocked(page));
-    }
-    const engine = /** @type {Selection} */ (this.#editor.selection());
-    this.#selected = { page, engine };
-    if (!isSame(before, engine)) {
+    if (!this.#composing && this.#selections.read()) {
       this.#tell(false, true);
-    }
-  }
-
-  /**
-   * A selection with an end in a locked part, and one outside of it: the former end is put beside the
-   * part, so that the part stays out.
-   * @param {Selection} selection
-   * @returns {Selection}
-   */
-  #withoutLocked({ anchor, focus }) {
-    const { element } = this.#view;
-    const ends = [anchor, focus].map((point) => this.#view.place(point).node);
-    const parts = ends.map((node) => lockedPart(node, element));
-    const part = parts[0] ?? parts[1];
-    const other = parts[0] ? ends[1] : ends[0];
-    if (!part || !part.parentNode || (parts[0] && parts[1])) {
-      return { anchor, focus };
-    }
-    const isBehind = other.compareDocumentPosition(part) & Node.DOCUMENT_POSITION_FOLLOWING;
-    const index = [...part.parentNode.childNodes].indexOf(part) + (isBehind ? 0 : 1);
-    const beside = this.#view.point(part.parentNode, index) ?? anchor;
-    return parts[0] ? { anchor: beside, focus } : { anchor, focus: beside };
-  }
-
-  /**
-   * Shows the engine's selection where the page's selection is in the region, or at any rate. The
-   * focus stays where it is, as in a toolbar.
-   * @param {boolean} always
-   */
-  #show(always = false) {
-    const engine = this.#editor.selection();
-    this.#selected = engine && { page: this.#view.shown(engine), engine };
-    const page = this.#element.ownerDocument;
-    const selection = page.getSelection();
-    const active = page.activeElement;
-    const around = [active, selection?.anchorNode ?? null];
-    const isHere = around.some((node) => this.#element.contains(node));
-    const isShown = !always && isSame(this.#selected?.page ?? null, this.#pageSelection());
-    if (!engine || !selection || isShown || !(always || isHere)) {
-      return;
-    }
-    const [anchor, focus] = [engine.anchor, engine.focus].map((point) => this.#view.place(point));
-    selection.setBaseAndExtent(anchor.node, anchor.offset, focus.node, focus.offset);
-    if (!always && active instanceof HTMLElement && active !== page.activeElement) {
-      active.focus({ preventScroll: true });
     }
   }
 }

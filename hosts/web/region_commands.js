@@ -14,7 +14,7 @@ import {
   leafBefore,
   lockedPart,
 } from "./region_places.js";
-import { isBlock, isCaret, isCharacters, isSame, isText } from "./region_view.js";
+import { isBlock, isCaret, isCharacters, isElement, isSame, isText } from "./region_nodes.js";
 
 /** @typedef {import("./hedit.js").Counts} Counts */
 /** @typedef {import("./hedit.js").Editor} Editor */
@@ -126,8 +126,6 @@ export class Commands {
 
   #habits;
 
-  #denied;
-
   #undoDepth;
 
   /** Whether the next `insertText` goes on with the last entry of the history. */
@@ -136,18 +134,22 @@ export class Commands {
   /** What came of the commands. */
   #done = { entries: 0, isChanged: false };
 
+  /** Whether the next command may go on with the entry of the last one. */
+  #isJoinable = false;
+
+  /** Whether commands go on with those of the acts before, as one step of the host's. */
+  isInStep = false;
+
   /**
    * @param {Editor} editor
    * @param {View} view
    * @param {Habits} habits
-   * @param {readonly string[]} denied
    * @param {number} undoDepth
    */
-  constructor(editor, view, habits, denied, undoDepth) {
+  constructor(editor, view, habits, undoDepth) {
     this.#editor = editor;
     this.#view = view;
     this.#habits = habits;
-    this.#denied = denied;
     this.#undoDepth = undoDepth;
   }
 
@@ -158,16 +160,21 @@ export class Commands {
   take() {
     const done = this.#done;
     this.#done = { entries: 0, isChanged: false };
+    this.#isJoinable &&= this.isInStep;
     return done;
   }
 
   /**
-   * Executes a command of the engine, and shows what it did.
+   * Executes a command of the engine, and shows what it did. Where the command before made an entry of
+   * the history for this act and nothing was selected since, the two share it.
    * @param {string} name
    * @param {string} value
    */
   exec(name, value = "") {
-    return this.#do(name, () => this.#editor.exec(name, value, this.#denied));
+    const isJoined = this.#isJoinable && name.toLowerCase() !== "inserttext";
+    const call = () =>
+      isJoined ? this.#editor.execJoined(name, value) : this.#editor.exec(name, value);
+    return this.#do(name, call, isJoined);
   }
 
   /**
@@ -177,22 +184,21 @@ export class Commands {
    * @param {string} text
    */
   #exchange({ anchor, focus }, text) {
-    const isDenied = this.#denied.some((name) => name.toLowerCase() === "inserttext");
-    const call = () => this.#editor.replace(anchor, focus, plain(text));
-    return !isDenied && this.#do("insertText", call);
+    return this.#do("insertText", () => this.#editor.replace(anchor, focus, plain(text)));
   }
 
   /**
    * Shows what a call of the engine did, which is a command.
    * @param {string} name
    * @param {() => boolean} call
+   * @param {boolean} isJoined
    */
-  #do(name, call) {
+  #do(name, call, isJoined = false) {
     const before = this.#editor.counts();
     const isDone = call();
     if (isDone) {
       const isChanged = this.#view.follow();
-      this.#note(name.toLowerCase(), before, isChanged);
+      this.#note(name.toLowerCase(), before, isChanged && !isJoined);
       this.#done.isChanged ||= isChanged;
     }
     return isDone;
@@ -211,6 +217,7 @@ export class Commands {
     const isMore = this.#editor.counts().undo > before.undo;
     const isNew = isMore || (isFull && isChanged && !(isText && this.#isTyping));
     this.#done.entries += Number(isNew);
+    this.#isJoinable ||= isNew;
     this.#isTyping = isText && (this.#isTyping || isChanged);
   }
 
@@ -218,6 +225,7 @@ export class Commands {
   select({ anchor, focus }) {
     this.#editor.select(anchor, focus);
     this.#isTyping = false;
+    this.#isJoinable = false;
   }
 
   /**
@@ -244,6 +252,7 @@ export class Commands {
    */
   turn(most, call) {
     this.#isTyping = false;
+    this.#isJoinable = false;
     let turned = 0;
     while (turned < most && call()) {
       turned += 1;
@@ -337,7 +346,7 @@ export class Commands {
     }
     const anchor = this.#view.place(selection.anchor);
     const focus = this.#view.place(selection.focus);
-    const range = new Range();
+    const range = this.#view.element.ownerDocument.createRange();
     range.setStart(anchor.node, anchor.offset);
     return range.comparePoint(focus.node, focus.offset) < 0 ? [focus, anchor] : [anchor, focus];
   }
@@ -373,11 +382,16 @@ export class Commands {
     }
   }
 
+  /** @param {Node} node */
+  #linkAround(node) {
+    return this.#view.around(node, (each) => this.#view.isLink(each));
+  }
+
   /** Puts a caret at the end of a link behind it. */
   #leaveLink() {
     const place = this.#isCaret() ? this.#focus() : null;
-    const link = place && isText(place.node) ? place.node.parentElement?.closest("a[href]") : null;
-    if (!place || !link || link === this.#view.element) {
+    const link = place && isText(place.node) ? this.#linkAround(place.node) : null;
+    if (!place || !link) {
       return;
     }
     let { node, offset } = place;
@@ -499,7 +513,7 @@ export class Commands {
    * @returns {Style}
    */
   #style() {
-    const link = elementOf(this.#focus()?.node ?? this.#view.element).closest("a[href]");
+    const link = this.#linkAround(this.#focus()?.node ?? this.#view.element);
     const isOwn = (/** @type {string} */ name) => !(link && OF_LINKS.has(name));
     return {
       block: this.#editor.value("formatBlock"),
@@ -598,7 +612,7 @@ export class Commands {
     let child = node.childNodes[offset - 1] ?? null;
     let isLink = false;
     while (child && !isBlock(child) && !isText(child)) {
-      isLink ||= child instanceof HTMLAnchorElement && child.isContentEditable;
+      isLink ||= this.#view.nameOf(child) === "a" && elementOf(child).isContentEditable;
       child = child.lastChild;
       while (child?.previousSibling && isEmpty(child)) {
         child = child.previousSibling;
@@ -633,7 +647,7 @@ export class Commands {
       return { node, offset };
     }
     const block = this.#view.blockOf(node);
-    const walker = document.createTreeWalker(block);
+    const walker = this.#view.element.ownerDocument.createTreeWalker(block);
     const child = isCharacters(node) ? null : node.childNodes[offset - 1];
     const leaf = child ? lastLeaf(child) : null;
     walker.currentNode = leaf ?? node;
@@ -642,7 +656,7 @@ export class Commands {
         const isInLine = this.#view.blockOf(at) === block && elementOf(at).isContentEditable;
         return isInLine ? { node: at, offset: at.length } : null;
       }
-      if (at instanceof Element && (at.childNodes.length === 0 || isBlock(at))) {
+      if (isElement(at) && (at.childNodes.length === 0 || isBlock(at))) {
         return null;
       }
     }
@@ -669,9 +683,18 @@ export class Commands {
    * The item that the caret is at the start of, where it follows another one without a list in it.
    */
   #itemToJoin() {
-    const item = this.#startedAtCaret((node) => node instanceof HTMLLIElement);
+    const item = this.#startedAtCaret((node) => this.#view.nameOf(node) === "li");
     const before = item?.previousElementSibling;
-    return before instanceof HTMLLIElement && !before.querySelector("ul, ol") ? item : null;
+    return before && this.#view.nameOf(before) === "li" && !this.#listIn(before) ? item : null;
+  }
+
+  /**
+   * The first list in an item.
+   * @param {Element} item
+   */
+  #listIn(item) {
+    const isList = (/** @type {Element} */ each) => /^[uo]l$/.test(this.#view.nameOf(each));
+    return [...item.querySelectorAll("*")].find(isList);
   }
 
   /** Selects what a user sees as one character behind a caret in a text. */
@@ -709,9 +732,9 @@ export class Commands {
   #indent() {
     const selection = this.#editor.selection();
     const ends = this.#habits.indentSublists ? this.#ends() : null;
-    const item = ends && elementOf(ends[1].node).closest("li");
-    const list = item?.querySelector("ul, ol");
-    if (!selection || !ends || !item || !list || !this.#view.element.contains(item)) {
+    const isItem = (/** @type {Node} */ node) => this.#view.nameOf(node) === "li";
+    const item = ends && this.#view.around(ends[1].node, isItem);
+    if (!selection || !ends || !item || !this.#listIn(item)) {
       return this.exec("indent");
     }
     const last = lastLeaf(item);
@@ -741,10 +764,13 @@ export class Commands {
     const ends = this.#habits.outdentWhole ? this.#ends() : null;
     const [first, last] = ends?.map(({ node }) => this.#view.blockOf(node)) ?? [];
     const quote = first?.parentNode;
-    if (!(first instanceof HTMLElement) || first !== last || !(quote instanceof HTMLQuoteElement)) {
+    if (!isElement(first) || first !== last || !quote || this.#view.nameOf(quote) !== "blockquote") {
       return null;
     }
-    const around = elementOf(/** @type {Node} */ (quote.parentNode)).closest("blockquote, li, dd, dt");
-    return first.querySelector(":not(br)") && !around ? first : null;
+    const isAround = (/** @type {Node} */ node) =>
+      /^(blockquote|li|dd|dt)$/.test(this.#view.nameOf(node));
+    const isOther = (/** @type {Element} */ each) => this.#view.nameOf(each) !== "br";
+    const hasFormats = [...first.querySelectorAll("*")].some(isOther);
+    return hasFormats && !this.#view.around(quote.parentNode, isAround) ? first : null;
   }
 }

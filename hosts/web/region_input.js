@@ -6,11 +6,12 @@
 /**
  * What an input asks for: a command, a text in place of what is selected or of the range that the
  * input names, or to delete that. `isAimed` says that the range of its own is meant, whatever is
- * selected, and `replace` means that too: a text that stands there is corrected.
- * @typedef {{ act: "command", command: string, value: string }
+ * selected, and `replace` means that too: a text that stands there is corrected. `commands` are those
+ * that it comes to.
+ * @typedef {{ commands: string[] } & ({ act: "command", value: string }
  *   | { act: "insert", text: string, isAimed: boolean }
  *   | { act: "replace", text: string }
- *   | { act: "delete", by: "backward" | "forward" | "range", isAimed: boolean }} Meaning
+ *   | { act: "delete", by: "backward" | "forward" | "range", isAimed: boolean })} Meaning
  */
 
 /** The commands of the kinds that say all by their names. */
@@ -58,6 +59,15 @@ const INSERTIONS = new Map([
 const CORRECTIONS = new Set(["insertReplacementText", "insertTranspose"]);
 
 /**
+ * Whether an event is of a field in the region, which the browser edits.
+ * @param {Event} event
+ */
+export function isOfField({ target }) {
+  const { localName } = /** @type {Partial<Element>} */ (target ?? {});
+  return /^(?:input|select|textarea)$/.test(localName ?? "");
+}
+
+/**
  * Whether an input is the browser's own: it can't be prevented, or belongs to what an input method
  * composes.
  * @param {InputEvent} event
@@ -76,16 +86,19 @@ export function meaningOf(event) {
   const text = event.data ?? event.dataTransfer?.getData("text/plain") ?? "";
   const isAimed = INSERTIONS.get(kind);
   if (isAimed !== undefined) {
-    return { act: "insert", text, isAimed };
+    return { act: "insert", commands: ["insertText"], text, isAimed };
   }
   if (CORRECTIONS.has(kind)) {
-    return { act: "replace", text };
+    return { act: "replace", commands: ["insertText"], text };
   }
   if (kind.startsWith("delete")) {
-    return { act: "delete", by: extentOf(kind), isAimed: kind === "deleteByDrag" };
+    const by = extentOf(kind);
+    const commands = by === "forward" ? ["forwardDelete", "delete"] : ["delete"];
+    return { act: "delete", commands, by, isAimed: kind === "deleteByDrag" };
   }
   const command = COMMANDS.get(kind) ?? VALUED.get(kind);
-  return command ? { act: "command", command, value: VALUED.has(kind) ? text : "" } : null;
+  const value = VALUED.has(kind) ? text : "";
+  return command ? { act: "command", commands: [command], value } : null;
 }
 
 /** @param {string} kind */

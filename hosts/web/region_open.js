@@ -1,34 +1,62 @@
 /** The editor that a region begins with, for region.js. */
+import { cleanPage } from "./clean.js";
 import { BadArgument, PageRefused } from "./hedit.js";
+import { startTag } from "./region_print.js";
 
+/** @typedef {import("./clean.js").CleanOptions} CleanOptions */
 /** @typedef {import("./hedit.js").Editor} Editor */
 /** @typedef {import("./hedit.js").Engine} Engine */
 /** @typedef {import("./hedit.js").Limits} Limits */
+
+/** An attribute of the element that the engine reads too. Others are the page's alone. */
+const READ = /^[a-z][a-z\d-]*$/;
 
 /**
  * Whether an element is an editing host.
  * @param {Element} element
  */
-function isHost(element) {
+export function isHost(element) {
   return ["", "true"].includes(element.getAttribute("contenteditable") ?? "false");
+}
+
+/**
+ * The tags around what an editing host holds.
+ * @param {Element} host
+ * @returns {readonly [string, string]}
+ */
+export function tagsOf(host) {
+  const names = host.getAttributeNames().filter((name) => READ.test(name));
+  const attributes = new Map(names.map((name) => [name, host.getAttribute(name) ?? ""]));
+  return [startTag({ name: host.localName, attributes }), `</${host.localName}>`];
+}
+
+/**
+ * A page as the engine is given it: cleaned, unless the host wants it as it is.
+ * @param {string} html
+ * @param {boolean | CleanOptions} clean
+ * @param {import("./shown.js").Allowed} allowed what is shown, and so stays
+ */
+export function pageOf(html, clean, { classes, relative }) {
+  if (clean === false) {
+    return html;
+  }
+  return cleanPage(html, { classes, relative, ...(clean === true ? {} : clean) });
 }
 
 /**
  * The editor of what an element is to hold, and the label of the node whose children are the
  * element's.
  * @param {Engine} engine
- * @param {HTMLElement} element
+ * @param {readonly [string, string] | null} tags those of the element, where it is an editing host
  * @param {string} html
  * @param {Limits} limits
  * @returns {{ editor: Editor, root: number }}
  */
-export function open(engine, element, html, limits) {
-  if (!isHost(element)) {
+export function open(engine, tags, html, limits) {
+  if (!tags) {
     return { editor: engine.open(html, limits), root: 0 };
   }
-  const shell = /** @type {HTMLElement} */ (element.cloneNode(false)).outerHTML;
-  const end = shell.lastIndexOf("</");
-  const editor = openWithin(engine, [shell.slice(0, end), shell.slice(end)], html, limits);
+  const editor = openWithin(engine, tags, html, limits);
   const { firstChild, lastChild } = editor.node(0);
   if (firstChild === null || firstChild !== lastChild) {
     editor.close();

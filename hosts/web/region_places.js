@@ -2,7 +2,7 @@
  * Nodes of a page and places in them, for region.js: where a node stands among others, and what is
  * at a start, at an end or in a part that can't be edited.
  */
-import { isCharacters, isText } from "./region_view.js";
+import { isCharacters, isElement, isText, windowOf } from "./region_nodes.js";
 
 /** @typedef {{ node: Node, offset: number }} NodePlace */
 
@@ -17,7 +17,7 @@ export function indexOf(node) {
 
 /** @param {Node} node */
 export function elementOf(node) {
-  return node instanceof HTMLElement ? node : /** @type {HTMLElement} */ (node.parentElement);
+  return isElement(node) ? node : /** @type {HTMLElement} */ (node.parentElement);
 }
 
 /**
@@ -49,7 +49,8 @@ export function isEnd({ node, offset }) {
  * @param {Text} text
  */
 export function isCollapsing(text) {
-  return /^(normal|nowrap|pre-line)$/.test(getComputedStyle(elementOf(text)).whiteSpace);
+  const { whiteSpace } = windowOf(text).getComputedStyle(elementOf(text));
+  return /^(normal|nowrap|pre-line)$/.test(whiteSpace);
 }
 
 /**
@@ -86,23 +87,11 @@ export function leafBefore(node, root) {
  */
 export function lockedPart(node, root) {
   let at = elementOf(node);
-  if (at.isContentEditable) {
+  if (at.isContentEditable || !root.contains(at)) {
     return null;
   }
   while (at !== root && !elementOf(/** @type {Node} */ (at.parentNode)).isContentEditable) {
     at = elementOf(/** @type {Node} */ (at.parentNode));
   }
   return at === root ? null : at;
-}
-
-/**
- * Whether a part of one text is selected, and not all of it.
- * @param {globalThis.Selection | null} selection
- */
-export function isPartOfText(selection) {
-  const text = selection?.anchorNode ?? null;
-  if (!selection || !isText(text) || selection.focusNode !== text) {
-    return false;
-  }
-  return Math.abs(selection.anchorOffset - selection.focusOffset) < text.length;
 }

@@ -11,7 +11,7 @@
  */
 
 /**
- * A step that isn't known, as one from before the region.
+ * A step that isn't known, as one that the host made by the editor itself.
  * @type {Readonly<Step>}
  */
 const ONE_ENTRY = Object.freeze({ entries: 1, before: null, after: null });
@@ -30,9 +30,18 @@ export class Steps {
    */
   #undone = [];
 
-  /** How many steps there are to undo, for `join`. */
+  /** How many entries of the history those that are done have. */
+  #entries = 0;
+
+  /** How many entries at the start of the history are the rest of a step that isn't whole any more. */
+  #rest = 0;
+
+  /** How many steps the history has lost. */
+  #lost = 0;
+
+  /** How many steps there are or were to undo, for `join`. */
   get length() {
-    return this.#done.length;
+    return this.#lost + this.#done.length;
   }
 
   /**
@@ -44,6 +53,7 @@ export class Steps {
     const last = this.#done.at(-1);
     if (step.entries > 0) {
       this.#done.push(step);
+      this.#entries += step.entries;
       this.#undone = [];
     } else if (isChanged && last) {
       last.after = step.after;
@@ -51,15 +61,48 @@ export class Steps {
   }
 
   /**
-   * Makes one step of those from one on.
+   * Forgets the steps of which the history has lost entries: no step is taken back in part.
+   * @param {number} entries how many entries there are to undo
+   */
+  fit(entries) {
+    const isCut = this.#entries > entries;
+    while (this.#entries > entries) {
+      this.#entries -= /** @type {Step} */ (this.#done.shift()).entries;
+      this.#lost += 1;
+    }
+    const others = entries - this.#entries;
+    this.#rest = isCut ? others : Math.min(this.#rest, others);
+  }
+
+  /**
+   * Whether there is a step to undo.
+   * @param {number} entries how many entries there are to undo
+   */
+  canUndo(entries) {
+    return this.#done.length > 0 || entries > this.#rest;
+  }
+
+  /**
+   * Makes one step of those from one on. If the history has lost the first of these, all go.
    * @param {number} from
    */
   join(from) {
-    const [first, ...others] = this.#done.splice(from);
+    if (from < this.#lost) {
+      this.#lose();
+      return;
+    }
+    const [first, ...others] = this.#done.splice(from - this.#lost);
     if (first) {
       const entries = others.reduce((sum, step) => sum + step.entries, first.entries);
       this.#done.push({ entries, before: first.before, after: (others.at(-1) ?? first).after });
     }
+  }
+
+  #lose() {
+    this.#rest += this.#entries;
+    this.#lost += this.#done.length;
+    this.#entries = 0;
+    this.#done = [];
   }
 
   /**
@@ -73,6 +116,7 @@ export class Steps {
     if (entries === 0) {
       return undefined;
     }
+    this.#entries = Math.max(this.#entries - step.entries, 0);
     this.#undone.push({ ...step, entries });
     return entries === step.entries ? step.before : null;
   }
@@ -88,6 +132,7 @@ export class Steps {
       return undefined;
     }
     this.#done.push({ ...step, entries });
+    this.#entries += entries;
     return entries === step.entries ? step.after : null;
   }
 }

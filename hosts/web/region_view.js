@@ -1,183 +1,33 @@
 /**
- * The nodes of a page that show those of an editor, for region.js: a node for each label. Here is
- * also all that converts the offsets of the page, in UTF-16 units, and those of the engine, in
- * characters.
+ * The nodes of a page that show those of an editor, for region.js: a node for each label. What an
+ * element isn't shown as is kept here, so that the page can be printed. Here is also all that converts
+ * the offsets of the page, in UTF-16 units, and those of the engine, in characters.
  */
-import { NodeKind, toCharacters, toUnits } from "./hedit.js";
+import { EngineStopped, NodeKind, toCharacters, toUnits } from "./hedit.js";
+import { difference, isBlock, isCharacters, isElement, isInside, isText } from "./region_nodes.js";
+import { print } from "./region_print.js";
+import { isBlockName, VOIDS } from "./shown.js";
 
 /** @typedef {import("./hedit.js").Change} Change */
 /** @typedef {import("./hedit.js").Editor} Editor */
 /** @typedef {import("./hedit.js").Point} Point */
 /** @typedef {import("./hedit.js").Selection} Selection */
 /** @typedef {import("./hedit.js").TreeNode} TreeNode */
-
-/** Attributes whose values are addresses. */
-const ADDRESSES = new Set([
-  "action",
-  "background",
-  "cite",
-  "data",
-  "formaction",
-  "href",
-  "longdesc",
-  "ping",
-  "poster",
-  "src",
-  "usemap",
-  "xlink:href",
-]);
-
-/** Elements that hold lines, and are never in one. */
-const BLOCKS = new Set(
-  (
-    "address article aside blockquote body caption center dd details dialog dir div dl dt fieldset " +
-    "figcaption figure footer form h1 h2 h3 h4 h5 h6 header hgroup hr legend li listing main menu " +
-    "nav ol optgroup option p pre search section summary table tbody td tfoot th thead tr ul"
-  ).split(" "),
-);
-
-/** Elements that show nothing that stands in them. */
-const VOID = new Set(
-  "area base br col embed hr img input link meta param source track wbr".split(" "),
-);
+/** @typedef {import("./region_print.js").Content} Content */
+/** @typedef {import("./region_shown.js").Shown} Shown */
 
 /** From how many changes on it is worth to have the browser look at all of them at once. */
 const MANY_CHANGES = 100;
 
-/**
- * Whether an address runs JavaScript.
- * @param {string} address
- */
-function isScript(address) {
-  try {
-    return new URL(address, "https://localhost/").protocol === "javascript:";
-  } catch {
-    return false;
-  }
-}
+/** Blocks in which a caret can't stand by itself. */
+const WHOLE = new Set(["hr", "table", "tbody", "thead", "tfoot", "tr"]);
 
 /**
- * Whether the page may have an attribute, and can.
- * @param {string} name
+ * What is shown of a comment: as many blanks, since scripts of the page read comments.
  * @param {string} value
  */
-function isShown(name, value) {
-  if (name.startsWith("on") || (ADDRESSES.has(name) && isScript(value))) {
-    return false;
-  }
-  try {
-    document.createAttribute(name);
-    return true;
-  } catch {
-    return false;
-  }
-}
-
-/**
- * @param {Node} node
- * @returns {node is CharacterData}
- */
-export function isCharacters(node) {
-  return node instanceof CharacterData;
-}
-
-/**
- * @param {Node | null} node
- * @returns {node is Text}
- */
-export function isText(node) {
-  return node instanceof Text;
-}
-
-/** @param {Node} node */
-export function isBlock(node) {
-  return node instanceof Element && BLOCKS.has(node.localName);
-}
-
-/**
- * Whether a caret may stand in a block by itself.
- * @param {Node} node
- */
-function holdsCaret(node) {
-  const isWhole = /^(HR|TABLE|TBODY|THEAD|TFOOT|TR)$/.test(node.nodeName);
-  return isBlock(node) && !isWhole && /** @type {HTMLElement} */ (node).isContentEditable;
-}
-
-/**
- * @param {Point} left
- * @param {Point} right
- */
-function isSamePoint(left, right) {
-  return left.label === right.label && left.offset === right.offset;
-}
-
-/**
- * @param {Selection | null} left
- * @param {Selection | null} right
- */
-export function isSame(left, right) {
-  return left && right
-    ? isSamePoint(left.anchor, right.anchor) && isSamePoint(left.focus, right.focus)
-    : left === right;
-}
-
-/** @param {Selection | null} selection */
-export function isCaret(selection) {
-  return selection !== null && isSamePoint(selection.anchor, selection.focus);
-}
-
-/**
- * Whether a unit of a text is in the middle of a character.
- * @param {string} text
- * @param {number} at
- */
-function isInside(text, at) {
-  return at > 0 && at < text.length && /** @type {number} */ (text.codePointAt(at - 1)) > 0xffff;
-}
-
-/**
- * What of a text gives way to what, in units: `end` is in the old text. What is alike up to the end
- * is taken first, but no more than the last `tail` units of the new text.
- * @param {string} old
- * @param {string} text
- * @param {number} tail
- */
-export function difference(old, text, tail = Math.min(old.length, text.length)) {
-  let same = 0;
-  const most = Math.min(tail, old.length);
-  while (same < most && old[old.length - 1 - same] === text[text.length - 1 - same]) {
-    same += 1;
-  }
-  same -= Number(isInside(old, old.length - same) || isInside(text, text.length - same));
-  let start = 0;
-  const least = Math.min(old.length, text.length) - same;
-  while (start < least && old[start] === text[start]) {
-    start += 1;
-  }
-  start -= Number(isInside(old, start) || isInside(text, start));
-  return { start, end: old.length - same, put: text.slice(start, text.length - same) };
-}
-
-/**
- * Scrolls an element so that what stands between two heights shows, if it can be scrolled, and says
- * how far.
- * @param {Element} element
- * @param {number} top
- * @param {number} bottom
- */
-function scrollTo(element, top, bottom) {
-  const isPage = element === element.ownerDocument.scrollingElement;
-  const isScrolled = isPage || /auto|scroll/.test(getComputedStyle(element).overflowY);
-  if (!isScrolled || element.scrollHeight <= element.clientHeight) {
-    return 0;
-  }
-  const start = isPage ? 0 : element.getBoundingClientRect().top + element.clientTop;
-  const [above, below] = [top - start, bottom - start - element.clientHeight];
-  const before = element.scrollTop;
-  if (above < 0 || below > 0) {
-    element.scrollTop += above < 0 ? above : below;
-  }
-  return element.scrollTop - before;
+function blanksOf(value) {
+  return " ".repeat(toCharacters(value, value.length));
 }
 
 /** The nodes of an element that show those of an editor. */
@@ -200,22 +50,25 @@ export class View {
    */
   #seen = null;
 
-  /** Where the browser is asked how it writes a style. */
-  #style;
+  #shown;
 
-  /** Whether the next frame scrolls. */
-  #isRevealing = false;
+  /**
+   * What the engine has of each element, and the characters of each comment.
+   * @type {Map<number, Content | string>}
+   */
+  #contents = new Map();
 
   /**
    * @param {Editor} editor
    * @param {HTMLElement} element
    * @param {number} root the label of the node whose children are the element's
+   * @param {Shown} shown
    */
-  constructor(editor, element, root) {
+  constructor(editor, element, root, shown) {
     this.#editor = editor;
     this.#element = element;
     this.#root = root;
-    this.#style = element.ownerDocument.createElement("i").style;
+    this.#shown = shown;
     this.#keep(root, element);
   }
 
@@ -244,6 +97,54 @@ export class View {
   label(node) {
     const label = /** @type {number} */ (this.#labels.get(node));
     return this.#nodes.get(label) === node ? label : undefined;
+  }
+
+  /**
+   * What the engine has of an element, or the characters of a comment; undefined where a node shows
+   * neither.
+   * @param {Node} node
+   */
+  #contentOf(node) {
+    return this.#contents.get(this.label(node) ?? -1);
+  }
+
+  /**
+   * The engine's name of an element, whatever shows it; an empty text for other nodes.
+   * @param {Node | null | undefined} node
+   */
+  nameOf(node) {
+    const content = node ? this.#contentOf(node) : undefined;
+    return typeof content === "object" ? content.name : "";
+  }
+
+  /**
+   * Whether a node is a link to somewhere.
+   * @param {Node} node
+   */
+  isLink(node) {
+    const content = this.#contentOf(node);
+    return typeof content === "object" && content.name === "a" && content.attributes.has("href");
+  }
+
+  /**
+   * The innermost element of a kind that is a node or that it stands in; null where there is none in
+   * the view.
+   * @param {Node | null} node
+   * @param {(node: Node) => boolean} isWanted
+   * @returns {HTMLElement | null}
+   */
+  around(node, isWanted) {
+    for (let at = node; at && at !== this.#element; at = at.parentNode) {
+      if (isElement(at) && isWanted(at)) {
+        return at;
+      }
+    }
+    return null;
+  }
+
+  /** The page as HTML, or what is in the element: as the page shows it, without the engine. */
+  html() {
+    return print(this.#element, (node) => this.#contentOf(node));
   }
 
   /**
@@ -284,10 +185,10 @@ export class View {
     }
     let [at, units] = [node, offset];
     let label = this.label(at);
-    while (label === undefined || (at instanceof Element && VOID.has(at.localName))) {
+    while (label === undefined || VOIDS.has(this.nameOf(at))) {
       const parent = /** @type {Node} */ (at.parentNode);
       units = [...parent.childNodes].indexOf(/** @type {ChildNode} */ (at));
-      units += Number(label !== undefined && at.nodeName === "HR");
+      units += Number(this.nameOf(at) === "hr");
       at = parent;
       label = this.label(at);
     }
@@ -334,13 +235,23 @@ export class View {
     for (;;) {
       const isLast = offset > 0 && offset === node.childNodes.length;
       const child = node.childNodes[isLast ? offset - 1 : offset];
-      if (!child || !holdsCaret(child)) {
+      if (!child || !this.#holdsCaret(child)) {
         break;
       }
       [node, offset] = [child, isLast ? child.childNodes.length : 0];
     }
     const point = this.point(node, offset) ?? caret.focus;
     return { anchor: point, focus: point };
+  }
+
+  /**
+   * Whether a caret may stand in a node that holds lines.
+   * @param {Node} node
+   */
+  #holdsCaret(node) {
+    const name = this.nameOf(node);
+    const isOpen = isElement(node) && node.isContentEditable;
+    return isOpen && isBlockName(name) && !WHOLE.has(name);
   }
 
   /**
@@ -374,30 +285,52 @@ export class View {
    * @param {Node} node
    */
   #isNamed(label, node) {
-    return node instanceof HTMLElement && node.localName === this.#editor.nodeName(label);
+    return isElement(node) && node.localName === this.#shown.nameOf(this.#read(label));
+  }
+
+  /**
+   * What the engine has of an element.
+   * @param {number} label
+   * @returns {Content}
+   */
+  #read(label) {
+    return { name: this.#editor.nodeName(label), attributes: this.#editor.attributes(label) };
   }
 
   /**
    * Does to the page what the engine's last call changed, and looks at nothing else. At first, and
-   * where a call was missed, the two are compared. Says whether the engine's page is another one.
+   * where a call was missed or its changes can't be had, the two are compared. Says whether the
+   * engine's page is another one.
    */
   follow() {
     const [seen, now] = [this.#seen, this.#editor.revision()];
-    this.#seen = now;
     if (now === seen) {
       return false;
     }
-    if (seen === null || now > seen + 1) {
+    if (seen === null || now > seen + 1 || !this.#replay()) {
       this.mend(this.#root);
-      return true;
     }
-    const changes = this.#editor.changes();
-    const resume = changes.length > MANY_CHANGES ? this.#rest() : null;
-    for (const change of changes) {
-      this.#followOne(change);
-    }
-    resume?.();
+    this.#seen = now;
     return true;
+  }
+
+  /** Does the engine's last changes to the page; false where that doesn't work. */
+  #replay() {
+    try {
+      const changes = this.#editor.changes();
+      const resume = changes.length > MANY_CHANGES ? this.#rest() : null;
+      try {
+        changes.forEach((change) => this.#followOne(change));
+      } finally {
+        resume?.();
+      }
+      return true;
+    } catch (error) {
+      if (error instanceof EngineStopped) {
+        throw error;
+      }
+      return false;
+    }
   }
 
   /**
@@ -405,7 +338,8 @@ export class View {
    * tells the input method of each change in it, which takes as long as what stands before.
    */
   #rest() {
-    const host = this.#element.ownerDocument.activeElement;
+    const root = /** @type {Document | ShadowRoot} */ (this.#element.getRootNode());
+    const host = root.activeElement ?? null;
     const name = "contenteditable";
     const value = this.#element.contains(host) ? host?.getAttribute(name) : null;
     if (typeof value !== "string" || !navigator.userAgent.includes("Gecko/")) {
@@ -419,7 +353,7 @@ export class View {
   #followOne(change) {
     switch (change.type) {
       case "remove": {
-        const node = /** @type {ChildNode} */ (this.#shown(change.label));
+        const node = /** @type {ChildNode} */ (this.#node(change.label));
         node.remove();
         this.#forget(node);
         break;
@@ -428,14 +362,14 @@ export class View {
         this.#put(this.#grow(change.tree), change.parent, change.before);
         break;
       case "move":
-        this.#put(this.#shown(change.label), change.parent, change.before);
+        this.#put(this.#node(change.label), change.parent, change.before);
         break;
       case "replace":
         this.#replace(change.label, change.at, change.taken, change.put);
         break;
       default: {
-        const node = /** @type {HTMLElement} */ (this.#shown(change.label));
-        this.#updateAttributes(node, change.attributes);
+        const { name } = /** @type {Content} */ (this.#contents.get(change.label));
+        this.#updateElement(change.label, { name, attributes: change.attributes });
       }
     }
   }
@@ -444,7 +378,7 @@ export class View {
    * The node that shows a label that the engine has.
    * @param {number} label
    */
-  #shown(label) {
+  #node(label) {
     return /** @type {Node} */ (this.#nodes.get(label));
   }
 
@@ -454,7 +388,7 @@ export class View {
    * @param {number | null} before
    */
   #put(node, parent, before) {
-    this.#shown(parent).insertBefore(node, before === null ? null : this.#shown(before));
+    this.#node(parent).insertBefore(node, before === null ? null : this.#node(before));
   }
 
   /**
@@ -465,10 +399,7 @@ export class View {
     /** @type {Node[]} */
     const above = [];
     for (const { level, label, kind, name, attributes, value } of tree) {
-      const node = this.#keep(label, this.#make(kind, name, value));
-      if (kind === NodeKind.ELEMENT) {
-        this.#updateAttributes(/** @type {HTMLElement} */ (node), attributes);
-      }
+      const node = this.#make(label, kind, { name, attributes }, value);
       above.length = level;
       above.at(-1)?.appendChild(node);
       above.push(node);
@@ -483,8 +414,16 @@ export class View {
    * @param {string} put
    */
   #replace(label, at, taken, put) {
-    const [start, end] = [at, at + taken].map((offset) => this.place({ label, offset }).offset);
-    /** @type {CharacterData} */ (this.#shown(label)).replaceData(start, end - start, put);
+    const node = /** @type {CharacterData} */ (this.#node(label));
+    const content = this.#contents.get(label);
+    const old = typeof content === "string" ? content : node.data;
+    const [start, end] = [at, at + taken].map((offset) => toUnits(old, offset));
+    if (typeof content === "string") {
+      this.#contents.set(label, old.slice(0, start) + put + old.slice(end));
+      node.replaceData(at, taken, blanksOf(put));
+    } else {
+      node.replaceData(start, end - start, put);
+    }
   }
 
   /**
@@ -524,37 +463,79 @@ export class View {
    */
   #update(label, gone) {
     const node = this.#nodes.get(label) ?? this.#copy(label);
-    if (isCharacters(node)) {
+    if (isText(node)) {
       this.#updateData(node, this.#editor.nodeValue(label));
       return node;
     }
-    if (node !== this.#element) {
-      this.#updateAttributes(/** @type {HTMLElement} */ (node), this.#editor.attributes(label));
+    if (isCharacters(node)) {
+      const value = this.#editor.nodeValue(label);
+      this.#contents.set(label, value);
+      this.#updateData(node, blanksOf(value));
+      return node;
     }
-    this.#updateChildren(node, [...this.#editor.children(label)], gone);
-    return node;
+    const element = node === this.#element ? node : this.#updateElement(label, this.#read(label));
+    this.#updateChildren(element, [...this.#editor.children(label)], gone);
+    return element;
   }
 
   /** @param {number} label */
   #copy(label) {
     const { kind } = this.#editor.node(label);
-    const node = this.#make(kind, this.#editor.nodeName(label), this.#editor.nodeValue(label));
-    return this.#keep(label, node);
+    return this.#make(label, kind, this.#read(label), this.#editor.nodeValue(label));
   }
 
   /**
-   * A node without attributes.
+   * The node that shows a label, without children.
+   * @param {number} label
    * @param {number} kind
-   * @param {string} name
-   * @param {string} value
+   * @param {Content} content that of an element
+   * @param {string} value that of another node
    * @returns {Node}
    */
-  #make(kind, name, value) {
+  #make(label, kind, content, value) {
     const page = this.#element.ownerDocument;
     if (kind === NodeKind.ELEMENT) {
-      return page.createElement(name);
+      this.#contents.set(label, content);
+      const element = page.createElement(this.#shown.nameOf(content));
+      this.#updateAttributes(element, content);
+      return this.#keep(label, element);
     }
-    return kind === NodeKind.TEXT ? page.createTextNode(value) : page.createComment(value);
+    if (kind === NodeKind.TEXT) {
+      return this.#keep(label, page.createTextNode(value));
+    }
+    this.#contents.set(label, value);
+    return this.#keep(label, page.createComment(blanksOf(value)));
+  }
+
+  /**
+   * The element of a label, with what the engine has of it now: another one where it is shown by
+   * another name now.
+   * @param {number} label
+   * @param {Content} content
+   */
+  #updateElement(label, content) {
+    const element = /** @type {HTMLElement} */ (this.#node(label));
+    if (element.localName === this.#shown.nameOf(content)) {
+      this.#contents.set(label, content);
+      this.#updateAttributes(element, content);
+      return element;
+    }
+    const other = /** @type {HTMLElement} */ (this.#make(label, NodeKind.ELEMENT, content, ""));
+    other.append(...element.childNodes);
+    element.replaceWith(other);
+    return other;
+  }
+
+  /**
+   * Shows again all elements of a kind, as where what is shown of them has changed.
+   * @param {(content: Content) => boolean} isWanted
+   */
+  refresh(isWanted) {
+    for (const [label, content] of this.#contents) {
+      if (typeof content === "object" && isWanted(content)) {
+        this.#updateElement(label, content);
+      }
+    }
   }
 
   /**
@@ -571,38 +552,12 @@ export class View {
   }
 
   /**
-   * What the page is to have of the engine's attributes of a node, with styles as the browser
-   * writes them.
-   * @param {ReadonlyMap<string, string>} attributes
-   */
-  #shownAttributes(attributes) {
-    /** @type {Map<string, string>} */
-    const shown = new Map();
-    for (const [name, value] of attributes) {
-      const text = name === "style" ? this.#styleText(value) : value;
-      if (text !== null && isShown(name, value)) {
-        shown.set(name, text);
-      }
-    }
-    return shown;
-  }
-
-  /**
-   * A style attribute as the browser writes it; null where it has nothing of it.
-   * @param {string} value
-   */
-  #styleText(value) {
-    this.#style.cssText = value;
-    return this.#style.cssText || null;
-  }
-
-  /**
    * A style is set as a property: a content security policy may refuse the attribute.
    * @param {HTMLElement} node
-   * @param {ReadonlyMap<string, string>} attributes the engine's
+   * @param {Content} content
    */
-  #updateAttributes(node, attributes) {
-    const shown = this.#shownAttributes(attributes);
+  #updateAttributes(node, content) {
+    const shown = this.#shown.attributesOf(content);
     for (const name of node.getAttributeNames().filter((name) => !shown.has(name))) {
       node.removeAttribute(name);
     }
@@ -662,49 +617,11 @@ export class View {
     const label = this.label(node);
     if (label !== undefined) {
       this.#nodes.delete(label);
+      this.#contents.delete(label);
     }
     for (const child of node.childNodes) {
       this.#forget(child);
     }
-  }
-
-  /**
-   * Scrolls to where the focus of the page's selection is, as a browser does after input: in the next
-   * frame, in which the page is laid out anyway.
-   */
-  reveal() {
-    if (!this.#isRevealing) {
-      this.#isRevealing = true;
-      requestAnimationFrame(() => this.#scroll());
-    }
-  }
-
-  #scroll() {
-    this.#isRevealing = false;
-    const selection = this.#element.ownerDocument.getSelection();
-    if (!selection?.focusNode || !this.#element.contains(selection.focusNode)) {
-      return;
-    }
-    const range = new Range();
-    range.setStart(selection.focusNode, selection.focusOffset);
-    let { top, bottom } = range.getClientRects()[0] ?? this.#rectAt(range);
-    /** @type {Element | null} */
-    let at = this.#element;
-    for (; at; at = at.parentElement) {
-      const moved = scrollTo(at, top, bottom);
-      [top, bottom] = [top - moved, bottom - moved];
-    }
-  }
-
-  /**
-   * Where a place is that has no rectangle of its own: that of the node behind it, or else of its own
-   * node.
-   * @param {Range} range
-   */
-  #rectAt({ startContainer, startOffset }) {
-    const child = startContainer.childNodes[startOffset] ?? startContainer;
-    const element = child instanceof Element ? child : /** @type {Element} */ (child.parentElement);
-    return element.getBoundingClientRect();
   }
 
   /** The first difference between the page and the engine's nodes; null where there is none. */
@@ -723,7 +640,8 @@ export class View {
     }
     if (isCharacters(node)) {
       const value = this.#editor.nodeValue(label);
-      return node.data === value ? null : `node ${label} has ${JSON.stringify([value, node.data])}`;
+      const wanted = isText(node) ? value : blanksOf(value);
+      return node.data === wanted ? null : `node ${label} has ${JSON.stringify([value, node.data])}`;
     }
     return this.#differenceOfAttributes(label, node) ?? this.#differenceOfChildren(label, node);
   }
@@ -733,15 +651,16 @@ export class View {
    * @param {Node} node
    */
   #differenceOfAttributes(label, node) {
-    if (node === this.#element || !(node instanceof Element)) {
+    if (node === this.#element || !isElement(node)) {
       return null;
     }
-    const name = this.#editor.nodeName(label);
+    const content = this.#read(label);
+    const name = this.#shown.nameOf(content);
     if (node.localName !== name) {
       return `node ${label} is ${name}, and not ${node.localName}`;
     }
     const there = node.getAttributeNames().map((each) => [each, node.getAttribute(each)]);
-    const wanted = this.#shownAttributes(this.#editor.attributes(label));
+    const wanted = this.#shown.attributesOf(content);
     const texts = [wanted, there].map((all) => JSON.stringify([...all].sort()));
     return texts[0] === texts[1] ? null : `node ${label} has ${texts[0]}, and not ${texts[1]}`;
   }

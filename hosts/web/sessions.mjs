@@ -1,15 +1,14 @@
 /**
- * node sessions.mjs FOLDER..: runs stored sessions (NNN.args, .stdin, .stdout, .status) through
- * hedit.js.
+ * node sessions.mjs [FOLDER..]: runs stored sessions through hedit.js, by default those of
+ * tests/sessions.
  *
  * Each goes through Engine.session, which has to give what is stored. Those of `run` also go through
  * an Editor, call by call: the lines that are acts for which it has calls, which the engine has to
  * answer as a session of these lines alone. Beside it a tree follows what each call changed, and has
  * to come to the same HTML after each.
  */
-import { readFileSync, readdirSync } from "node:fs";
-import { join } from "node:path";
 import { argv, exit } from "node:process";
+import { readSession, sessionFiles } from "../../tests/session_form.mjs";
 import { BYTES } from "./test/engine.mjs";
 import { Tree } from "./follow.mjs";
 import { HeditError, load } from "./hedit.js";
@@ -203,28 +202,23 @@ function limitsOf(words) {
 let whole = 0;
 let calls = 0;
 const differ = [];
-for (const folder of argv.slice(2)) {
-  for (const name of readdirSync(folder).filter((it) => it.endsWith(".stdin")).sort()) {
-    const file = join(folder, name.slice(0, -".stdin".length));
-    const words = readFileSync(`${file}.args`, "utf8").split("\n").slice(0, -1);
-    const input = readFileSync(`${file}.stdin`);
-    const status = Number(readFileSync(`${file}.status`, "utf8"));
-    const told = engine.session(input, words);
-    whole += 1;
-    if (told.status !== status || !Buffer.from(told.transcript).equals(readFileSync(`${file}.stdout`))) {
-      differ.push(`${file} as a session`);
+for (const file of sessionFiles(argv.slice(2))) {
+  const { words, input, status, reply } = readSession(file);
+  const told = engine.session(input, words);
+  whole += 1;
+  if (told.status !== status || !Buffer.from(told.transcript).equals(reply)) {
+    differ.push(`${file} as a session`);
+  }
+  const limits = limitsOf(words);
+  if (limits && status === 0) {
+    calls += 1;
+    const [transcript, known, isFollowed] = byCalls(input, limits);
+    const wanted = engine.session(known, words);
+    if (wanted.status !== 0 || wanted.transcript !== transcript) {
+      differ.push(`${file} call by call`);
     }
-    const limits = limitsOf(words);
-    if (limits && status === 0) {
-      calls += 1;
-      const [transcript, known, isFollowed] = byCalls(input, limits);
-      const wanted = engine.session(known, words);
-      if (wanted.status !== 0 || wanted.transcript !== transcript) {
-        differ.push(`${file} call by call`);
-      }
-      if (!isFollowed) {
-        differ.push(`${file} followed`);
-      }
+    if (!isFollowed) {
+      differ.push(`${file} followed`);
     }
   }
 }

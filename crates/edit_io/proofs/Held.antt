@@ -1,13 +1,12 @@
 -- That what the forms in memory say of their fields is what a source and a sink owe.
 use Rattle.std.proofs.Common.{◌≡◌, ℕ, ◌+◌, ◌-◌, ◌^◌, ◌<◌, ◌≤◌, ◌↔◌, min, List, [], ◌++◌, refl, sym, ap, ◌∙◌, inl, take, drop, length, length-append, arith}
+use Rattle.std.specs.Io.KnownBytes.{Appends, Consumes, Keeps}
 use Rattle.std.specs.Prelude.{Some, Result, Ok, Err, IfOk, IfErr, OnOk, OnErr, IsOk, IsErr, IsErrOf, IsTrue}
 use Rattle.std.proofs.lemmas.List.{take_at, drop-drop, drop_all, length-take-le, length-drop, take-append-drop, take_all}
 use Rattle.edit_io.specs.declared.streams.SinkFault.{SinkFault}
 use Rattle.edit_io.specs.declared.streams.SinkFault.TheVariants.{Failed, Memory}
 use Rattle.edit_io.specs.Faults.{Rose, next_call, fails_at, failed_below}
 use Rattle.edit_io.specs.Handed.{handed_more}
-use Rattle.edit_io.specs.Told.{with_front, with_end}
-use Rattle.edit_io.proofs.Told.{with_front-some, with_end-some}
 use Rattle.edit_io.proofs.Faults.{failed_below-rises, failed_below-fails, failed_below-next, next_call-fails}
 
 -- the bytes that a call hands out are as many as it says
@@ -15,12 +14,11 @@ pub handed_length : (bytes : List ℕ) (at n : ℕ) → n ≤ length bytes - at 
 handed_length bytes at n h = length-take-le n (drop at bytes) (let e = length-drop at bytes in omega arith)
 
 -- they went from the front of what was left
-pub handed_out : (bytes old new : List ℕ) (at n : ℕ) → n ≤ length bytes - at → new ≡ take n (drop at bytes) ++ drop n old → Some (drop at bytes) ≡ with_front (take n new) (Some (drop (at + n) bytes))
+pub handed_out : (bytes old new : List ℕ) (at n : ℕ) → n ≤ length bytes - at → new ≡ take n (drop at bytes) ++ drop n old → Consumes (Some (drop at bytes)) (Some (drop (at + n) bytes)) (take n new)
 handed_out bytes old new at n h e =
     let t : take n new ≡ take n (drop at bytes) = ap (take n) e ∙ take_at (take n (drop at bytes)) (drop n old) n (handed_length bytes at n h) in
     let d = drop-drop n at bytes in
     let a = take-append-drop n (drop at bytes) in
-    let s = with_front-some (take n new) (drop (at + n) bytes) in
     cc
 
 pub source_bound : {E : Type 0} (r : Result ℕ E) (bytes old new : List ℕ) (at most left : ℕ) → left ≡ length bytes - at → IfOk r (λ n. n ≡ min most left) → IfOk r (λ n. new ≡ take n (drop at bytes) ++ drop n old) → IfOk r (λ n. n ≤ length new)
@@ -30,7 +28,7 @@ source_bound (Ok n) bytes old new at most left l g w =
     rw w (omega arith)
 source_bound (Err e) bytes old new at most left l g w = tt
 
-pub source_bytes : {E : Type 0} (r : Result ℕ E) (bytes rest old new : List ℕ) (at after most left : ℕ) → rest ≡ bytes → left ≡ length bytes - at → IfOk r (λ n. n ≡ min most left) → IfOk r (λ n. after ≡ at + n) → IfOk r (λ n. new ≡ take n (drop at bytes) ++ drop n old) → IfOk r (λ n. Some (drop at bytes) ≡ with_front (take n new) (Some (drop after rest)))
+pub source_bytes : {E : Type 0} (r : Result ℕ E) (bytes rest old new : List ℕ) (at after most left : ℕ) → rest ≡ bytes → left ≡ length bytes - at → IfOk r (λ n. n ≡ min most left) → IfOk r (λ n. after ≡ at + n) → IfOk r (λ n. new ≡ take n (drop at bytes) ++ drop n old) → IfOk r (λ n. Consumes (Some (drop at bytes)) (Some (drop after rest)) (take n new))
 source_bytes (Ok n) bytes rest old new at after most left s l g m w = rw (s, m) (handed_out bytes old new at n (omega arith) w)
 source_bytes (Err e) bytes rest old new at after most left s l g m w = tt
 
@@ -38,7 +36,7 @@ pub source_end : {E : Type 0} (r : Result ℕ E) (bytes rest : List ℕ) (at aft
 source_end (Ok n) bytes rest at after most left s l p g m = λ z. rw (s, m) (drop_all (at + n) bytes (omega arith))
 source_end (Err e) bytes rest at after most left s l p g m = tt
 
-pub source_kept : {E : Type 0} (r : Result ℕ E) (bytes rest : List ℕ) (at after : ℕ) → rest ≡ bytes → OnErr r (after ≡ at) → OnErr r (Some (drop after rest) ≡ Some (drop at bytes))
+pub source_kept : {E : Type 0} (r : Result ℕ E) (bytes rest : List ℕ) (at after : ℕ) → rest ≡ bytes → OnErr r (after ≡ at) → OnErr r (Keeps (Some (drop at bytes)) (Some (drop after rest)))
 source_kept (Ok n) bytes rest at after s k = tt
 source_kept (Err e) bytes rest at after s k = rw (s, k) refl
 
@@ -60,14 +58,6 @@ sink_some (Err e) most size p q g = tt
 pub sink_bound : {E : Type 0} (r : Result ℕ E) (most size : ℕ) → IfOk r (λ n. n ≡ min most size) → IfOk r (λ n. n ≤ size)
 sink_bound (Ok n) most size g = omega arith
 sink_bound (Err e) most size g = tt
-
-pub sink_bytes : {E : Type 0} (r : Result ℕ E) (old new piece : List ℕ) → IfOk r (λ n. new ≡ old ++ take n piece) → IfOk r (λ n. Some new ≡ with_end (Some old) (take n piece))
-sink_bytes (Ok n) old new piece g = ap Some g ∙ sym (with_end-some old (take n piece))
-sink_bytes (Err e) old new piece g = tt
-
-pub sink_kept : {E : Type 0} (r : Result ℕ E) (old new : List ℕ) → OnErr r (new ≡ old) → OnErr r (Some new ≡ Some old)
-sink_kept (Ok n) old new k = tt
-sink_kept (Err e) old new k = ap Some k
 
 pub sink_counted : (r : Result ℕ SinkFault) (failing failing' : List ℕ) (calls calls' : ℕ) → failing' ≡ failing → OnOk r (calls' ≡ next_call calls) → IfErr r (λ e. e ≡ Failed → calls' ≡ calls + 1) → IfErr r (λ e. e ≡ Memory → calls' ≡ calls) → failed_below failing calls ≤ failed_below failing' calls'
 sink_counted (Ok n) failing failing' calls calls' s ok f m = counted failing failing' calls calls' s ok
@@ -104,8 +94,8 @@ pub sure_bound : {E : Type 0} (r : Result ℕ E) (size : ℕ) → IfOk r (λ n. 
 sure_bound (Ok n) size g = omega arith
 sure_bound (Err e) size g = tt
 
-pub sure_bytes : {E : Type 0} (r : Result ℕ E) (old new piece : List ℕ) → IfOk r (λ n. n ≡ length piece) → OnOk r (new ≡ old ++ piece) → IfOk r (λ n. Some new ≡ with_end (Some old) (take n piece))
-sure_bytes (Ok n) old new piece g w = ap Some (w ∙ ap (λ xs. old ++ xs) (sym (take_all n piece (omega arith)))) ∙ sym (with_end-some old (take n piece))
+pub sure_bytes : {E : Type 0} (r : Result ℕ E) (old new piece : List ℕ) → IfOk r (λ n. n ≡ length piece) → OnOk r (new ≡ old ++ piece) → IfOk r (λ n. Appends (Some old) (Some new) (take n piece))
+sure_bytes (Ok n) old new piece g w = w ∙ ap (λ xs. old ++ xs) (sym (take_all n piece (omega arith)))
 sure_bytes (Err e) old new piece g w = tt
 
 -- a count that stays 0

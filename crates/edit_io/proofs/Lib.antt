@@ -2,4 +2,4 @@ pub mod Told
 pub mod Faults
 pub mod Handed
 mod Held
-mod Untold
+mod Passed

@@ -1,7 +1,7 @@
-// The source over a real reader and the sink over a real writer. They keep no record of the bytes;
-// what they pass on is said by what the reader and the writer tell.
-ghost use Rattle.std.specs.Prelude.{◌≡◌, ℕ, ◌<◌, ◌≤◌, length, None, IfOk, IfErr, OnOk, OnErr};
-ghost use Rattle.std.specs.Io.KnownBytes.{ReadConsumes, WriteAppends};
+// The source over a real reader and the sink over a real writer. They keep no record of the bytes,
+// and tell what the reader and the writer tell.
+ghost use Rattle.std.specs.Prelude.{◌≡◌, ℕ, ◌<◌, ◌≤◌, length, IfOk, IfErr, OnOk, OnErr};
+ghost use Rattle.std.specs.Io.KnownBytes.{IsAtEnd, ReadConsumes, WriteAppends};
 ghost use Rattle.edit_io.specs.Faults.{Rose, next_call};
 ghost use Rattle.edit_io.specs.Handed.{handed_more};
 ghost use Rattle.edit_io.specs.Real.{reader_of, read_faults, read_handed, writer_of, write_faults};
@@ -9,7 +9,7 @@ ghost use Rattle.edit_io.specs.Real.{reader_of, read_faults, read_handed, writer
 use crate::streams::{Failed, Sink, SinkFault, Source};
 use std::io::{Read, Write};
 
-/// A source over a reader. Each error of the reader is a fault.
+/// A source over a reader, which tells what the reader tells. Each error of the reader is a fault.
 #[derive(Drop)]
 pub struct ReadSource<R> {
     reader: R,
@@ -33,7 +33,7 @@ impl<R: Read> ReadSource<R> {
 }
 
 impl<R: Read> Source for ReadSource<R> {
-    ghost left = { λ _. None };
+    ghost left = { λ s. R.remaining (reader_of s) };
 
     ghost faults = { read_faults };
 
@@ -44,6 +44,7 @@ impl<R: Read> Source for ReadSource<R> {
         ensures bound { IfOk result (λ n. n ≤ length buf.new) }
         ensures passed { ReadConsumes (R.remaining (reader_of self.old))
             (R.remaining (reader_of self.new)) result buf.new }
+        ensures end { IfOk result (λ n. n ≡ 0 → IsAtEnd (R.remaining (reader_of self.new))) }
         ensures same { OnOk result (read_faults self.new ≡ read_faults self.old) }
         ensures raised { OnErr result (read_faults self.new ≡ next_call (read_faults self.old)) }
         ensures failed { OnErr result (Rose (read_faults self.old) (read_faults self.new)) }
@@ -64,7 +65,8 @@ impl<R: Read> Source for ReadSource<R> {
     }
 }
 
-/// A sink over a writer. Each error of the writer is a fault, and so is a write that takes no byte.
+/// A sink over a writer, which tells what the writer tells. Each error of the writer is a fault, and
+/// so is a write that takes no byte.
 #[derive(Drop)]
 pub struct WriteSink<W> {
     writer: W,
@@ -82,7 +84,7 @@ impl<W: Write> WriteSink<W> {
 }
 
 impl<W: Write> Sink for WriteSink<W> {
-    ghost taken = { λ _. None };
+    ghost taken = { λ s. W.contents (writer_of s) };
 
     ghost faults = { write_faults };
 

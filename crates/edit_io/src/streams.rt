@@ -1,9 +1,9 @@
 // What a source and a sink are.
 ghost use Rattle.std.specs.Prelude.{◌≡◌, ℕ, ◌<◌, ◌≤◌, List, Option, length, take, IfOk, IfErr, OnErr};
+ghost use Rattle.std.specs.Io.KnownBytes.{Appends, Consumes, IsAtEnd, Keeps};
 ghost use Rattle.edit_io.specs.Faults.{Rose};
 ghost use Rattle.edit_io.specs.Handed.{handed_more};
 ghost use Rattle.edit_io.specs.declared.streams.SinkFault.TheVariants.{Memory};
-ghost use Rattle.edit_io.specs.Told.{with_front, with_end, IsAtEnd};
 
 use std::alloc::AllocError;
 use thiserror::Error;
@@ -47,10 +47,10 @@ pub trait Source {
     fn read(&mut self, buf: &mut [u8]) -> Result<usize, Failed>
         requires { 0 < length buf.old }
         ensures bound { IfOk result (λ n. n ≤ length buf.new) }
-        ensures bytes { IfOk result (λ n. left self.old
-            ≡ with_front (take n buf.new) (left self.new)) }
+        ensures bytes { IfOk result (λ n. Consumes (left self.old) (left self.new)
+            (take n buf.new)) }
         ensures end { IfOk result (λ n. n ≡ 0 → IsAtEnd (left self.new)) }
-        ensures kept { OnErr result (left self.new ≡ left self.old) }
+        ensures kept { OnErr result (Keeps (left self.old) (left self.new)) }
         ensures counted { faults self.old ≤ faults self.new }
         ensures failed { OnErr result (Rose (faults self.old) (faults self.new)) }
         ensures amount { IfOk result (λ n. handed self.new ≡ handed_more (handed self.old) n) }
@@ -70,9 +70,9 @@ pub trait Sink {
         requires { 0 < length piece.now }
         ensures some { IfOk result (λ n. 0 < n) }
         ensures bound { IfOk result (λ n. n ≤ length piece.now) }
-        ensures bytes { IfOk result (λ n. taken self.new
-            ≡ with_end (taken self.old) (take n piece.now)) }
-        ensures kept { OnErr result (taken self.new ≡ taken self.old) }
+        ensures bytes { IfOk result (λ n. Appends (taken self.old) (taken self.new)
+            (take n piece.now)) }
+        ensures kept { OnErr result (Keeps (taken self.old) (taken self.new)) }
         ensures counted { faults self.old ≤ faults self.new }
         ensures failed { IfErr result (λ e. e ≡ SinkFault.Failed
             → Rose (faults self.old) (faults self.new)) }

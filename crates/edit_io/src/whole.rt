@@ -1,9 +1,10 @@
 // Reading all that is left, and writing all of a piece.
 ghost use Rattle.std.specs.Prelude.{◌≡◌, ℕ, ◌+◌, ◌<◌, ◌≤◌, length, take, vec_len, IfOk, IfErr, OnOk, OnErr, IfSome, IsOk, IsErr};
+ghost use Rattle.std.specs.Io.KnownBytes.{Appends, Consumes, IsAtEnd};
 ghost use Rattle.edit_io.specs.Faults.{Rose};
 ghost use Rattle.edit_io.specs.Handed.{handed_more};
 ghost use Rattle.edit_io.specs.declared.whole.ReadAllFault.TheVariants.{Failed, Memory};
-ghost use Rattle.edit_io.specs.Told.{with_front, with_end, IsAtEnd, TakesPrefix, GivesAtMost, GivesMore};
+ghost use Rattle.edit_io.specs.Told.{TakesPrefix, GivesAtMost, GivesMore};
 
 use crate::streams::{Failed, Sink, SinkFault, Source};
 use std::alloc::{AllocError, Global};
@@ -49,8 +50,8 @@ pub fn read_all<I: Source>(
     input: &mut I,
     limit: usize,
 ) -> Result<Vec<u8>, ReadAllFault>
-    ensures bytes { IfOk result (λ bytes. I.left input.old
-        ≡ with_front bytes.items (I.left input.new)) }
+    ensures bytes { IfOk result (λ bytes. Consumes (I.left input.old) (I.left input.new)
+        bytes.items) }
     ensures end { OnOk result (IsAtEnd (I.left input.new)) }
     ensures short { IfOk result (λ bytes. vec_len bytes ≤ limit) }
     ensures failed { IfErr result (λ e. e ≡ ReadAllFault.Failed
@@ -97,8 +98,8 @@ fn read_piece<I: Source>(
     requires { 0 < length buffer.old }
     ensures bound { IfOk result (λ n. n ≤ length buffer.new) }
     ensures room { IfOk result (λ n. n ≤ room) }
-    ensures bytes { IfOk result (λ n. I.left input.old
-        ≡ with_front (take n buffer.new) (I.left input.new)) }
+    ensures bytes { IfOk result (λ n. Consumes (I.left input.old) (I.left input.new)
+        (take n buffer.new)) }
     ensures end { IfOk result (λ n. n ≡ 0 → IsAtEnd (I.left input.new)) }
     ensures failed { IfErr result (λ e. e ≡ ReadAllFault.Failed
         → Rose (I.faults input.old) (I.faults input.new)) }
@@ -121,7 +122,7 @@ fn read_piece<I: Source>(
 
 /// Writes all of the piece. After a fault, some of its first bytes are written.
 pub fn write_all<O: Sink>(output: &mut O, piece: &[u8]) -> Result<(), SinkFault>
-    ensures all { OnOk result (O.taken output.new ≡ with_end (O.taken output.old) piece.now) }
+    ensures all { OnOk result (Appends (O.taken output.old) (O.taken output.new) piece.now) }
     ensures prefix { TakesPrefix (O.taken output.old) (O.taken output.new) piece.now }
     ensures empty { length piece.now ≡ 0 → IsOk result }
     ensures failed { IfErr result (λ e. e ≡ SinkFault.Failed

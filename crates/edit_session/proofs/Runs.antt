@@ -2,9 +2,11 @@
 use Rattle.std.proofs.Common.{◌≡◌, ◌≢◌, ◌==◌, Bool, true, false, ℕ, suc, ◌<◌, ◌≤◌, List, [], ◌∷◌, ◌++◌, length, Option, Some, None, Result, Ok, Err, refl, sym, ap, ◌∙◌, subst, inl, inr, arith, append_assoc}
 use Rattle.std.proofs.lemmas.Bool.Decides.{nat_tests}
 use Rattle.std.proofs.lemmas.List.{append-nil}
+use Rattle.std.specs.Io.KnownBytes.{Appends}
+use Rattle.std.proofs.KnownBytes.{Appends-nil, Appends-trans}
 use Rattle.edit_io.specs.Faults.{Rose}
-use Rattle.edit_io.specs.Told.{with_end, TakesPrefix}
-use Rattle.edit_io.proofs.Told.{takes_whole, with_end-nil, with_end-with_end, takes_longer, takes_after}
+use Rattle.edit_io.specs.Told.{TakesPrefix}
+use Rattle.edit_io.proofs.Told.{takes_whole, takes_longer, takes_after}
 use Rattle.edit_io.proofs.Faults.{Rose-after}
 use Rattle.page_read.specs.DomModel.declared.Content.{Content}
 use Rattle.page_read.specs.DomModel.Forest.{Forest}
@@ -42,7 +44,7 @@ not_memory want answered e = subst Answered (sym e) answered
 -- ---- the answers of a part
 
 pub nothing_taken : (told : Option (List ℕ)) (text : List ℕ) → TakesPrefix told told text
-nothing_taken told text = record { count = 0; within = omega arith; taken = sym (with_end-nil told) }
+nothing_taken told text = record { count = 0; within = omega arith; taken = Appends-nil told }
 
 pub follows_memory : (want : Transcript) (before after : Option (List ℕ)) (count count_after : ℕ) → Answered want.status → TakesPrefix before after want.text → count ≤ count_after → Follows want before after count count_after Memory
 follows_memory want before after count count_after answered taken counted = record {
@@ -123,17 +125,17 @@ replies_to-nil denied e = refl
 -- What the acts so far had to write is written, and rest is still to be written.
 pub record SoFar (start now : Option (List ℕ)) (rest whole : List ℕ) : Type 0 where
   pub done : List ℕ
-  pub taken : now ≡ with_end start done
+  pub taken : Appends start now done
   pub all : done ++ rest ≡ whole
 
 pub so_far-start : (told : Option (List ℕ)) (text : List ℕ) → SoFar told told text text
-so_far-start told text = record { done = []; taken = sym (with_end-nil told); all = refl }
+so_far-start told text = record { done = []; taken = Appends-nil told; all = refl }
 
 -- a reply that is written whole
-pub so_far-more : (start old new : Option (List ℕ)) (reply rest text whole : List ℕ) → SoFar start old text whole → text ≡ reply ++ rest → new ≡ with_end old reply → SoFar start new rest whole
+pub so_far-more : (start old new : Option (List ℕ)) (reply rest text whole : List ℕ) → SoFar start old text whole → text ≡ reply ++ rest → Appends old new reply → SoFar start new rest whole
 so_far-more start old new reply rest text whole s parts now = record {
   done = s.done ++ reply;
-  taken = now ∙ ap (λ o. with_end o reply) s.taken ∙ with_end-with_end start s.done reply;
+  taken = Appends-trans start old new s.done reply s.taken now;
   all = (let regrouped : (s.done ++ reply) ++ rest ≡ s.done ++ (reply ++ rest) = append_assoc s.done reply rest in regrouped ∙ ap (λ x. s.done ++ x) (sym parts) ∙ s.all);
 }
 
@@ -156,7 +158,7 @@ so_far-ends start old new reply rest text whole c0 c1 c2 status s parts f less o
 pub so_far-whole : (start now : Option (List ℕ)) (rest whole : List ℕ) (c0 c1 : ℕ) → SoFar start now rest whole → rest ≡ [] → c0 ≤ c1 → Follows (transcript_of Done whole) start now c0 c1 Done
 so_far-whole start now rest whole c0 c1 s none less =
     let text : s.done ≡ whole = sym (append-nil s.done) ∙ ap (λ x. s.done ++ x) (sym none) ∙ s.all in
-    let all : now ≡ with_end start whole = s.taken ∙ ap (with_end start) text in
+    let all : Appends start now whole = subst (Appends start now) text s.taken in
     record {
       written = takes_whole start now whole all;
       whole = λ _. all;

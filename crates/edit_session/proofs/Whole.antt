@@ -1,16 +1,15 @@
 -- How the whole run follows its transcript, over an input that is told.
-use Rattle.std.proofs.Common.{◌≡◌, ◌⊎◌, ◌&&◌, ℕ, ◌<◌, ◌≤◌, Bool, true, false, List, [], ◌∷◌, ◌++◌, length, Option, Some, None, IfSome, refl, sym, ap, ◌∙◌, subst, inl, inr, arith, nat_lt, nat_le, unwrap_or, lit<, if◌then◌else◌}
+use Rattle.std.proofs.Common.{◌≡◌, ◌⊎◌, ◌&&◌, ℕ, ◌<◌, ◌≤◌, Bool, true, false, List, [], ◌∷◌, length, Option, Some, None, IfSome, refl, sym, ap, ◌∙◌, subst, inl, inr, arith, nat_lt, nat_le, unwrap_or, lit<, if◌then◌else◌}
 use Rattle.std.specs.Option.{option_map, option_and_then}
 use Rattle.std.proofs.lemmas.Bool.Decides.{nat_tests}
-use Rattle.std.proofs.lemmas.List.{append-nil}
+use Rattle.std.specs.Io.KnownBytes.{Appends, Consumes, IsAtEnd}
+use Rattle.std.proofs.KnownBytes.{Appends-nil, Consumes-whole}
 use Rattle.edit_io.specs.Faults.{Rose}
 use Rattle.edit_io.specs.Handed.{handed_more}
-use Rattle.edit_io.specs.Told.{with_front, with_end, IsAtEnd}
-use Rattle.edit_io.proofs.Told.{with_end-nil, with_front-some, with_front-none}
 use Rattle.edit_engine.specs.ScriptRead.Reading.{number_of}
 use Rattle.edit_session.specs.Words.{Order, Run, Check, Replay, Bulk, reads_input, Choice, CapAt, UndoUpTo, Denying, Given, order_of, amount_of, choice_of, greatest_cap, greatest_undo, usual_undo, with_choice, AreSettings, IsOrder, none_given}
 use Rattle.edit_session.specs.Transcript.{Transcript, transcript_of, transcript, order_transcript, gives}
-use Rattle.edit_session.specs.Following.{Follows, RunFollows, IsAnswered, HasCap, Answered}
+use Rattle.edit_session.specs.Following.{Follows, RunFollows, IsAnswered, IsBegun, HasCap, Answered}
 use Rattle.edit_session.specs.declared.session.Status.{Status}
 use Rattle.edit_session.specs.declared.session.Status.TheVariants.{Done, Usage, ReadFault, WriteFault, Memory, PageRefused, TooLong, StepRefused}
 use Rattle.edit_session.specs.declared.words.Setting.{Setting}
@@ -89,13 +88,6 @@ told_each : {X : Type 0} (o : Option X) (P Q : X → Type 0) → ((x : X) → P 
 told_each None P Q h p = tt
 told_each (Some x) P Q h p = h x p
 
--- what was read is what was told, where the reading came to the end
-pub told_read : (old new : Option (List ℕ)) (bytes : List ℕ) (P : List ℕ → Type 0) → old ≡ with_front bytes new → IsAtEnd new → P bytes → IfSome old P
-told_read old None bytes P is end h = rw (is, with_front-none bytes) tt
-told_read old (Some rest) bytes P is end h =
-    let all : old ≡ Some bytes = is ∙ with_front-some bytes rest ∙ ap (λ r. Some (bytes ++ r)) end ∙ ap Some (append-nil bytes) in
-    rw all h
-
 -- ---- the whole run
 
 usage_transcript : (words : List (List ℕ)) (bytes : List ℕ) → order_of words ≡ None → transcript words bytes ≡ transcript_of Usage []
@@ -151,7 +143,7 @@ transcript_given words bytes order is = rw is (order_given bytes order (reads_in
 silent : (want : Transcript) (told : Option (List ℕ)) (r0 r1 w : ℕ) (status : Status) → IsGiven want.status → (status ≡ want.status → want.text ≡ []) → (status ≡ want.status) ⊎ (((status ≡ ReadFault) × Rose r0 r1) ⊎ (status ≡ Memory)) → RunFollows want told told r0 r1 w w status
 silent want told r0 r1 w status given empty cause = record {
   written = nothing_taken told want.text;
-  whole = λ e. sym (with_end-nil told) ∙ ap (with_end told) (sym (empty e));
+  whole = λ e. subst (Appends told told) (sym (empty e)) (Appends-nil told);
   cause = elim cause [
     | inl e ↦ inl e
     | inr (inl h) ↦ inr (inl h)
@@ -167,7 +159,7 @@ silent want told r0 r1 w status given empty cause = record {
 usage_follows : (want : Transcript) (told : Option (List ℕ)) (r w : ℕ) → want ≡ transcript_of Usage [] → RunFollows want told told r r w w Usage
 usage_follows want told r w is = record {
   written = nothing_taken told want.text;
-  whole = λ _. sym (with_end-nil told) ∙ ap (with_end told) (sym (ap (λ (t : Transcript). t.text) is));
+  whole = λ _. subst (Appends told told) (sym (ap (λ (t : Transcript). t.text) is)) (Appends-nil told);
   cause = inl (sym (ap (λ (t : Transcript). t.status) is));
   usage = λ _. refl;
   too_long = λ h. absurd (let e : Usage ≡ TooLong = sym (ap (λ (t : Transcript). t.status) is) ∙ h in cc);
@@ -208,10 +200,10 @@ run_follows want before after r0 r1 w0 w1 status answered f = record {
   too_long = λ h. absurd (subst Answered h answered);
 }
 
-pub told_run : (old new : Option (List ℕ)) (bytes : List ℕ) (words : List (List ℕ)) (order : Order) (before after : Option (List ℕ)) (r0 r1 w0 w1 : ℕ) (status : Status) → order_of words ≡ Some order → old ≡ with_front bytes new → IsAtEnd new → length bytes ≤ 8388608 → Follows (gives order bytes) before after w0 w1 status
+pub told_run : (old new : Option (List ℕ)) (bytes : List ℕ) (words : List (List ℕ)) (order : Order) (before after : Option (List ℕ)) (r0 r1 w0 w1 : ℕ) (status : Status) → order_of words ≡ Some order → Consumes old new bytes → IsAtEnd new → length bytes ≤ 8388608 → Follows (gives order bytes) before after w0 w1 status
     → IfSome old (λ bytes. RunFollows (transcript words bytes) before after r0 r1 w0 w1 status)
 told_run old new bytes words order before after r0 r1 w0 w1 status is read end short f =
-    told_read old new bytes (λ bs. RunFollows (transcript words bs) before after r0 r1 w0 w1 status) read end (
+    Consumes-whole old new bytes (λ bs. RunFollows (transcript words bs) before after r0 r1 w0 w1 status) read end (
     let e = short_transcript words bytes order is short in
     rw e (run_follows (gives order bytes) before after r0 r1 w0 w1 status (gives_answered order bytes) f))
 
@@ -223,7 +215,7 @@ answered_whole want before after w0 w1 status answered f = elim f.cause [
   | inr (inr e) ↦ absurd (subst Answered e answered)
 ]
 
-pub answered_run : (old new : Option (List ℕ)) (h0 h1 : ℕ) (bytes : List ℕ) (words : List (List ℕ)) (order : Order) (before after : Option (List ℕ)) (w0 w1 : ℕ) (status : Status) → IsOrder words order → order_of words ≡ Some order → reads_input order ≡ true → old ≡ with_front bytes new → IsAtEnd new → h1 ≡ handed_more h0 (length bytes) → length bytes ≤ 8388608 → Follows (gives order bytes) before after w0 w1 status
+pub answered_run : (old new : Option (List ℕ)) (h0 h1 : ℕ) (bytes : List ℕ) (words : List (List ℕ)) (order : Order) (before after : Option (List ℕ)) (w0 w1 : ℕ) (status : Status) → IsOrder words order → order_of words ≡ Some order → reads_input order ≡ true → Consumes old new bytes → IsAtEnd new → h1 ≡ handed_more h0 (length bytes) → length bytes ≤ 8388608 → Follows (gives order bytes) before after w0 w1 status
     → Answered status → IsAnswered words old new h0 h1 before after status
 answered_run old new h0 h1 bytes words order before after w0 w1 status asked is reads read end amount short f answered =
     let e = short_transcript words bytes order is short in
@@ -237,7 +229,28 @@ answered_run old new h0 h1 bytes words order before after w0 w1 status asked is 
       written = rw e (f.whole same);
     }
 
+-- what was read begins to be answered
+pub begun_run : (old new : Option (List ℕ)) (h0 h1 : ℕ) (bytes : List ℕ) (words : List (List ℕ)) (order : Order) (before after : Option (List ℕ)) (w0 w1 : ℕ) (status : Status) → IsOrder words order → order_of words ≡ Some order → reads_input order ≡ true → Consumes old new bytes → IsAtEnd new → h1 ≡ handed_more h0 (length bytes) → length bytes ≤ 8388608 → Follows (gives order bytes) before after w0 w1 status
+    → IsBegun words old new h0 h1 before after
+begun_run old new h0 h1 bytes words order before after w0 w1 status asked is reads read end amount short f = record {
+  order = order;
+  ordered = asked;
+  text = bytes;
+  read = rw reads (read, end, amount);
+  written = rw (short_transcript words bytes order is short) f.written;
+}
+
 -- ---- an order that reads no input
+
+pub begun_unread : (left : Option (List ℕ)) (h : ℕ) (words : List (List ℕ)) (order : Order) (before after : Option (List ℕ)) (w0 w1 : ℕ) (status : Status) → IsOrder words order → order_of words ≡ Some order → reads_input order ≡ false → Follows (gives order []) before after w0 w1 status
+    → IsBegun words left left h h before after
+begun_unread left h words order before after w0 w1 status asked is unread f = record {
+  order = order;
+  ordered = asked;
+  text = [];
+  read = rw unread (refl, refl, refl);
+  written = rw (unread_transcript words [] order is unread) f.written;
+}
 
 pub told_unread : (left : Option (List ℕ)) (words : List (List ℕ)) (order : Order) (before after : Option (List ℕ)) (r w0 w1 : ℕ) (status : Status) → order_of words ≡ Some order → reads_input order ≡ false → Follows (gives order []) before after w0 w1 status
     → IfSome left (λ bytes. RunFollows (transcript words bytes) before after r r w0 w1 status)

@@ -1,8 +1,9 @@
 -- How a run follows its transcript.
 use Rattle.std.specs.Prelude.{◌≡◌, ◌⊎◌, ℕ, ◌<◌, ◌≤◌, Bool, true, false, List, [], length, Option, Some, None}
+use Rattle.std.specs.Io.KnownBytes.{Appends, Consumes, IsAtEnd}
 use Rattle.edit_io.specs.Faults.{Rose}
 use Rattle.edit_io.specs.Handed.{handed_more}
-use Rattle.edit_io.specs.Told.{with_front, with_end, IsAtEnd, TakesPrefix}
+use Rattle.edit_io.specs.Told.{TakesPrefix}
 use Rattle.page_read.specs.PageGrammar.Kind.{Kind}
 use Rattle.edit_session.specs.Words.{Order, Run, Check, Replay, Bulk, reads_input, IsOrder}
 use Rattle.edit_session.specs.Transcript.{Transcript, refused, word_of, transcript}
@@ -15,7 +16,7 @@ use Rattle.edit_session.specs.declared.session.Status.TheVariants.{Done, Usage, 
 pub record Follows (want : Transcript) (before after : Option (List ℕ)) (count count_after : ℕ)
     (status : Status) : Type 0 where
   pub written : TakesPrefix before after want.text
-  pub whole : status ≡ want.status → after ≡ with_end before want.text
+  pub whole : status ≡ want.status → Appends before after want.text
   pub cause : (status ≡ want.status)
       ⊎ (((status ≡ WriteFault) × Rose count count_after) ⊎ (status ≡ Memory))
   pub counted : count ≤ count_after
@@ -51,7 +52,7 @@ IsSilent s = ⊥
 abbrev pub WasRead : (reading : Bool) (before after : Option (List ℕ)) (handed handed_after : ℕ)
     → List ℕ → Type 0
 WasRead true before after handed handed_after text =
-    (before ≡ with_front text after) × IsAtEnd after
+    Consumes before after text × IsAtEnd after
     × (handed_after ≡ handed_more handed (length text))
 WasRead false before after handed handed_after text =
     (after ≡ before) × (handed_after ≡ handed) × (text ≡ [])
@@ -66,7 +67,24 @@ pub record IsAnswered
   pub text : List ℕ
   pub read : WasRead (reads_input order) left left_after handed handed_after text
   pub given : (transcript words text).status ≡ status
-  pub written : taken_after ≡ with_end taken (transcript words text).text
+  pub written : Appends taken taken_after (transcript words text).text
+
+-- the statuses of a run that was cut off before its transcript was written whole
+abbrev pub IsCutOff : Status → Type 0
+IsCutOff WriteFault = Unit {0}
+IsCutOff Memory = Unit {0}
+IsCutOff s = ⊥
+
+-- The words ask for an order, its text was read, and what was written is a prefix of the transcript
+-- of that.
+pub record IsBegun
+    (words : List (List ℕ)) (left left_after : Option (List ℕ)) (handed handed_after : ℕ)
+    (taken taken_after : Option (List ℕ)) : Type 0 where
+  pub order : Order
+  pub ordered : IsOrder words order
+  pub text : List ℕ
+  pub read : WasRead (reads_input order) left left_after handed handed_after text
+  pub written : TakesPrefix taken taken_after (transcript words text).text
 
 -- ---- a whole run
 
@@ -86,7 +104,7 @@ pub record RunFollows
     (want : Transcript) (before after : Option (List ℕ)) (reads reads_after writes writes_after : ℕ)
     (status : Status) : Type 0 where
   pub written : TakesPrefix before after want.text
-  pub whole : status ≡ want.status → after ≡ with_end before want.text
+  pub whole : status ≡ want.status → Appends before after want.text
   pub cause : (status ≡ want.status)
       ⊎ (ReadFailed status reads reads_after
       ⊎ (WriteFailed status writes writes_after ⊎ (status ≡ Memory)))

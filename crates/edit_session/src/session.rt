@@ -1,6 +1,6 @@
 //! The run of the program over any source and sink.
 
-ghost use Rattle.std.specs.Prelude.{◌≡◌, ◌+◌, ◌<◌, ◌≤◌, ◌↔◌, ◌^◌, Result, [], length, map, string_bytes, IfOk, IfSome, Some, None, false};
+ghost use Rattle.std.specs.Prelude.{◌≡◌, ◌⊎◌, ◌+◌, ◌<◌, ◌≤◌, ◌↔◌, ◌^◌, Result, [], length, map, string_bytes, IfOk, IfSome, Some, None, false};
 ghost use Rattle.edit_io.specs.Faults.{Rose};
 ghost use Rattle.edit_io.specs.Handed.{handed_more};
 ghost use Rattle.page_read.specs.PageGrammar.Reading.{page_reading};
@@ -17,7 +17,7 @@ ghost use Rattle.edit_engine.specs.Editing.{new_editing};
 ghost use Rattle.edit_session.specs.Replies.{line_reply, replies_to};
 ghost use Rattle.edit_session.specs.Transcript.{Transcript, numbers_line, transcript_of, refused, checked, acted, run_block, step_refused, replayed_text, replay_ended, replayed_on, replay_block, gives, transcript};
 ghost use Rattle.edit_session.specs.Grammars.{RestsOnGrammars};
-ghost use Rattle.edit_session.specs.Following.{Follows, IsWanted, HasCap, IsAnswered, RunFollows, Answered, IsSilent};
+ghost use Rattle.edit_session.specs.Following.{Follows, IsWanted, HasCap, IsAnswered, IsBegun, RunFollows, Answered, IsCutOff, IsSilent};
 
 use crate::acts::answer_line;
 use crate::block::{PageBlock, after_line, line_end, read_block};
@@ -408,6 +408,12 @@ pub fn run_session<I: Source, O: Sink>(
     ensures answered { Answered result → IsAnswered (map string_bytes words.now)
         (I.left input.old) (I.left input.new) (I.handed input.old) (I.handed input.new)
         (O.taken output.old) (O.taken output.new) result }
+
+    // With WriteFault and Memory nothing is written, or a prefix of the transcript of what was read,
+    // whether the source shows that or not.
+    ensures cut_off { IsCutOff result → (output.new ≡ output.old)
+        ⊎ IsBegun (map string_bytes words.now) (I.left input.old) (I.left input.new)
+        (I.handed input.old) (I.handed input.new) (O.taken output.old) (O.taken output.new) }
 
     // At most one byte past the limit is taken, and TooLong means that it was.
     ensures bounded { I.handed input.new ≤ I.handed input.old + 8388609 }

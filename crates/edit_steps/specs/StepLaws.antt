@@ -3,7 +3,6 @@ use Rattle.std.proofs.Common.{◌≡◌, ℕ, ◌<◌, List, [], ◌∷◌, Opti
 use Rattle.std.specs.Option.{option_map}
 use Rattle.forest_changes.specs.DomModel.declared.attributes.Attribute.{Attribute}
 use Rattle.forest_changes.specs.DomModel.Forest.{count_of, parent_of, next_of}
-use Rattle.forest_changes.proofs.DomModel.Links.{parent_count, next_here}
 use Rattle.node_arena.specs.declared.NodeRef.{NodeRef}
 use Rattle.node_arena.specs.Held.{Holds, label}
 use Rattle.forest_changes.specs.DomModel.ArenaState.{ArenaState, IsSlotted}
@@ -13,7 +12,7 @@ use Rattle.edit_steps.specs.declared.step.Step.{Step}
 use Rattle.edit_steps.specs.declared.step.Step.TheVariants as step
 use Rattle.edit_steps.specs.Step.{change_of, ref_at, step_applied, step_inverse, nodes_of, StepFits}
 use Rattle.forest_changes.specs.Named.{listed, Each}
-use Rattle.forest_changes.proofs.DownChange.{each_listed}
+use Rattle.forest_changes.proofs.DownChange.{each_listed, parent_count, next_here}
 
 label-ref : (a : ArenaState) (o : Option ℕ) → label (option_map (ref_at a) o) ≡ o
 label-ref a None = refl

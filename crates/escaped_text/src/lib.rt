@@ -3,7 +3,7 @@
 #![tactic(auto)]
 
 ghost use Rattle.std.specs.Prelude.{◌≡◌, ◌++◌, OnOk, OnErr, encode_utf8, encode_utf8_all};
-ghost use Rattle.escaped_text.specs.Escaped.{escape_of, escaped_bytes};
+ghost use Rattle.escaped_text.specs.Escaped.{HasPart, escape_of, escaped_bytes};
 
 use std::alloc::AllocError;
 
@@ -21,9 +21,10 @@ pub fn push_char(bytes: &mut Vec<u8>, c: char) -> Result<(), AllocError>
     Ok(())
 }
 
-/// Appends characters in UTF-8. After an `Err` a part of them stands in the bytes.
+/// Appends characters in UTF-8. After an `Err` the first of them stand in the bytes.
 pub fn push_chars(bytes: &mut Vec<u8>, text: &[char]) -> Result<(), AllocError>
     ensures ok { OnOk result (bytes.new.items ≡ bytes.old.items ++ encode_utf8_all text.now) }
+    ensures err { OnErr result (HasPart encode_utf8_all bytes.old.items text.now bytes.new.items) }
 {
     for c in text {
         push_char(bytes, *c)?;
@@ -34,6 +35,7 @@ pub fn push_chars(bytes: &mut Vec<u8>, text: &[char]) -> Result<(), AllocError>
 // Appends what is printed for one character.
 fn push_escape(bytes: &mut Vec<u8>, c: char) -> Result<(), AllocError>
     ensures ok { OnOk result (bytes.new.items ≡ bytes.old.items ++ encode_utf8_all (escape_of c)) }
+    ensures err { OnErr result (bytes.new.items ≡ bytes.old.items) }
 {
     match c {
         '\n' => bytes.extend_from_slice(b"\\n")?,
@@ -48,9 +50,10 @@ fn push_escape(bytes: &mut Vec<u8>, c: char) -> Result<(), AllocError>
 }
 
 /// Appends a text on one line: LF as `\n`, tab as `\t`, `\` as `\\`, `"` as `\"`, CR as `\r` and
-/// U+00A0 as `\u{a0}`. After an `Err` a part of it stands in the bytes.
+/// U+00A0 as `\u{a0}`. After an `Err` the first characters stand in the bytes.
 pub fn push_escaped(bytes: &mut Vec<u8>, text: &[char]) -> Result<(), AllocError>
     ensures ok { OnOk result (bytes.new.items ≡ bytes.old.items ++ escaped_bytes text.now) }
+    ensures err { OnErr result (HasPart escaped_bytes bytes.old.items text.now bytes.new.items) }
 {
     for c in text {
         push_escape(bytes, *c)?;

@@ -12,7 +12,8 @@ use Rattle.dom_model.specs.Pruned.{pruned, IsWhole}
 use Rattle.dom_model.specs.ArenaState.{CanLink}
 use Rattle.dom_model.proofs.Totals.{total-unlink}
 use Rattle.dom_model.proofs.Stands.{true_or_false, parent_stands, times-tops}
-use Rattle.dom_model.proofs.Links.{seen, found_count, parent_count, next_here}
+use Rattle.dom_model.proofs.Links.{seen, found_count}
+pub use Rattle.dom_model.proofs.Links.{parent_count, next_here}
 use Rattle.dom_model.proofs.Pruning.{count_of-pruned, IsDistinct-pruned, RisesFrom-pruned, seek-pruned, tree_of-pruned, parent_of-pruned, children_of-pruned, whole_out}
 use Rattle.forest_changes.specs.Change.{Change, Remove, Insert, Move, SetText, Splice, SetAttributes, IsForest, Fits, spliced_at, applied, inverse}
 use Rattle.forest_changes.specs.Named.{named, listed, Each}

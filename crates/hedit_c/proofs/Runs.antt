@@ -1,9 +1,8 @@
 -- What a run comes to whose source and sink never fail.
-use Rattle.std.proofs.Common.{◌≡◌, ◌≢◌, ◌⊎◌, inl, inr, ℕ, List, [], refl, ap, ◌∙◌, arith}
+use Rattle.std.proofs.Common.{◌≡◌, ◌≢◌, ◌⊎◌, inl, inr, ℕ, List, [], ◌++◌, refl, ap, ◌∙◌, arith}
 use Rattle.std.specs.Prelude.{Some}
+use Rattle.std.specs.Io.KnownBytes.{Appends}
 use Rattle.edit_session.specs.EditIo.Faults.{Rose}
-use Rattle.edit_session.specs.EditIo.Told.{with_end}
-use Rattle.edit_session.proofs.EditIo.Told.{with_end-some}
 use Rattle.edit_session.specs.Following.{RunFollows, ReadFailed, WriteFailed}
 use Rattle.edit_session.specs.Transcript.{Transcript, transcript_of}
 use Rattle.edit_session.specs.declared.session.Status.{Status}
@@ -16,11 +15,11 @@ not_rose (inr h) = absurd (omega arith)
 
 -- the text is all that was taken
 taken_whole : (before after text : List ℕ) → before ≡ []
-    → Some after ≡ with_end (Some before) text → after ≡ text
-taken_whole before after text empty is = let e = with_end-some before text in cc
+    → Appends (Some before) (Some after) text → after ≡ text
+taken_whole before after text empty is = is ∙ ap (λ xs. xs ++ text) empty
 
 ran_by : (want : Transcript) (before after : List ℕ) (status : Status) → before ≡ []
-    → (status ≡ want.status → Some after ≡ with_end (Some before) want.text)
+    → (status ≡ want.status → Appends (Some before) (Some after) want.text)
     → (status ≡ want.status) ⊎ (ReadFailed status 0 0 ⊎ (WriteFailed status 0 0 ⊎ (status ≡ Memory)))
     → Ran want status after
 ran_by want before after status empty whole (inl is) =

@@ -52,7 +52,7 @@ function keyOf(key, isShifted) {
 
 /** A running Chromium. */
 export class Chromium {
-  static program = PROGRAM;
+  static programs = [PROGRAM];
 
   #child;
 

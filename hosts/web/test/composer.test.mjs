@@ -8,9 +8,9 @@ import { once } from "node:events";
 import { mkdtemp, readFile, rm } from "node:fs/promises";
 import { tmpdir } from "node:os";
 import { join } from "node:path";
-import { after, afterEach, before, describe, it } from "node:test";
+import { after, afterEach, before, describe } from "node:test";
 import { fileURLToPath } from "node:url";
-import { BROWSERS, IS_WHOLE } from "./browsers.mjs";
+import { BROWSERS, IS_WHOLE, it } from "./browsers.mjs";
 
 const SERVE = process.env.HEDIT_SERVE ?? fileURLToPath(new URL("../serve", import.meta.url));
 

@@ -3,8 +3,6 @@ import { readFile } from "node:fs/promises";
 import { setFlagsFromString } from "node:v8";
 import { runInNewContext } from "node:vm";
 
-// Node before 24 asks for it.
-setFlagsFromString("--experimental-wasm-memory64");
 setFlagsFromString("--expose-gc");
 
 export const BYTES = await readFile(new URL("../dist/hedit.wasm", import.meta.url));

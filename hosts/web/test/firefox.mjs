@@ -7,32 +7,11 @@ import { once } from "node:events";
 import { writeFile } from "node:fs/promises";
 import { join } from "node:path";
 import { setTimeout as sleep } from "node:timers/promises";
+import { KEYS } from "./keys.mjs";
 import { Page, expressionOf, makeProfile, removeProfile, shifted } from "./page.mjs";
 import { Socket } from "./websocket.mjs";
 
 const PROGRAM = "firefox-esr";
-
-/** The keys that aren't characters, as WebDriver writes them. */
-const KEYS = {
-  Alt: "\ue00a",
-  Control: "\ue009",
-  Meta: "\ue03d",
-  Shift: "\ue008",
-  Enter: "\ue007",
-  Tab: "\ue004",
-  Escape: "\ue00c",
-  Backspace: "\ue003",
-  Delete: "\ue017",
-  Home: "\ue011",
-  End: "\ue010",
-  PageUp: "\ue00e",
-  PageDown: "\ue00f",
-  ArrowLeft: "\ue012",
-  ArrowUp: "\ue013",
-  ArrowRight: "\ue014",
-  ArrowDown: "\ue015",
-  F10: "\ue03a",
-};
 
 /** So that a window without a screen has the focus, and scripts may use the clipboard. */
 const PREFERENCES = {
@@ -99,7 +78,7 @@ function askMethod(script, asked) {
 
 /** A running Firefox. */
 export class Firefox {
-  static program = PROGRAM;
+  static programs = [PROGRAM];
 
   #child;
 

@@ -1,6 +1,5 @@
 import assert from "node:assert/strict";
 import { readFile } from "node:fs/promises";
-import { createServer } from "node:http";
 import { describe, it } from "node:test";
 import { NAME, PAGE, at, engine, refused } from "./calls.mjs";
 import { BYTES, collect, withMorePages } from "./engine.mjs";
@@ -554,34 +553,5 @@ describe("a session", () => {
     assert.deepEqual(engine.session(text), { status: Status.DONE, transcript });
     assert.deepEqual(engine.session("", ["walk"]), { status: Status.USAGE, transcript: "" });
     assert.equal(engine.session("", ["bulk", "3000"]).status, Status.DONE);
-  });
-});
-
-describe("load", () => {
-  it("takes bytes, a response and an address", async (t) => {
-    const server = createServer((request, response) => {
-      response.setHeader("Content-Type", "application/wasm");
-      response.end(BYTES);
-    });
-    await new Promise((resolve) => server.listen(0, "127.0.0.1", resolve));
-    t.after(() => server.close());
-    const address = `http://127.0.0.1:${server.address().port}/hedit.wasm`;
-    const { buffer, byteOffset, byteLength } = BYTES;
-    const sources = [
-      BYTES,
-      buffer.slice(byteOffset, byteOffset + byteLength),
-      address,
-      new URL(address),
-      fetch(address),
-      await fetch(address),
-    ];
-    for (const source of sources) {
-      const editor = (await load(source)).open(PAGE);
-      assert.equal(editor.html(), '<p contenteditable="">Call Ann</p>\n');
-    }
-  });
-
-  it("refuses what is no module", async () => {
-    await assert.rejects(load(new Uint8Array([1, 2, 3])), WebAssembly.CompileError);
   });
 });

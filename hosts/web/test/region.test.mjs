@@ -1,7 +1,7 @@
 /** A region, used by keys and by the mouse: after each step the page is what the engine has. */
 import assert from "node:assert/strict";
-import { describe, it } from "node:test";
-import { BROWSERS } from "./browsers.mjs";
+import { describe } from "node:test";
+import { BROWSERS, it } from "./browsers.mjs";
 import { RegionPage } from "./region_page.mjs";
 
 for (const { Browser, name, skip } of BROWSERS) {
@@ -398,7 +398,12 @@ for (const { Browser, name, skip } of BROWSERS) {
 
       it("leave their fields to the browser", async () => {
         const field = '<input type="text">';
-        await region.open(`<p>ac<span contenteditable="false">${field}</span></p>`);
+        const page = `<p>ac<span contenteditable="false">${field}</span></p>`;
+        await region.page.evaluate((html) => {
+          const element = (name) => name === "input" || undefined;
+          const attribute = (name, each) => (name === "input" && each === "type") || undefined;
+          window.start(html, { view: { element, attribute } });
+        }, page);
         await region.click([0, 0], 1);
         await region.type("b");
         await region.page.click("#host input");

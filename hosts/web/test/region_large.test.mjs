@@ -1,7 +1,7 @@
 /** A region with much in it. The longest ones wait for hosts/web/test/all. */
 import assert from "node:assert/strict";
-import { describe, it } from "node:test";
-import { BROWSERS, IS_WHOLE } from "./browsers.mjs";
+import { describe } from "node:test";
+import { BROWSERS, IS_WHOLE, it } from "./browsers.mjs";
 import { RegionPage } from "./region_page.mjs";
 
 const PARAGRAPHS = IS_WHOLE ? 5000 : 300;

@@ -19,9 +19,10 @@ export class RegionPage {
 
   #page;
 
-  constructor(Browser) {
+  /** The page may be another one, as its markup, that has what region.html has. */
+  constructor(Browser, markup = undefined) {
     before(async () => {
-      this.#server = await serve("region.html");
+      this.#server = await serve("region.html", markup);
       this.#browser = await Browser.launch();
       this.#page = await this.#browser.open(this.#server.address);
       await this.#page.allowClipboard();
@@ -51,7 +52,8 @@ export class RegionPage {
       const isPlain = !region.element.querySelector(":is(br, hr, img) *");
       return {
         difference: region.check(),
-        shown: isPlain ? region.element.innerHTML : null,
+        // What links and images get beside their own attributes.
+        shown: isPlain ? region.element.innerHTML.replace(/ (?:rel|referrerpolicy)="[^"]*"/g, "") : null,
         html: region.html(),
       };
     });
@@ -79,6 +81,8 @@ export class RegionPage {
 
   /** Opens a region, with the focus at the start. */
   async open(html, choices = {}) {
+    // WebKit stays where it was scrolled to, also below the end of a shorter page.
+    await this.#page.evaluate(() => window.scrollTo(0, 0));
     await this.#page.evaluate((...words) => window.start(...words), html, choices);
     await this.agrees();
   }
@@ -161,17 +165,20 @@ export class RegionPage {
     await this.shows(after);
   }
 
+  /** What is selected, without the line feeds that WebKit has at the end. */
   selected() {
-    return this.#page.evaluate(() => String(document.getSelection()));
+    return this.#page.evaluate(() => String(document.getSelection()).replace(/\n+$/, ""));
   }
 
   ask(call, ...words) {
     return this.#page.evaluate((name, rest) => window.region[name](...rest), call, words);
   }
 
-  /** The text as it is shown, with each run of line feeds as one. */
+  /** The text as it is shown, with each run of line feeds as one: WebKit has some more at the end. */
   text() {
-    return this.#page.evaluate(() => window.region.element.innerText.replace(/\n+/g, "\n"));
+    return this.#page.evaluate(() =>
+      window.region.element.innerText.replace(/\n+/g, "\n").replace(/\n$/, ""),
+    );
   }
 
   events() {

@@ -1,7 +1,7 @@
 /** What input methods, spelling and others change in a region by themselves: one step of undo each. */
 import assert from "node:assert/strict";
-import { describe, it } from "node:test";
-import { BROWSERS } from "./browsers.mjs";
+import { describe } from "node:test";
+import { BROWSERS, it } from "./browsers.mjs";
 import { RegionPage } from "./region_page.mjs";
 
 for (const { Browser, name, skip } of BROWSERS) {

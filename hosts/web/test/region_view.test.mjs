@@ -1,9 +1,9 @@
 /** What a region shows, what it undoes, and what can be switched off. */
 import assert from "node:assert/strict";
 import { readFile } from "node:fs/promises";
-import { describe, it } from "node:test";
+import { describe } from "node:test";
 import { HABITS, Region } from "../region.js";
-import { BROWSERS } from "./browsers.mjs";
+import { BROWSERS, it } from "./browsers.mjs";
 import { RegionPage } from "./region_page.mjs";
 import { serve } from "./server.mjs";
 
@@ -105,7 +105,11 @@ for (const { Browser, name, skip } of BROWSERS) {
           '<img src="data:," onerror="x()"></p>';
         await region.page.evaluate((page) => window.start(page), html);
         const shown = await region.page.evaluate(() => window.region.element.innerHTML);
-        assert.equal(shown, '<p>a</p><p><a>b</a><a href="https://x/">c</a><img src="data:,"></p>');
+        assert.equal(
+          shown,
+          '<p>a</p><p><a data-hedit-link="">b</a><a href="https://x/" rel="noopener noreferrer">c</a>' +
+            '<img referrerpolicy="no-referrer" data-hedit-image=""></p>',
+        );
         assert.match(await region.ask("html"), /onclick="x\(\)".*script:x.*onerror/s);
         assert.equal(await region.ask("check"), null);
       });

@@ -1,9 +1,10 @@
-use Rattle.std.proofs.Common.{sym, ◌∙◌, ap, vec_len, arith}
+use Rattle.std.proofs.Common.{sym, ◌∙◌, subst, vec_len, arith}
 use Rattle.std.proofs.lemmas.Result.{err_from_is_err_and}
 use Rattle.std.proofs.lemmas.List.{length-take}
-use Rattle.edit_io.specs.Told.{with_front}
+use Rattle.std.specs.Io.KnownBytes.{Consumes}
+use Rattle.std.proofs.KnownBytes.{Consumes-nil}
 use Rattle.edit_io.proofs.Handed.{handed_longer, handed_whole}
-use Rattle.edit_io.proofs.Told.{with_front-nil, gives_none, gives_after, gives_beyond, gives_piece, gives_all, read_none, read_more, told_within}
+use Rattle.edit_io.proofs.Told.{gives_none, gives_after, gives_beyond, gives_piece, gives_all, read_none, read_more, told_within}
 use Rattle.edit_io.proofs.whole.read_all.Goals as goal
 
 pub returns-in_err-store-clause-given : goal.returns-in_err-store-clause-given
@@ -13,7 +14,7 @@ pub loop-bytes-init : goal.loop-bytes-init
 loop-bytes-init g c = record {
   some = omega (arith, c.in_ok-store.ensures, c.as_mut_slice-buffer.ensures.len);
   within = let e = c.new-bytes.ensures.len in omega arith;
-  given = sym (ap (λ xs. with_front xs (g.I.Source.left c.args.input.now)) c.new-bytes.ensures.items ∙ with_front-nil _);
+  given = subst (Consumes _ _) (sym c.new-bytes.ensures.items) (Consumes-nil (g.I.Source.left c.args.input.now));
   counted = omega arith;
   amount = let e = c.new-bytes.ensures.len in λ more. omega arith;
   at_most = let e = c.new-bytes.ensures.len in omega arith;

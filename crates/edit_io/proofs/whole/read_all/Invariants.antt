@@ -1,5 +1,5 @@
-use Rattle.std.proofs.Common.{◌≡◌, ◌+◌, ◌<◌, ◌≤◌, ◌-◌, vec_len, length}
-use Rattle.edit_io.specs.Told.{with_front}
+use Rattle.std.proofs.Common.{◌+◌, ◌<◌, ◌≤◌, ◌-◌, vec_len, length}
+use Rattle.std.specs.Io.KnownBytes.{Consumes}
 use Rattle.edit_io.proofs.Handed.{HasHanded}
 use Rattle.edit_io.proofs.whole.read_all.Given as goal
 
@@ -7,7 +7,7 @@ abbrev pub invariant-loop-bytes : goal.invariant-loop-bytes
 invariant-loop-bytes g l = record {
   some : 0 < length l.buffer;
   within : vec_len l.bytes ≤ l.limit;
-  given : g.I.Source.left l.initial.input ≡ with_front l.bytes.items (g.I.Source.left l.input);
+  given : Consumes (g.I.Source.left l.initial.input) (g.I.Source.left l.input) l.bytes.items;
   counted : g.I.Source.faults l.initial.input ≤ g.I.Source.faults l.input;
   amount : HasHanded (g.I.Source.handed l.initial.input) (g.I.Source.handed l.input) (vec_len l.bytes);
   at_most : g.I.Source.handed l.input ≤ g.I.Source.handed l.initial.input + vec_len l.bytes;

@@ -1,9 +1,10 @@
-use Rattle.std.proofs.Common.{sym, arith}
-use Rattle.edit_io.proofs.Told.{with_end-nil, write_more}
+use Rattle.std.proofs.Common.{arith}
+use Rattle.std.proofs.KnownBytes.{Appends-nil}
+use Rattle.edit_io.proofs.Told.{write_more}
 use Rattle.edit_io.proofs.whole.write_all.Goals as goal
 
 pub loop-at-init : goal.loop-at-init
-loop-at-init g c = record { within = omega arith; taken = sym (with_end-nil _); counted = omega arith }
+loop-at-init g c = record { within = omega arith; taken = Appends-nil _; counted = omega arith }
 
 pub loop-at-preserved : goal.loop-at-preserved
 loop-at-preserved g c = record {

@@ -1,7 +1,7 @@
-use Rattle.std.proofs.Common.{◌≡◌, ◌≤◌, [], map, length, vec_len, string_bytes, sym, ap, ◌∙◌, refl, arith}
+use Rattle.std.proofs.Common.{◌≡◌, ◌≤◌, [], inr, map, length, vec_len, string_bytes, sym, ap, ◌∙◌, refl, arith}
 use Rattle.edit_io.specs.Handed.{handed_more}
 use Rattle.edit_session.specs.Words.{order_in}
-use Rattle.edit_session.proofs.Whole.{order_has_cap, told_usage, told_failed, told_memory, told_long, told_run, answered_run, told_unread, answered_unread, alone_unread, not_alone, none_asked, never_long}
+use Rattle.edit_session.proofs.Whole.{order_has_cap, told_usage, told_failed, told_memory, told_long, told_run, answered_run, begun_run, told_unread, answered_unread, begun_unread, alone_unread, not_alone, none_asked, never_long}
 use Rattle.edit_session.proofs.session.run_session.Goals as goal
 
 pub obey-requires-clause-cap : goal.obey-requires-clause-cap
@@ -68,6 +68,23 @@ returns-in-Err-TooLong-clause-alone g c = λ other asked unread. not_alone (map 
 
 pub returns-in-Err-Memory-clause-alone : goal.returns-in-Err-Memory-clause-alone
 returns-in-Err-Memory-clause-alone g c = λ other asked unread. not_alone (map string_bytes c.args.words.now) (order_in c.in-Some.order) other (sym c.in-Some.ensures.computed) (sym c.reads_input.ensures ∙ c.if-not-reads_input.false) asked unread
+
+-- ---- what is cut off
+
+pub returns-then-not-reads_input-clause-cut_off : goal.returns-then-not-reads_input-clause-cut_off
+returns-then-not-reads_input-clause-cut_off g c = λ cut.
+    let unread = sym c.reads_input.ensures ∙ c.if-not-reads_input.true in
+    let asked = (c.in-Some.ensures.grammar (order_in c.in-Some.order)).0 refl in
+    inr (begun_unread _ _ (map string_bytes c.args.words.now) (order_in c.in-Some.order) _ _ _ _ _ asked (sym c.in-Some.ensures.computed) unread c.obey.ensures)
+
+pub returns-in-Ok-clause-cut_off : goal.returns-in-Ok-clause-cut_off
+returns-in-Ok-clause-cut_off g c = λ cut.
+    let bytes = c.deref.result.now in
+    let is : bytes ≡ c.in-Ok.bytes.items = c.deref.ensures.value in
+    let short : length bytes ≤ 8388608 = rw is (omega (arith, c.in-Ok.ensures.short, c.in-Ok.bytes.ok)) in
+    let asked = (c.in-Some.ensures.grammar (order_in c.in-Some.order)).0 refl in
+    let size : vec_len c.in-Ok.bytes ≡ length c.in-Ok.bytes.items = omega (arith, c.in-Ok.bytes.ok) in
+    inr (begun_run _ _ _ _ bytes (map string_bytes c.args.words.now) (order_in c.in-Some.order) _ _ _ _ _ asked (sym c.in-Some.ensures.computed) (sym c.reads_input.ensures ∙ c.if-not-reads_input.false) (rw is c.in-Ok.ensures.bytes) c.in-Ok.ensures.end (rw is (c.in-Ok.ensures.amount ∙ ap (λ n. handed_more (g.I.Source.handed c.args.input.now) n) size)) short c.obey-in-Ok.ensures)
 
 -- ---- what is too long
 

@@ -1,5 +1,5 @@
 use Rattle.std.proofs.Common.{length, arith}
-use Rattle.edit_io.proofs.Held.{sure_some, sure_bound, sure_bytes, sink_kept, sink_sure, sure_memory}
+use Rattle.edit_io.proofs.Held.{sure_some, sure_bound, sure_bytes, sink_sure, sure_memory}
 use Rattle.edit_io.proofs.memory.SureSinkSink.TheImpl.Goals as goal
 
 pub write-tells : goal.write-tells
@@ -10,7 +10,7 @@ write-tells c =
       some = sure_some c.result (length c.args.piece.now) c.requires c.ensures.given;
       bound = sure_bound c.result (length c.args.piece.now) c.ensures.given;
       bytes = sure_bytes c.result old.taken.items new.taken.items c.args.piece.now c.ensures.given c.ensures.grown;
-      kept = sink_kept c.result old.taken.items new.taken.items c.ensures.stays;
+      kept = c.ensures.stays;
       counted = omega arith;
       failed = sink_sure c.result _ c.ensures.sure;
       memory = sure_memory c.result;

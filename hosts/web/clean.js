@@ -1,0 +1,145 @@
+/**
+ * Cleans HTML from elsewhere. The result is a page that the engine reads. It has only elements,
+ * attributes, styles and addresses of the tables in shown.js, and cleaning it again changes nothing.
+ */
+import { PageRefused } from "./hedit_errors.js";
+import { PageKind } from "./hedit_constants.js";
+import { MOST_BYTES, arrange } from "./clean_blocks.js";
+import { tidy, tidyInline } from "./clean_lines.js";
+import { PageReader } from "./clean_read.js";
+import { isBlock, print } from "./clean_tree.js";
+import { makeWordLists } from "./clean_word.js";
+
+/** @typedef {import("./clean_read.js").Settings} Settings */
+/** @typedef {import("./clean.js").CleanOptions} CleanOptions */
+
+/** The engine reads 200 levels. */
+const MOST_DEPTH = 190;
+
+/** How often a page is cleaned until it doesn't change. */
+const MOST_ROUNDS = 6;
+
+/** @type {((html: string) => string) | null} */
+let trust = null;
+
+/** Makes the function that turns markup into markup that the page's policy trusts. */
+function makeTrust() {
+  /** @type {any} */
+  const { trustedTypes } = globalThis;
+  const plain = (/** @type {string} */ html) => html;
+  if (!trustedTypes) {
+    return plain;
+  }
+  try {
+    const policy = trustedTypes.createPolicy("hedit", { createHTML: plain });
+    return (/** @type {string} */ html) => policy.createHTML(html);
+  } catch {
+    // The page forbids a policy of that name, but its default policy may trust the text.
+    return plain;
+  }
+}
+
+/**
+ * Parses markup into a document in which nothing runs or loads.
+ * @param {string} html
+ */
+function parseInert(html) {
+  trust ??= makeTrust();
+  return new DOMParser().parseFromString(trust(html), "text/html");
+}
+
+/**
+ * Puts markup into a body, so that the parser keeps whitespace at the start. A byte order mark isn't
+ * text.
+ * @param {string} html
+ */
+const withBody = (html) => `<body>${html.replace(/^\ufeff/, "")}`;
+
+/** Elements whose names hide properties of a form or of the document. */
+const HIDING = "button, embed, fieldset, form, iframe, img, input, object, output, select, textarea";
+
+/**
+ * Removes names that hide properties of forms and of the document.
+ * @param {Document} document
+ */
+function removeNames(document) {
+  const { querySelectorAll } = Document.prototype;
+  const { removeAttribute } = Element.prototype;
+  for (const element of querySelectorAll.call(document, `:is(${HIDING}):is([id], [name])`)) {
+    removeAttribute.call(element, "id");
+    removeAttribute.call(element, "name");
+  }
+}
+
+/**
+ * Cleans a page once.
+ * @param {string} html
+ * @param {Settings} settings
+ * @param {(html: string) => Document} parse
+ */
+function cleanOnce(html, settings, parse) {
+  const document = parse(withBody(html));
+  removeNames(document);
+  if (/mso-list/i.test(html)) {
+    makeWordLists(document);
+  }
+  const nodes = arrange(new PageReader(settings).read(document.body), settings.inline);
+  return print(settings.inline && !nodes.some(isBlock) ? tidyInline(nodes) : tidy(nodes));
+}
+
+/**
+ * Returns the text of a page, each line as a paragraph.
+ * @param {string} html
+ * @param {Settings} settings
+ * @param {(html: string) => Document} parse
+ */
+function cleanText(html, settings, parse) {
+  const text = parse(withBody(html)).body.textContent ?? "";
+  const lines = text.replace(/&/g, "&amp;").replace(/</g, "&lt;").split(/[\n\r]+/);
+  const markup = lines.map((line) => (line.trim() ? `<p>${line}</p>` : "")).join("");
+  return cleanOnce(markup, settings, parse);
+}
+
+/**
+ * @param {CleanOptions} options
+ * @returns {Settings}
+ */
+function settingsOf({ classes, relative = false, locked = false, inline = false, ...others }) {
+  const { maxDepth = 100, report } = others;
+  const depth = Math.min(Math.max(Math.trunc(maxDepth) || 1, 1), MOST_DEPTH);
+  const words = classes instanceof RegExp ? classes : new Set(classes ?? []);
+  return { classes: words, relative, locked, maxDepth: depth, inline, report };
+}
+
+/**
+ * @param {string} html
+ * @throws {PageRefused}
+ */
+function checkLength(html) {
+  if (html.length * 3 > MOST_BYTES && new TextEncoder().encode(html).length > MOST_BYTES) {
+    throw new PageRefused(MOST_BYTES, PageKind.TOO_LONG);
+  }
+  return html;
+}
+
+/**
+ * Cleans HTML from elsewhere; see clean.d.ts.
+ * @param {string} html
+ * @param {CleanOptions} [options]
+ * @returns {string}
+ */
+export function cleanPage(html, options = {}) {
+  const parse = options.parse ?? parseInert;
+  const settings = settingsOf(options);
+  let page = String(html);
+  for (let round = 0; round < MOST_ROUNDS; round += 1) {
+    const cleaned = cleanOnce(page, settings, parse);
+    if (cleaned === page) {
+      return checkLength(page);
+    }
+    checkLength(cleaned);
+    page = cleaned;
+    settings.report = undefined;
+  }
+  return checkLength(cleanText(page, settings, parse));
+}

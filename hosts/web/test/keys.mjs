@@ -1,0 +1,21 @@
+/** The keys that aren't characters, as WebDriver writes them. */
+export const KEYS = {
+  Alt: "\ue00a",
+  Control: "\ue009",
+  Meta: "\ue03d",
+  Shift: "\ue008",
+  Enter: "\ue007",
+  Tab: "\ue004",
+  Escape: "\ue00c",
+  Backspace: "\ue003",
+  Delete: "\ue017",
+  Home: "\ue011",
+  End: "\ue010",
+  PageUp: "\ue00e",
+  PageDown: "\ue00f",
+  ArrowLeft: "\ue012",
+  ArrowUp: "\ue013",
+  ArrowRight: "\ue014",
+  ArrowDown: "\ue015",
+  F10: "\ue03a",
+};
