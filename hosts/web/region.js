@@ -36,21 +36,19 @@
  * quoted blocks takes those with formats apart, and the elements for a style are the engine's.
  */
 import { BadArgument, EditorClosed, EngineStopped, HeditError } from "./hedit.js";
-import { Budget } from "./region_budget.js";
-import { Commands, HABITS } from "./region_commands.js";
-import { Halves, commandOfKey, isOfBrowser, isOfField, meaningOf } from "./region_input.js";
+import { HABITS } from "./region_commands.js";
+import { isOfField } from "./region_input.js";
 import { Lock } from "./region_lock.js";
-import { isCaret, isElement, isSame, windowOf } from "./region_nodes.js";
-import { isHost, open, pageOf, tagsOf } from "./region_open.js";
+import { Mends } from "./region_mends.js";
+import { isElement, isSame } from "./region_nodes.js";
+import { isHost, pageOf, tagsOf } from "./region_open.js";
 import { disown, own, regionOf } from "./region_owner.js";
-import { Readback } from "./region_readback.js";
 import { Scroll } from "./region_scroll.js";
-import { Selections } from "./region_selection.js";
+import { Session } from "./region_session.js";
 import { MARK, adoptSheet } from "./region_sheet.js";
 import { Shown } from "./region_shown.js";
-import { Steps } from "./region_steps.js";
 import { missing } from "./region_support.js";
-import { View } from "./region_view.js";
+import { User } from "./region_user.js";
 
 export { HABITS };
 
@@ -61,7 +59,7 @@ export { HABITS };
 /** @typedef {import("./hedit.js").Point} Point */
 /** @typedef {import("./hedit.js").Selection} Selection */
 /** @typedef {import("./region_commands.js").Habits} Habits */
-/** @typedef {import("./region_input.js").Meaning} Meaning */
+/** @typedef {import("./region_mends.js").Mending} Mending */
 /** @typedef {import("./region_shown.js").ViewOptions} ViewOptions */
 
 /**
@@ -88,9 +86,6 @@ export { HABITS };
  *   debug?: boolean,
  * }} Choices
  */
-
-/** The most changes of the page that wait to be looked at one by one. */
-const MOST_WAITING = 1000;
 
 /**
  * @param {Iterable<string>} names
@@ -121,54 +116,23 @@ export class Region extends EventTarget {
 
   #scroll;
 
-  #observer;
+  #mends;
 
-  #budget;
+  #user;
 
-  /** @type {Editor} */
-  #editor;
-
-  /** @type {View} */
-  #view;
-
-  /** @type {Commands} */
-  #commands;
-
-  /** @type {Selections} */
-  #selections;
-
-  /** @type {Readback} */
-  #readback;
+  /** @type {Session} */
+  #session;
 
   /** Ends what listens to the page. */
   #ends = new AbortController();
 
-  #steps = new Steps();
-
-  #halves = new Halves();
-
   #isReadOnly = false;
 
-  /** Why the engine stopped. @type {EngineStopped | null} */
+  /**
+   * Why the engine stopped.
+   * @type {EngineStopped | null}
+   */
   #stop = null;
-
-  /** What the page changed by itself and wasn't looked at yet. @type {MutationRecord[]} */
-  #waiting = [];
-
-  /** Whether it changed more than what waits. */
-  #isAdrift = false;
-
-  /**
-   * What the browser changed while an input method composes, and how many steps there were before.
-   * @type {{ records: MutationRecord[], steps: number } | null}
-   */
-  #composing = null;
-
-  /**
-   * How many steps there were before the last input, where that took away what is dragged.
-   * @type {number | null}
-   */
-  #dragged = null;
 
   /**
    * @param {Engine} engine
@@ -177,7 +141,6 @@ export class Region extends EventTarget {
    */
   constructor(engine, element, choices = {}) {
     super();
-    const window = /** @type {Window & typeof globalThis} */ (windowOf(element));
     this.#element = element;
     this.#choices = choices;
     this.#denied = deniedNames(choices.denied ?? []);
@@ -185,17 +148,13 @@ export class Region extends EventTarget {
     const refresh = (/** @type {string} */ src) => this.#refreshImages(src);
     this.#shown = new Shown(element.ownerDocument, choices.view ?? {}, refresh);
     this.#lock = new Lock(element, this.#tags !== null);
-    this.#scroll = new Scroll(element, () => this.#selections.ends()?.focus ?? null);
-    const mend = () => this.#answer(() => this.#mend());
-    this.#budget = new Budget(window, mend, () => this.#giveIn());
-    this.#observer = new window.MutationObserver((records) => {
-      this.#answer(() => this.#observe(records));
-    });
+    this.#scroll = new Scroll(element, () => this.#session.selections.ends()?.focus ?? null);
+    const acts = this.#acts();
+    this.#mends = new Mends(element, acts);
+    this.#user = new User(acts);
     own(element, this);
     try {
-      const { html, clean = this.#tags !== null, view = {} } = choices;
-      const page = pageOf(html ?? element.innerHTML, clean, view);
-      this.#begin(engine, page, html === undefined);
+      this.#session = this.#open(engine);
     } catch (error) {
       disown(element);
       throw error;
@@ -208,27 +167,43 @@ export class Region extends EventTarget {
   }
 
   /**
-   * Opens a page in an engine, and shows it.
+   * The session of the page that the region begins with.
+   * @param {Engine} engine
+   */
+  #open(engine) {
+    const { html, clean = this.#tags !== null, view = {} } = this.#choices;
+    const page = pageOf(html ?? this.#element.innerHTML, clean, view);
+    return this.#begin(engine, page, html === undefined);
+  }
+
+  /**
    * @param {Engine} engine
    * @param {string} html
    * @param {boolean} isThere whether the element's nodes show it already
    */
   #begin(engine, html, isThere) {
-    const { undoDepth = 100, labelCap, separator = "p" } = this.#choices;
-    const limits = { undoDepth, ...(labelCap === undefined ? {} : { labelCap }) };
-    const { editor, root } = open(engine, this.#tags, html, limits);
-    editor.exec("defaultParagraphSeparator", separator);
-    const habits = { ...HABITS, ...this.#choices };
-    this.#editor = editor;
-    this.#view = new View(editor, this.#element, root, this.#shown);
-    this.#commands = new Commands(editor, this.#view, habits, undoDepth);
-    this.#selections = new Selections(editor, this.#view, this.#commands);
-    this.#readback = new Readback(editor, this.#view, this.#commands, this.#selections);
-    this.#steps = new Steps();
-    if (isThere) {
-      this.#view.adopt();
-    }
-    this.#view.follow();
+    const [element, tags, shown, choices] = [this.#element, this.#tags, this.#shown, this.#choices];
+    return new Session(engine, html, { element, tags, shown, choices }, isThere);
+  }
+
+  /**
+   * What of this region others do.
+   * @returns {Mending}
+   */
+  #acts() {
+    return {
+      session: () => this.#session,
+      isEditable: () => this.#isEditable,
+      isDenied: (...names) => this.#isDenied(...names),
+      act: (call) => this.#act(call),
+      exec: (command, value) => this.exec(command, value),
+      refuse: (command, reason, text) => this.#refuse(command, reason, text),
+      read: () => this.#read(),
+      reveal: () => this.#scroll.reveal(),
+      answer: (call) => this.#answer(call),
+      finish: (call) => this.#finish(call),
+      tell: (kind) => this.dispatchEvent(new Event(kind)),
+    };
   }
 
   /** Whether a region can work in this browser, and what is missing. */
@@ -254,7 +229,7 @@ export class Region extends EventTarget {
    * The editor, to read from. What is changed in it otherwise than through the region isn't shown.
    */
   get editor() {
-    return this.#editor;
+    return this.#session.editor;
   }
 
   /**
@@ -269,7 +244,7 @@ export class Region extends EventTarget {
     if (this.#ends.signal.aborted) {
       return "closed";
     }
-    return this.#stop ? "stopped" : this.#budget.isSpent ? "contested" : "ready";
+    return this.#stop ? "stopped" : this.#mends.isContested ? "contested" : "ready";
   }
 
   /** Whether nothing can be edited. What is there can be selected and copied. */
@@ -302,11 +277,11 @@ export class Region extends EventTarget {
       return;
     }
     this.#ends.abort();
-    this.#observer.disconnect();
+    this.#mends.end();
     this.#lock.lift();
     this.#element.removeAttribute(MARK);
     disown(this.#element);
-    this.#editor.close();
+    this.editor.close();
   }
 
   /**
@@ -327,10 +302,10 @@ export class Region extends EventTarget {
     }
     const engine = await reload();
     if (this.status === "stopped") {
-      this.#begin(engine, this.#view.html(), true);
+      this.#session = this.#begin(engine, this.#session.view.html(), true);
       this.#stop = null;
       this.#lockUp();
-      this.#watch();
+      this.#mends.watch();
       this.#read();
       this.dispatchEvent(new Event("recovered"));
       this.#tell(false, true);
@@ -354,9 +329,9 @@ export class Region extends EventTarget {
       case "redo":
         return this.redo();
       case "forwarddelete":
-        return this.#act(() => this.#deleteForward());
+        return this.#act(() => this.#user.deleteForward());
       default:
-        return this.#act(() => this.#commands.run(name, value));
+        return this.#act(() => this.#session.commands.run(name, value));
     }
   }
 
@@ -367,7 +342,7 @@ export class Region extends EventTarget {
    */
   select(anchor, focus = anchor) {
     this.#act(() => {
-      this.#commands.select({ anchor, focus });
+      this.#session.commands.select({ anchor, focus });
       return true;
     });
   }
@@ -382,31 +357,26 @@ export class Region extends EventTarget {
     if (this.#isEditable) {
       this.#settle();
     }
-    const steps = this.#steps.length;
-    const commands = this.#commands;
+    const { commands, steps } = this.#session;
+    const before = steps.length;
     const isWithin = commands.isInStep;
     commands.isInStep = true;
     try {
       return call();
     } finally {
       commands.isInStep = isWithin;
-      this.#steps.join(steps);
+      steps.join(before);
     }
   }
 
   /** Takes a step back. False where there is none. */
   undo() {
-    const undo = () => this.#editor.undo();
-    const take = (/** @type {number} */ most) => this.#commands.turn(most, undo);
-    const isThere = () => this.#steps.canUndo(this.#editor.counts().undo);
-    return !this.#isDenied("undo") && this.#turn(() => (isThere() ? this.#steps.undo(take) : undefined));
+    return !this.#isDenied("undo") && this.#turn(() => this.#session.undo());
   }
 
   /** Takes a step forth again. False where there is none. */
   redo() {
-    const redo = () => this.#editor.redo();
-    const take = (/** @type {number} */ most) => this.#commands.turn(most, redo);
-    return !this.#isDenied("redo") && this.#turn(() => this.#steps.redo(take));
+    return !this.#isDenied("redo") && this.#turn(() => this.#session.redo());
   }
 
   /**
@@ -415,21 +385,8 @@ export class Region extends EventTarget {
    */
   enabled(command) {
     const name = command.toLowerCase();
-    return this.#isEditable && !this.#isDenied(name) && this.#ask(() => this.#isEnabled(name), false);
-  }
-
-  /** @param {string} name in lower case */
-  #isEnabled(name) {
-    switch (name) {
-      case "undo":
-        return this.#steps.canUndo(this.#editor.counts().undo);
-      case "redo":
-        return this.#editor.counts().redo > 0;
-      case "forwarddelete":
-        return this.#editor.enabled("delete");
-      default:
-        return this.#editor.enabled(name);
-    }
+    const isOpen = this.#isEditable && !this.#isDenied(name);
+    return isOpen && this.#ask(() => this.#session.isEnabled(name), false);
   }
 
   /**
@@ -437,7 +394,7 @@ export class Region extends EventTarget {
    * @param {string} command
    */
   state(command) {
-    return this.#ask(() => this.#editor.state(command), false);
+    return this.#ask(() => this.editor.state(command), false);
   }
 
   /**
@@ -445,7 +402,7 @@ export class Region extends EventTarget {
    * @param {string} command
    */
   indeterm(command) {
-    return this.#ask(() => this.#editor.indeterm(command), false);
+    return this.#ask(() => this.editor.indeterm(command), false);
   }
 
   /**
@@ -453,7 +410,7 @@ export class Region extends EventTarget {
    * @param {string} command
    */
   value(command) {
-    return this.#ask(() => this.#editor.value(command), "");
+    return this.#ask(() => this.editor.value(command), "");
   }
 
   /**
@@ -466,28 +423,23 @@ export class Region extends EventTarget {
     if (this.status === "closed") {
       throw new EditorClosed();
     }
-    if (this.status === "ready" && !this.#composing) {
-      this.#answer(() => this.#mend());
+    if (this.status === "ready" && !this.#mends.isComposing) {
+      this.#answer(() => this.#mends.mend());
     }
-    const isKept = this.#composing && (composing === "without" || this.#isDenied("inserttext"));
-    const isOfEngine = !this.#stop && (isKept || this.#budget.isSpent);
-    return isOfEngine ? this.#engineHtml() : this.#view.html();
-  }
-
-  #engineHtml() {
-    const page = this.#editor.html().slice(0, -1);
-    return this.#tags ? page.replace(/^<(?:[^">]|"[^"]*")*>/, "").replace(/<\/[^<]*$/, "") : page;
+    const isKept = composing === "without" || this.#isDenied("insertText");
+    const isOfEngine = this.#mends.isContested || (this.#mends.isComposing && isKept);
+    return isOfEngine && !this.#stop ? this.#session.html() : this.#session.view.html();
   }
 
   /** Puts the focus into the region, where the engine's selection is. */
   focus() {
-    const selection = this.#ask(() => this.#editor.selection(), null);
-    const node = selection ? this.#view.place(selection.focus).node : this.#element;
+    const selection = this.#ask(() => this.editor.selection(), null);
+    const node = selection ? this.#session.view.place(selection.focus).node : this.#element;
     const around = isElement(node) ? node : node.parentElement;
     const host = around?.closest('[contenteditable=""], [contenteditable="true"]');
     /** @type {HTMLElement} */ (host ?? this.#element).focus({ preventScroll: true });
     if (selection) {
-      this.#selections.show(true);
+      this.#session.selections.show(true);
     }
   }
 
@@ -496,9 +448,9 @@ export class Region extends EventTarget {
    * selection. Null where there is none, and while an input method composes.
    */
   check() {
-    return this.#composing || this.#stop
-      ? null
-      : (this.#selections.difference() ?? this.#view.difference());
+    const { selections, view } = this.#session;
+    const isElsewhere = this.#mends.isComposing || this.#stop;
+    return isElsewhere ? null : (selections.difference() ?? view.difference());
   }
 
   // What the user does.
@@ -509,12 +461,13 @@ export class Region extends EventTarget {
     page.addEventListener("selectionchange", () => this.#answer(() => this.#read()), { signal });
     /** @type {Partial<Record<keyof HTMLElementEventMap, (event: any) => void>>} */
     const answers = {
-      beforeinput: (event) => this.#input(event),
-      keydown: (event) => this.#key(event),
-      copy: (event) => this.#copy(event),
-      cut: (event) => this.#cut(event),
-      compositionstart: () => this.#compose(),
-      compositionend: ({ data }) => this.#composed(data),
+      beforeinput: (event) => this.#user.input(event),
+      keydown: (event) => this.#user.key(event),
+      copy: (event) => this.#user.copy(event),
+      cut: (event) => this.#user.cut(event),
+      compositionstart: () => this.#mends.compose(),
+      compositionend: ({ data }) => this.#mends.ended(data),
+      paste: (event) => this.#user.paste(event),
     };
     for (const [kind, call] of Object.entries(answers)) {
       const answer = (/** @type {Event} */ event) => {
@@ -524,16 +477,7 @@ export class Region extends EventTarget {
       };
       this.#element.addEventListener(kind, answer, { signal });
     }
-    this.#watch();
-  }
-
-  #watch() {
-    this.#observer.observe(this.#element, {
-      attributes: true,
-      characterData: true,
-      childList: true,
-      subtree: true,
-    });
+    this.#mends.watch();
   }
 
   /**
@@ -547,7 +491,7 @@ export class Region extends EventTarget {
     try {
       call();
     } catch (error) {
-      if (this.#hasStopped()) {
+      if (this.#session.hasStopped()) {
         this.#halt(error);
       } else if (error instanceof HeditError) {
         this.#tellError(error);
@@ -583,300 +527,22 @@ export class Region extends EventTarget {
     return false;
   }
 
-  /** @param {readonly string[]} names */
+  /** @param {string[]} names */
   #isDenied(...names) {
     return names.some((name) => this.#denied.has(name.toLowerCase()));
   }
 
   /** Throws what differs. A selection that the browser didn't tell of yet is read before. */
   #debug() {
-    if (this.#budget.isSpent || this.#composing) {
+    if (this.#mends.isContested || this.#mends.isComposing) {
       return;
     }
     this.#read();
     const found = this.check();
-    const [page, shown] = [this.#engineHtml(), this.#view.html()];
-    if (found || (page !== shown && this.#waiting.length === 0)) {
+    const [page, shown] = [this.#session.html(), this.#session.view.html()];
+    if (found || (page !== shown && !this.#mends.isBehind)) {
       throw new Error(found ?? `${shown} is printed, and not ${page}`);
     }
-  }
-
-  /** @param {KeyboardEvent} event */
-  #key(event) {
-    const command = this.#isEditable ? commandOfKey(event) : null;
-    if (!command) {
-      return;
-    }
-    event.preventDefault();
-    if (this.#isDenied(command)) {
-      this.#refuse(command, "denied");
-    } else {
-      this.exec(command);
-      this.#scroll.reveal();
-    }
-  }
-
-  /**
-   * What an input method composes is the browser's until it ends, and all else is the engine's.
-   * @param {InputEvent} event
-   */
-  #input(event) {
-    if (isOfBrowser(event)) {
-      return;
-    }
-    event.preventDefault();
-    const meaning = meaningOf(event);
-    const steps = this.#steps.length;
-    if (!meaning) {
-      this.#refuse(event.inputType, "unknown");
-    } else if (this.#isDenied(...meaning.commands)) {
-      this.#refuse(meaning.commands[0], "denied", "text" in meaning ? meaning.text : "");
-    } else if (this.#isEditable) {
-      this.#do(event, meaning);
-    }
-    if (event.inputType === "insertFromDrop") {
-      this.#steps.join(this.#dragged ?? steps);
-    }
-    this.#dragged = event.inputType === "deleteByDrag" ? steps : null;
-    this.#scroll.reveal();
-  }
-
-  /**
-   * @param {InputEvent} event
-   * @param {Meaning} meaning
-   */
-  #do(event, meaning) {
-    switch (meaning.act) {
-      case "command":
-        this.exec(meaning.commands[0], meaning.value);
-        break;
-      case "insert":
-        this.#insert(event, meaning);
-        break;
-      case "replace":
-        this.#act(() => this.#replace(event, meaning.text));
-        break;
-      default:
-        this.#act(() => this.#delete(event, meaning));
-    }
-  }
-
-  /**
-   * @param {InputEvent} event
-   * @param {{ text: string, isAimed: boolean }} meaning
-   */
-  #insert(event, { text, isAimed }) {
-    const whole = this.#halves.join(text);
-    const isDone = this.#act(() => {
-      this.#aim(event, isAimed);
-      return whole !== "" && this.#commands.type(whole);
-    });
-    if (!isDone && whole !== "") {
-      this.#refuse("insertText", "impossible", whole);
-    }
-  }
-
-  /**
-   * Puts a text in place of the range that an input names, or of what is selected.
-   * @param {InputEvent} event
-   * @param {string} text
-   */
-  #replace(event, text) {
-    const range = this.#target(event) ?? this.#editor.selection();
-    return range !== null && text !== "" && this.#commands.replace(range, text);
-  }
-
-  /**
-   * @param {InputEvent} event
-   * @param {{ by: "backward" | "forward" | "range", isAimed: boolean }} meaning
-   */
-  #delete(event, { by, isAimed }) {
-    switch (by) {
-      case "backward":
-        return this.#commands.deleteBackward();
-      case "forward":
-        return this.#deleteForward(event);
-      default:
-        return this.#deleteRange(event, isAimed);
-    }
-  }
-
-  /**
-   * Deletes what an input names, or what is selected.
-   * @param {InputEvent} event
-   * @param {boolean} isAimed
-   */
-  #deleteRange(event, isAimed) {
-    const isSelected = this.#aim(event, isAimed) || !isCaret(this.#editor.selection());
-    return isSelected && this.#commands.deleteSelection();
-  }
-
-  /**
-   * Deletes what is selected, or at a caret what stands behind it: the browser knows what that is at
-   * the end of a text.
-   * @param {InputEvent} [event]
-   */
-  #deleteForward(event) {
-    if (this.#commands.selectClusterBehind()) {
-      return this.#commands.deleteSelection();
-    }
-    if (event) {
-      return this.#deleteRange(event, false);
-    }
-    if (isCaret(this.#editor.selection())) {
-      this.#selections.extendForward();
-      this.#read();
-    }
-    return !isCaret(this.#editor.selection()) && this.#commands.deleteSelection();
-  }
-
-  /**
-   * Selects the range that an input names. That of the selection may be another that looks the same,
-   * so it is taken only where the input is aimed at it, or where it isn't empty and the selection is.
-   * @param {InputEvent} event
-   * @param {boolean} isAimed
-   */
-  #aim(event, isAimed) {
-    const isMeant = isAimed || isCaret(this.#editor.selection());
-    const range = isMeant ? this.#target(event) : null;
-    if (!range || (!isAimed && isCaret(range))) {
-      return false;
-    }
-    this.#commands.select(range);
-    return true;
-  }
-
-  /**
-   * The range that an input names, as points; null where it names none in the element.
-   * @param {InputEvent} event
-   * @returns {Selection | null}
-   */
-  #target(event) {
-    const [range] = event.getTargetRanges();
-    const anchor = range && this.#view.point(range.startContainer, range.startOffset);
-    const focus = range && this.#view.point(range.endContainer, range.endOffset);
-    return anchor && focus ? { anchor, focus } : null;
-  }
-
-  /** @param {ClipboardEvent} event */
-  #copy(event) {
-    const range = this.#selections.range();
-    const text = this.#editor.selectionText();
-    if (!range || text === null || !event.clipboardData) {
-      return false;
-    }
-    const holder = this.#element.ownerDocument.createElement("div");
-    holder.append(range.cloneContents());
-    event.clipboardData.setData("text/plain", text);
-    event.clipboardData.setData("text/html", holder.innerHTML);
-    event.preventDefault();
-    return true;
-  }
-
-  /** @param {ClipboardEvent} event */
-  #cut(event) {
-    if (!this.#copy(event)) {
-      return;
-    }
-    if (this.#isDenied("delete")) {
-      this.#refuse("delete", "denied");
-    } else {
-      this.#act(() => this.#commands.deleteSelection());
-    }
-  }
-
-  // Input methods, and what else the browser does by itself.
-
-  /**
-   * Begins to compose. So that it all happens in one text, what is selected goes before, unless it is
-   * a part of one: then the engine puts what is composed in its place at once.
-   */
-  #compose() {
-    if (!this.#isEditable) {
-      return;
-    }
-    this.#settle();
-    const steps = this.#steps.length;
-    const isWhole = !isCaret(this.#editor.selection()) && !this.#selections.isPartOfText();
-    if (isWhole && !this.#isDenied("inserttext")) {
-      this.#act(() => this.#commands.deleteSelection());
-    }
-    this.#composing = { records: [], steps };
-  }
-
-  /**
-   * Reads back what was composed, as one step of undo.
-   * @param {string} text what the input method gave, where it has ended
-   */
-  #composed(text = "") {
-    if (!this.#composing) {
-      return;
-    }
-    const { records, steps } = this.#composing;
-    this.#composing = null;
-    this.#note(records);
-    this.#mend(text);
-    this.#steps.join(steps);
-  }
-
-  /**
-   * Hears what the page changed by itself. While an input method composes, that is the browser's.
-   * @param {readonly MutationRecord[]} records
-   */
-  #observe(records) {
-    this.#note(records);
-    if (this.#composing) {
-      this.#composing.records.push(...this.#waiting.splice(0));
-      this.dispatchEvent(new Event("input"));
-    } else if ((this.#waiting.length > 0 || this.#isAdrift) && this.#budget.take()) {
-      this.#mend();
-    }
-  }
-
-  /**
-   * Keeps what the page changed, but for the element's own attributes: these are the page's.
-   * @param {readonly MutationRecord[]} records
-   */
-  #note(records) {
-    const isPages = (/** @type {MutationRecord} */ { type, target }) =>
-      type === "attributes" && target === this.#element;
-    this.#waiting.push(...records.filter((record) => !isPages(record)));
-    if (this.#waiting.length > MOST_WAITING && !this.#composing) {
-      this.#waiting = [];
-      this.#isAdrift = true;
-    }
-  }
-
-  /**
-   * Reads back what the page changed by itself, where it is in one text, and shows the engine's nodes
-   * again in all that it changed.
-   * @param {string | null} composed what an input method gave, where one did it
-   */
-  #mend(composed = null) {
-    this.#note(this.#observer.takeRecords());
-    const [records, isAdrift] = [this.#waiting.splice(0), this.#isAdrift];
-    this.#isAdrift = false;
-    if (records.length === 0 && !isAdrift) {
-      return;
-    }
-    const isRead = !isAdrift && this.#isEditable;
-    const write = isRead ? this.#readback.writeOf(records, composed) : null;
-    const labels = records.flatMap(({ target }) => this.#view.nearest(target) ?? []);
-    for (const label of new Set(isAdrift ? [this.#view.root] : labels)) {
-      this.#view.mend(label);
-    }
-    this.#observer.takeRecords();
-    const isDenied = write !== null && this.#isDenied(write.command);
-    this.#finish(write && !isDenied ? write.call : () => false);
-    if (isDenied) {
-      this.#refuse(write.command, "denied", composed ?? "");
-    }
-  }
-
-  /** Begins to rest, as a script of the page undoes each mend. */
-  #giveIn() {
-    console.warn("hedit: a script of the page undoes what the region shows");
-    this.dispatchEvent(new Event("statechange"));
   }
 
   // What comes of it.
@@ -905,7 +571,7 @@ export class Region extends EventTarget {
     try {
       return call();
     } catch (error) {
-      throw this.#hasStopped() ? this.#halt(error) : error;
+      throw this.#session.hasStopped() ? this.#halt(error) : error;
     }
   }
 
@@ -930,27 +596,15 @@ export class Region extends EventTarget {
     }
   }
 
-  /** Whether the engine has stopped, here or in another of its editors. */
-  #hasStopped() {
-    try {
-      this.#editor.revision();
-      return false;
-    } catch (error) {
-      return error instanceof EngineStopped;
-    }
-  }
-
   /**
    * Lets nothing be edited any more. What the page shows stays.
    * @param {unknown} cause
    */
   #halt(cause) {
-    const isNews = this.#stop === null;
-    const why = cause instanceof EngineStopped ? cause : new EngineStopped("the engine has stopped", { cause });
-    this.#stop ??= why;
-    if (isNews) {
-      this.#observer.disconnect();
-      this.#composing = null;
+    if (!this.#stop) {
+      const isSaid = cause instanceof EngineStopped;
+      this.#stop = isSaid ? cause : new EngineStopped("the engine has stopped", { cause });
+      this.#mends.end();
       this.#lockUp();
       this.#tellError(this.#stop);
       this.dispatchEvent(new Event("statechange"));
@@ -968,7 +622,7 @@ export class Region extends EventTarget {
     }
     if (isLocked !== this.#shown.isLocked) {
       this.#shown.isLocked = isLocked;
-      this.#quietly(() => this.#view.refresh(({ attributes }) => attributes.has("contenteditable")));
+      this.#refresh(({ attributes }) => attributes.has("contenteditable"));
     }
   }
 
@@ -978,41 +632,31 @@ export class Region extends EventTarget {
    */
   #refreshImages(src) {
     if (this.status !== "closed") {
-      this.#quietly(() => this.#view.refresh((content) => content.attributes.get("src") === src));
+      this.#refresh(({ attributes }) => attributes.get("src") === src);
     }
   }
 
   /**
-   * Changes the page otherwise than to show what the engine did.
-   * @param {() => void} call
+   * Shows again the elements of a kind.
+   * @param {(content: import("./region_print.js").Content) => boolean} isWanted
    */
-  #quietly(call) {
-    const records = this.#observer.takeRecords();
-    call();
-    this.#observer.takeRecords();
-    if (records.length > 0) {
-      this.#answer(() => this.#observe(records));
-    }
+  #refresh(isWanted) {
+    this.#mends.quietly(() => this.#session.view.refresh(isWanted));
   }
 
   /** Reads what the browser did that wasn't told yet. */
   #settle() {
-    if (this.#composing) {
-      this.#composed();
-    }
-    this.#isAdrift ||= this.#budget.isSpent;
-    this.#budget.reset();
-    this.#mend();
+    this.#mends.settle();
     this.#read();
   }
 
   /** @param {() => boolean} call */
   #finish(call) {
-    const before = this.#editor.selection();
+    const before = this.editor.selection();
     try {
       return call();
     } finally {
-      if (!this.#hasStopped()) {
+      if (!this.#session.hasStopped()) {
         this.#conclude(before);
       }
     }
@@ -1020,12 +664,13 @@ export class Region extends EventTarget {
 
   /** @param {Selection | null} before what was selected */
   #conclude(before) {
-    this.#observer.takeRecords();
-    this.#selections.show();
-    const { entries, isChanged } = this.#commands.take();
-    const after = this.#editor.selection();
-    this.#steps.note({ entries, before, after }, isChanged);
-    this.#steps.fit(this.#editor.counts().undo);
+    const { commands, editor, selections, steps } = this.#session;
+    this.#mends.skip();
+    selections.show();
+    const { entries, isChanged } = commands.take();
+    const after = editor.selection();
+    steps.note({ entries, before, after }, isChanged);
+    steps.fit(editor.counts().undo);
     this.#tell(isChanged, !isSame(before, after));
   }
 
@@ -1051,7 +696,7 @@ export class Region extends EventTarget {
     return this.#act(() => {
       const selection = take();
       if (selection) {
-        this.#commands.selectAgain(selection);
+        this.#session.commands.selectAgain(selection);
       }
       return selection !== undefined;
     });
@@ -1059,7 +704,7 @@ export class Region extends EventTarget {
 
   /** Selects what the page shows as selected. */
   #read() {
-    if (!this.#composing && this.#selections.read()) {
+    if (!this.#mends.isComposing && this.#session.selections.read()) {
       this.#tell(false, true);
     }
   }

@@ -79,11 +79,12 @@ export function isOfBrowser(event) {
 /**
  * What an input asks for; null where there is no command for it.
  * @param {InputEvent} event
+ * @param {string | null} given its text, where that is known
  * @returns {Meaning | null}
  */
-export function meaningOf(event) {
+export function meaningOf(event, given = null) {
   const kind = event.inputType;
-  const text = event.data ?? event.dataTransfer?.getData("text/plain") ?? "";
+  const text = given ?? event.data ?? event.dataTransfer?.getData("text/plain") ?? "";
   const isAimed = INSERTIONS.get(kind);
   if (isAimed !== undefined) {
     return { act: "insert", commands: ["insertText"], text, isAimed };

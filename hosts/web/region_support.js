@@ -1,8 +1,8 @@
 /** What a region needs of a browser. */
+import { missingFeatures } from "./hedit.js";
 
 /** @type {readonly (readonly [string, () => unknown])[]} */
 const NEEDS = [
-  ["WebAssembly", () => typeof WebAssembly === "object"],
   ["Intl.Segmenter", () => typeof Intl.Segmenter === "function"],
   ["beforeinput", () => InputEvent.prototype.getTargetRanges],
   ["adoptedStyleSheets", () => "adoptedStyleSheets" in Document.prototype],
@@ -11,11 +11,13 @@ const NEEDS = [
 
 /** The names of what a browser hasn't, and a region needs. */
 export function missing() {
-  return NEEDS.filter(([, isThere]) => {
+  const isMissing = (/** @type {() => unknown} */ isThere) => {
     try {
       return !isThere();
     } catch {
       return true;
     }
-  }).map(([name]) => name);
+  };
+  const others = NEEDS.filter(([, isThere]) => isMissing(isThere));
+  return [...missingFeatures(), ...others.map(([name]) => name)];
 }

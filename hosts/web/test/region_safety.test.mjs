@@ -6,6 +6,10 @@ import { BROWSERS } from "./browsers.mjs";
 import { POLICY, hostPage, trap } from "./region_host.mjs";
 import { RegionPage } from "./region_page.mjs";
 
+/** The attributes that a page may have of a hostile one, where the host allows nothing more. */
+const SHOWN =
+  /^(?:dir|lang|title|style|href|rel|src|alt|width|height|referrerpolicy|data-hedit(?:-link|-image)?)$/;
+
 /** How long a page has to ask for what it loads. */
 const PAUSE = 400;
 
@@ -70,6 +74,8 @@ for (const { Browser, name, skip } of BROWSERS) {
     const look = () =>
       region.page.evaluate(() => {
         const { top, left } = document.getElementById("cover").getBoundingClientRect();
+        const all = [...window.region.element.querySelectorAll("*")];
+        const comments = [...window.region.element.childNodes].filter((each) => each.nodeType === 8);
         return {
           isCovered: document.elementFromPoint(left + 5, top + 5)?.id !== "cover",
           fields: [...document.getElementById("form").elements].map((each) => each.id),
@@ -81,7 +87,9 @@ for (const { Browser, name, skip } of BROWSERS) {
           forms: document.forms.length,
           ran: window.ran,
           made: window.made,
-          names: [...window.region.element.querySelectorAll("*")].map((each) => each.localName),
+          names: all.map((each) => each.localName),
+          attributes: all.flatMap((each) => each.getAttributeNames()),
+          comments: comments.map((each) => each.data.trim()),
           difference: window.region.check(),
           html: window.region.html(),
         };
@@ -93,7 +101,7 @@ for (const { Browser, name, skip } of BROWSERS) {
         for (const id of ["host", "page"]) {
           await start(html, id);
           await sleep(PAUSE);
-          const { names, html: printed, ...rest } = await look();
+          const { names, attributes, comments, html: printed, ...rest } = await look();
           assert.deepEqual(rest, {
             isCovered: false,
             fields: ["field"],
@@ -110,6 +118,8 @@ for (const { Browser, name, skip } of BROWSERS) {
           assert.deepEqual(heard.asked, []);
           const acting = /^(base|meta|link|form|input|button|object|embed|video|audio|frame|x-)/;
           assert.deepEqual(names.filter((each) => acting.test(each)), []);
+          assert.deepEqual(attributes.filter((each) => !SHOWN.test(each)), []);
+          assert.equal(comments.join(""), "");
           // What isn't shown is in the HTML that the region gives.
           assert.equal(printed.length > 0, true);
           const [tag] = /<[a-z-]+/.exec(html);

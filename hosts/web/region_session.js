@@ -1,0 +1,95 @@
+/** What a region has of one engine: an editor of its page, and all that shows and changes it. */
+import { EngineStopped } from "./hedit.js";
+import { Commands, HABITS } from "./region_commands.js";
+import { open } from "./region_open.js";
+import { Readback } from "./region_readback.js";
+import { Selections } from "./region_selection.js";
+import { Steps } from "./region_steps.js";
+import { View } from "./region_view.js";
+
+/** @typedef {import("./hedit.js").Engine} Engine */
+/** @typedef {import("./region.js").Choices} Choices */
+/** @typedef {import("./region_shown.js").Shown} Shown */
+
+/** An editor of a region's page. */
+export class Session {
+  steps = new Steps();
+
+  #tags;
+
+  /**
+   * Opens a page in an engine, and shows it.
+   * @param {Engine} engine
+   * @param {string} html
+   * @param {object} region
+   * @param {HTMLElement} region.element
+   * @param {readonly [string, string] | null} region.tags those of the element, where it is an editing
+   *   host
+   * @param {Shown} region.shown
+   * @param {Choices} region.choices
+   * @param {boolean} isThere whether the element's nodes show the page already
+   */
+  constructor(engine, html, { element, tags, shown, choices }, isThere) {
+    const { undoDepth = 100, labelCap, separator = "p" } = choices;
+    const limits = { undoDepth, ...(labelCap === undefined ? {} : { labelCap }) };
+    const { editor, root } = open(engine, tags, html, limits);
+    editor.exec("defaultParagraphSeparator", separator);
+    this.#tags = tags;
+    this.editor = editor;
+    this.view = new View(editor, element, root, shown);
+    this.commands = new Commands(editor, this.view, { ...HABITS, ...choices }, undoDepth);
+    this.selections = new Selections(editor, this.view, this.commands);
+    this.readback = new Readback(editor, this.view, this.commands, this.selections);
+    if (isThere) {
+      this.view.adopt();
+    }
+    this.view.follow();
+  }
+
+  /** The markup as the engine has it. */
+  html() {
+    const page = this.editor.html().slice(0, -1);
+    return this.#tags ? page.replace(/^<(?:[^">]|"[^"]*")*>/, "").replace(/<\/[^<]*$/, "") : page;
+  }
+
+  /** Whether the engine has stopped, here or in another of its editors. */
+  hasStopped() {
+    try {
+      this.editor.revision();
+      return false;
+    } catch (error) {
+      return error instanceof EngineStopped;
+    }
+  }
+
+  /**
+   * Whether there is something for a command to work in.
+   * @param {string} name in lower case
+   */
+  isEnabled(name) {
+    switch (name) {
+      case "undo":
+        return this.steps.canUndo(this.editor.counts().undo);
+      case "redo":
+        return this.editor.counts().redo > 0;
+      case "forwarddelete":
+        return this.editor.enabled("delete");
+      default:
+        return this.editor.enabled(name);
+    }
+  }
+
+  /** Takes a step back: what was selected before it, and undefined where there was none. */
+  undo() {
+    const undo = () => this.editor.undo();
+    return this.isEnabled("undo")
+      ? this.steps.undo((most) => this.commands.turn(most, undo))
+      : undefined;
+  }
+
+  /** Takes a step forth again: what was selected after it, and undefined where there was none. */
+  redo() {
+    const redo = () => this.editor.redo();
+    return this.steps.redo((most) => this.commands.turn(most, redo));
+  }
+}

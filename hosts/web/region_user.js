@@ -1,0 +1,243 @@
+/** What the user of a region does by keys, inputs and the clipboard, for region.js. */
+import { isCaret } from "./region_nodes.js";
+import { Halves, commandOfKey, isOfBrowser, meaningOf } from "./region_input.js";
+
+/** @typedef {import("./hedit.js").Selection} Selection */
+/** @typedef {import("./region_input.js").Meaning} Meaning */
+/** @typedef {import("./region_session.js").Session} Session */
+
+/**
+ * What of a region the acts of its user need.
+ * @typedef {object} Acts
+ * @property {() => Session} session
+ * @property {() => boolean} isEditable
+ * @property {(...names: string[]) => boolean} isDenied
+ * @property {(call: () => boolean) => boolean} act does something as one step of undo
+ * @property {(command: string, value?: string) => boolean} exec
+ * @property {(command: string, reason: "denied" | "impossible" | "unknown", text?: string) => void}
+ *   refuse tells that something isn't done
+ * @property {() => void} read selects what the page shows as selected
+ * @property {() => void} reveal scrolls to where the selection is
+ */
+
+/** The user of a region. */
+export class User {
+  #acts;
+
+  #halves = new Halves();
+
+  /**
+   * How many steps there were before the last input, where that took away what is dragged.
+   * @type {number | null}
+   */
+  #dragged = null;
+
+  /**
+   * The text that is about to be pasted: in WebKit the input that pastes has lost its line feeds.
+   * @type {string | null}
+   */
+  #pasted = null;
+
+  /** @param {Acts} acts */
+  constructor(acts) {
+    this.#acts = acts;
+  }
+
+  get #session() {
+    return this.#acts.session();
+  }
+
+  /** @param {KeyboardEvent} event */
+  key(event) {
+    const command = this.#acts.isEditable() ? commandOfKey(event) : null;
+    if (!command) {
+      return;
+    }
+    event.preventDefault();
+    if (this.#acts.isDenied(command)) {
+      this.#acts.refuse(command, "denied");
+    } else {
+      this.#acts.exec(command);
+      this.#acts.reveal();
+    }
+  }
+
+  /**
+   * What an input method composes is the browser's until it ends, and all else is the engine's.
+   * @param {InputEvent} event
+   */
+  input(event) {
+    if (isOfBrowser(event)) {
+      return;
+    }
+    event.preventDefault();
+    const pasted = event.inputType.startsWith("insertFromPaste") ? this.#pasted : null;
+    this.#pasted = null;
+    const meaning = meaningOf(event, pasted);
+    const steps = this.#session.steps.length;
+    if (!meaning) {
+      this.#acts.refuse(event.inputType, "unknown");
+    } else if (this.#acts.isDenied(...meaning.commands)) {
+      this.#acts.refuse(meaning.commands[0], "denied", "text" in meaning ? meaning.text : "");
+    } else if (this.#acts.isEditable()) {
+      this.#do(event, meaning);
+    }
+    if (event.inputType === "insertFromDrop") {
+      this.#session.steps.join(this.#dragged ?? steps);
+    }
+    this.#dragged = event.inputType === "deleteByDrag" ? steps : null;
+    this.#acts.reveal();
+  }
+
+  /**
+   * @param {InputEvent} event
+   * @param {Meaning} meaning
+   */
+  #do(event, meaning) {
+    switch (meaning.act) {
+      case "command":
+        this.#acts.exec(meaning.commands[0], meaning.value);
+        break;
+      case "insert":
+        this.#insert(event, meaning);
+        break;
+      case "replace":
+        this.#acts.act(() => this.#replace(event, meaning.text));
+        break;
+      default:
+        this.#acts.act(() => this.#delete(event, meaning));
+    }
+  }
+
+  /**
+   * @param {InputEvent} event
+   * @param {{ text: string, isAimed: boolean }} meaning
+   */
+  #insert(event, { text, isAimed }) {
+    const whole = this.#halves.join(text);
+    const isDone = this.#acts.act(() => {
+      this.#aim(event, isAimed);
+      return whole !== "" && this.#session.commands.type(whole);
+    });
+    if (!isDone && whole !== "") {
+      this.#acts.refuse("insertText", "impossible", whole);
+    } else if (text === "") {
+      // As where a file is pasted.
+      this.#acts.refuse(event.inputType, "unknown");
+    }
+  }
+
+  /**
+   * Puts a text in place of the range that an input names, or of what is selected.
+   * @param {InputEvent} event
+   * @param {string} text
+   */
+  #replace(event, text) {
+    const range = this.#target(event) ?? this.#session.editor.selection();
+    return range !== null && text !== "" && this.#session.commands.replace(range, text);
+  }
+
+  /**
+   * @param {InputEvent} event
+   * @param {{ by: "backward" | "forward" | "range", isAimed: boolean }} meaning
+   */
+  #delete(event, { by, isAimed }) {
+    switch (by) {
+      case "backward":
+        return this.#session.commands.deleteBackward();
+      case "forward":
+        return this.deleteForward(event);
+      default:
+        return this.#deleteRange(event, isAimed);
+    }
+  }
+
+  /**
+   * Deletes what an input names, or what is selected.
+   * @param {InputEvent} event
+   * @param {boolean} isAimed
+   */
+  #deleteRange(event, isAimed) {
+    const isSelected = this.#aim(event, isAimed) || !isCaret(this.#session.editor.selection());
+    return isSelected && this.#session.commands.deleteSelection();
+  }
+
+  /**
+   * Deletes what is selected, or at a caret what stands behind it: the browser knows what that is at
+   * the end of a text.
+   * @param {InputEvent} [event]
+   */
+  deleteForward(event) {
+    if (this.#session.commands.selectClusterBehind()) {
+      return this.#session.commands.deleteSelection();
+    }
+    if (event) {
+      return this.#deleteRange(event, false);
+    }
+    if (isCaret(this.#session.editor.selection())) {
+      this.#session.selections.extendForward();
+      this.#acts.read();
+    }
+    return !isCaret(this.#session.editor.selection()) && this.#session.commands.deleteSelection();
+  }
+
+  /**
+   * Selects the range that an input names. That of the selection may be another that looks the same,
+   * so it is taken only where the input is aimed at it, or where it isn't empty and the selection is.
+   * @param {InputEvent} event
+   * @param {boolean} isAimed
+   */
+  #aim(event, isAimed) {
+    const isMeant = isAimed || isCaret(this.#session.editor.selection());
+    const range = isMeant ? this.#target(event) : null;
+    if (!range || (!isAimed && isCaret(range))) {
+      return false;
+    }
+    this.#session.commands.select(range);
+    return true;
+  }
+
+  /**
+   * The range that an input names, as points; null where it names none in the element.
+   * @param {InputEvent} event
+   * @returns {Selection | null}
+   */
+  #target(event) {
+    const [range] = event.getTargetRanges();
+    const anchor = range && this.#session.view.point(range.startContainer, range.startOffset);
+    const focus = range && this.#session.view.point(range.endContainer, range.endOffset);
+    return anchor && focus ? { anchor, focus } : null;
+  }
+
+  /** @param {ClipboardEvent} event */
+  paste({ clipboardData }) {
+    this.#pasted = clipboardData?.getData("text/plain") ?? null;
+  }
+
+  /** @param {ClipboardEvent} event */
+  copy(event) {
+    const range = this.#session.selections.range();
+    const text = this.#session.editor.selectionText();
+    if (!range || text === null || !event.clipboardData) {
+      return false;
+    }
+    const holder = this.#session.view.element.ownerDocument.createElement("div");
+    holder.append(range.cloneContents());
+    event.clipboardData.setData("text/plain", text);
+    event.clipboardData.setData("text/html", holder.innerHTML);
+    event.preventDefault();
+    return true;
+  }
+
+  /** @param {ClipboardEvent} event */
+  cut(event) {
+    if (!this.copy(event)) {
+      return;
+    }
+    if (this.#acts.isDenied("delete")) {
+      this.#acts.refuse("delete", "denied");
+    } else {
+      this.#acts.act(() => this.#session.commands.deleteSelection());
+    }
+  }
+}
