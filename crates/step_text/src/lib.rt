@@ -15,7 +15,6 @@ mod tag;
 pub use apply::apply_step;
 pub use edit_parts as parts;
 pub use edit_parts::model;
-pub use edit_steps as steps;
 pub use laws::lines_have_one_step;
 pub use line::{Made, StepFault, StepLine};
 pub use page_grammar::dom::{Attributes, Chars, Name};
