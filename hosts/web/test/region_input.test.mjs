@@ -216,12 +216,12 @@ for (const { Browser, name, skip } of BROWSERS) {
       });
 
       it("are typed by a key", async () => {
-        await region.open("<p>ab</p>");
-        await region.click([0, 0], 1);
+        await region.open("<p>some ab</p>");
+        await region.click([0, 0], 6);
         await region.type("x😀y");
-        await region.shows("<p>ax😀yb</p>");
+        await region.shows("<p>some ax😀yb</p>");
         await region.press("Control+z");
-        await region.shows("<p>ab</p>");
+        await region.shows("<p>some ab</p>");
       });
 
       it("are passed by the caret as one", async () => {
@@ -319,7 +319,8 @@ for (const { Browser, name, skip } of BROWSERS) {
           const [item] = await navigator.clipboard.read();
           return (await item.getType("text/html")).text();
         });
-        assert.match(html, /one <b.*>two<\/b>/);
+        // WebKit gives blanks an element of their own.
+        assert.match(html, /one.*<b.*>two<\/b>/s);
       });
 
       it("takes lines as paragraphs", async () => {
@@ -334,8 +335,8 @@ for (const { Browser, name, skip } of BROWSERS) {
     });
 
     describe("what is dragged", () => {
-      // Firefox without a screen begins to drag, and drops nothing.
-      const options = { skip: name === "Firefox" };
+      // Firefox without a screen begins to drag, and drops nothing; so does WebKit's driver.
+      const options = { skip: name !== "Chromium" };
 
       it("goes to where it is dropped, in one step", options, async () => {
         await region.open("<p>one two</p><p>ab</p>");

@@ -48,9 +48,11 @@ export class RegionPage {
     return this.#page.evaluate(async () => {
       const { region } = window;
       await new Promise((resolve) => requestAnimationFrame(() => requestAnimationFrame(resolve)));
-      // A command may put a br into a rule, and the browser's markup leaves that out.
       // What links and images get beside their own attributes.
       const added = / (?:rel|referrerpolicy)="[^"]*"/g;
+      // WebKit tells nothing of a selection elsewhere that looks the same.
+      document.dispatchEvent(new Event("selectionchange"));
+      // A command may put a br into a rule, and the browser's markup leaves that out.
       const isPlain = !region.element.querySelector(":is(br, hr, img) *");
       return {
         difference: region.check(),
