@@ -160,11 +160,12 @@ def wheel_library(target: Target, whole: Path) -> bytes:
 
 
 def windows_library(target: Target, whole: Path) -> dict[str, bytes]:
-    """The DLL with its import library, and the file that other linkers make theirs of."""
+    """The DLL with its import library, and the file that other linkers make theirs of. The linker would
+    choose the DLL's address by the name of the folder."""
     dll, imports, exports = (whole.with_name(it) for it in ("hedit.dll", "libhedit.dll.a", "hedit.def"))
     exports.write_text("".join(["LIBRARY hedit.dll\nEXPORTS\n", *(f"    {it}\n" for it in names_of_calls())]))
     run(f"{target.tools}gcc", "-shared", "-s", "-static-libgcc", "-Wl,--no-insert-timestamp",
-        "-Wl,--gc-sections", f"-Wl,--out-implib,{imports}", "-o", dll, whole, exports)
+        "-Wl,--disable-auto-image-base", "-Wl,--gc-sections", f"-Wl,--out-implib,{imports}", "-o", dll, whole, exports)
     return {
         "bin/hedit.dll": dll.read_bytes(),
         "lib/libhedit.dll.a": imports.read_bytes(),
