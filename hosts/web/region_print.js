@@ -17,11 +17,11 @@ export function escaped(text) {
 
 /** @param {Content} element */
 export function startTag({ name, attributes }) {
-  const each = Array.from(
-    attributes,
-    ([attribute, value]) => ` ${attribute}="${escaped(value).replaceAll('"', "&quot;")}"`,
-  );
-  return `<${name}${each.join("")}>`;
+  let printed = `<${name}`;
+  for (const [attribute, value] of attributes) {
+    printed += ` ${attribute}="${escaped(value).replaceAll('"', "&quot;")}"`;
+  }
+  return `${printed}>`;
 }
 
 /**
@@ -33,7 +33,11 @@ export function startTag({ name, attributes }) {
  * @returns {string}
  */
 export function print(parent, contentOf) {
-  return Array.from(parent.childNodes, (node) => printNode(node, contentOf)).join("");
+  let printed = "";
+  for (let node = parent.firstChild; node; node = node.nextSibling) {
+    printed += printNode(node, contentOf);
+  }
+  return printed;
 }
 
 /**
