@@ -56,6 +56,7 @@ function printNode(node, contentOf) {
   if (!content) {
     return inner;
   }
-  const isOpen = VOIDS.has(content.name) && inner === "";
-  return startTag(content) + (isOpen ? "" : `${inner}</${content.name}>`);
+  // A command may put a br into a rule.
+  const end = VOIDS.has(content.name) ? "" : `</${content.name}>`;
+  return startTag(content) + inner + end;
 }
