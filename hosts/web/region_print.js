@@ -17,11 +17,11 @@ export function escaped(text) {
 
 /** @param {Content} element */
 export function startTag({ name, attributes }) {
-  const each = Array.from(
-    attributes,
-    ([attribute, value]) => ` ${attribute}="${escaped(value).replaceAll('"', "&quot;")}"`,
-  );
-  return `<${name}${each.join("")}>`;
+  let printed = `<${name}`;
+  for (const [attribute, value] of attributes) {
+    printed += ` ${attribute}="${escaped(value).replaceAll('"', "&quot;")}"`;
+  }
+  return `${printed}>`;
 }
 
 /**
@@ -33,7 +33,11 @@ export function startTag({ name, attributes }) {
  * @returns {string}
  */
 export function print(parent, contentOf) {
-  return Array.from(parent.childNodes, (node) => printNode(node, contentOf)).join("");
+  let printed = "";
+  for (let node = parent.firstChild; node; node = node.nextSibling) {
+    printed += printNode(node, contentOf);
+  }
+  return printed;
 }
 
 /**
@@ -52,6 +56,7 @@ function printNode(node, contentOf) {
   if (!content) {
     return inner;
   }
-  const isOpen = VOIDS.has(content.name) && inner === "";
-  return startTag(content) + (isOpen ? "" : `${inner}</${content.name}>`);
+  // A command may put a br into a rule.
+  const end = VOIDS.has(content.name) ? "" : `</${content.name}>`;
+  return startTag(content) + inner + end;
 }

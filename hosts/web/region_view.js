@@ -19,6 +19,9 @@ import { isBlockName, VOIDS } from "./shown.js";
 /** From how many changes on it is worth to have the browser look at all of them at once. */
 const MANY_CHANGES = 100;
 
+/** @type {Content} */
+const NO_CONTENT = { name: "", attributes: new Map() };
+
 /** Blocks in which a caret can't stand by itself. */
 const WHOLE = new Set(["hr", "table", "tbody", "thead", "tfoot", "tr"]);
 
@@ -462,26 +465,38 @@ export class View {
    * @param {Set<Node>} gone
    */
   #update(label, gone) {
-    const node = this.#nodes.get(label) ?? this.#copy(label);
-    if (isText(node)) {
-      this.#updateData(node, this.#editor.nodeValue(label));
-      return node;
-    }
+    const known = this.#nodes.get(label);
+    const node = known ?? this.#copy(label);
     if (isCharacters(node)) {
-      const value = this.#editor.nodeValue(label);
-      this.#contents.set(label, value);
-      this.#updateData(node, blanksOf(value));
+      if (known) {
+        this.#updateCharacters(label, node);
+      }
       return node;
     }
-    const element = node === this.#element ? node : this.#updateElement(label, this.#read(label));
+    const isOwn = known && known !== this.#element;
+    const element = isOwn ? this.#updateElement(label, this.#read(label)) : node;
     this.#updateChildren(element, [...this.#editor.children(label)], gone);
     return element;
+  }
+
+  /**
+   * @param {number} label
+   * @param {CharacterData} node
+   */
+  #updateCharacters(label, node) {
+    const value = this.#editor.nodeValue(label);
+    if (!isText(node)) {
+      this.#contents.set(label, value);
+    }
+    this.#updateData(node, isText(node) ? value : blanksOf(value));
   }
 
   /** @param {number} label */
   #copy(label) {
     const { kind } = this.#editor.node(label);
-    return this.#make(label, kind, this.#read(label), this.#editor.nodeValue(label));
+    return kind === NodeKind.ELEMENT
+      ? this.#make(label, kind, this.#read(label), "")
+      : this.#make(label, kind, NO_CONTENT, this.#editor.nodeValue(label));
   }
 
   /**

@@ -172,6 +172,19 @@ for (const { Browser, name, skip } of BROWSERS) {
         await region.shows("<p>ab</p>");
       });
 
+      it("is printed as the engine prints it, with what stands in a rule too", async () => {
+        await region.open("<hr><p>a</p>");
+        const printed = await region.page.evaluate(() => {
+          const { region } = window;
+          region.select({ label: region.editor.labelAt([0, 0]), offset: 0 });
+          region.exec("insertLineBreak");
+          const { length } = region.editor.node(region.editor.labelAt([0, 0]));
+          return [region.html(), region.editor.html(), length];
+        });
+        assert.ok(printed[1].includes(`>${printed[0]}</div>`), printed.join("\n"));
+        assert.equal(printed[2], 2);
+      });
+
       it("refuses a page by the place in its markup", async () => {
         const refusal = await region.page.evaluate(() => {
           try {
