@@ -1,7 +1,7 @@
 -- Fixing disallowed ancestors is the same whether the command keeps contents or not, where nothing is taken out that is kept.
 use Rattle.std.proofs.Common.{ℕ}
-use Rattle.edit_commands.specs.EditModel.Confined.{is_editable_for, is_inside}
-use Rattle.edit_commands.specs.InlineValue.Ancestors.{lifted, lift, wrap_description, split_out, part_child, is_prohibited, part_children, lift_renamed, rename, replace_misplaced, is_description, hosts_none, fix_ancestors, has_place}
+use Rattle.edit_model.specs.Confined.{is_editable_for, is_inside}
+use Rattle.inline_value.specs.Ancestors.{lifted, lift, wrap_description, split_out, part_child, is_prohibited, part_children, lift_renamed, rename, replace_misplaced, is_description, hosts_none, fix_ancestors, has_place}
 use Rattle.caret_laws.proofs.AlikeMoves.{alike_set_tag_name}
 use Rattle.caret_laws.proofs.SparingRuns.{alike_parts, Alike}
 use Rattle.caret_laws.proofs.AlikeValues.{alike_record_values, alike_restore_values}

@@ -1,9 +1,9 @@
 -- Moves, and the compositions of edits that standards name, are the same whether the command keeps contents or not, where nothing is
 -- taken out that is kept.
 use Rattle.std.proofs.Common.{ℕ, List}
-use Rattle.edit_commands.specs.EditModel.Moves.{insert_before, insert_after, make_break, move_before, move_after, move_first, move_all_before, move_all_after, move_all_first, move_each_last, unwrap}
-use Rattle.edit_commands.specs.EditModel.Compositions.{set_tag_name, renamed}
-use Rattle.edit_commands.specs.EditModel.Confined.{is_editable_for}
+use Rattle.edit_model.specs.Moves.{insert_before, insert_after, make_break, move_before, move_after, move_first, move_all_before, move_all_after, move_all_first, move_each_last, unwrap}
+use Rattle.edit_model.specs.Compositions.{set_tag_name, renamed}
+use Rattle.edit_model.specs.Confined.{is_editable_for}
 use Rattle.caret_laws.proofs.SparingRuns.{Alike, alike_parts}
 
 -- ---- insertions and moves

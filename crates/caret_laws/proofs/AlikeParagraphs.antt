@@ -2,21 +2,21 @@
 -- nothing is taken out that is kept.
 use Rattle.std.proofs.Common.{◌≡◌, ℕ, zero, suc, true, if◌then◌else◌, [], ◌∷◌, refl}
 use Rattle.std.proofs.lemmas.Bool.{and_parts}
-use Rattle.edit_commands.specs.DomModel.Forest.{next_of}
-use Rattle.edit_commands.specs.LiveRange.declared.places.Point.{Point}
-use Rattle.edit_commands.specs.EditModel.Confined.{is_inside, is_editable_for}
-use Rattle.edit_commands.specs.EditModel.Compositions.{split_words}
-use Rattle.edit_commands.specs.EditModel.Run.{◌>>◌, done, look}
-use Rattle.edit_commands.specs.EditModel.State.{State}
-use Rattle.edit_commands.specs.NodeTests.CollapsedWhitespace.{is_words}
-use Rattle.edit_commands.specs.WrapSplit.Breaks.{last_below}
-use Rattle.edit_commands.specs.WrapSplit.Wrap.{list_on}
-use Rattle.edit_commands.specs.InlineValue.Ancestors.{is_description, has_place, is_prohibited}
-use Rattle.edit_commands.specs.TextInsertion.Start.{cuts_text, insert_at, insert_at_start, active_start}
-use Rattle.edit_commands.specs.TextInsertion.Entries.{rename_stray, is_stray, leave_list}
-use Rattle.edit_commands.specs.TextInsertion.Containers.{make_container, insert_container, add_container, takes_container, wrap_line, contents_from, make_line, first_content, is_line_content, own_container, is_own_container, if_paragraph_child, contents_after}
-use Rattle.edit_commands.specs.TextInsertion.Halves.{make_second, second_name, ends_line, name_after, is_heading_at, fill_hidden, close_both, deepest_last, into_last_block}
-use Rattle.edit_commands.specs.TextInsertion.Paragraph.{leave_text, split_text, break_line}
+use Rattle.edit_model.specs.DomModel.Forest.{next_of}
+use Rattle.edit_model.specs.LiveRange.declared.places.Point.{Point}
+use Rattle.edit_model.specs.Confined.{is_inside, is_editable_for}
+use Rattle.edit_model.specs.Compositions.{split_words}
+use Rattle.edit_model.specs.Run.{◌>>◌, done, look}
+use Rattle.edit_model.specs.State.{State}
+use Rattle.inline_value.specs.NodeTests.CollapsedWhitespace.{is_words}
+use Rattle.inline_value.specs.WrapSplit.Breaks.{last_below}
+use Rattle.inline_value.specs.WrapSplit.Wrap.{list_on}
+use Rattle.inline_value.specs.Ancestors.{is_description, has_place, is_prohibited}
+use Rattle.text_insertion.specs.Start.{cuts_text, insert_at, insert_at_start, active_start}
+use Rattle.text_insertion.specs.Entries.{rename_stray, is_stray, leave_list}
+use Rattle.text_insertion.specs.Containers.{make_container, insert_container, add_container, takes_container, wrap_line, contents_from, make_line, first_content, is_line_content, own_container, is_own_container, if_paragraph_child, contents_after}
+use Rattle.text_insertion.specs.Halves.{make_second, second_name, ends_line, name_after, is_heading_at, fill_hidden, close_both, deepest_last, into_last_block}
+use Rattle.text_insertion.specs.Paragraph.{leave_text, split_text, break_line}
 use Rattle.caret_laws.proofs.AlikeMoves.{alike_set_tag_name, alike_make_break}
 use Rattle.caret_laws.proofs.AlikeSplits.{alike_split_parent}
 use Rattle.caret_laws.proofs.AlikeAncestors.{alike_fix_ancestors}
@@ -24,7 +24,7 @@ use Rattle.caret_laws.proofs.AlikeWraps.{alike_append_break, alike_wrap}
 use Rattle.caret_laws.proofs.AlikeTexts.{alike_at, alike_look_at, if_at, split_at}
 use Rattle.caret_laws.proofs.SparingRuns.{alike_answer, alike_bind, alike_look, alike_parts, Alike}
 use Rattle.caret_laws.proofs.BlindRuns.{kept}
-use Rattle.edit_commands.specs.DeleteCore.Merging.{fill_empty}
+use Rattle.delete_core.specs.Merging.{fill_empty}
 
 contents_after_at : (s : State) (n z : ℕ) → contents_after (kept s) n z ≡ contents_after s n z
 unfolding contents_after

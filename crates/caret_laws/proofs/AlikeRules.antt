@@ -1,14 +1,14 @@
 -- Putting an element and a rule is the same whether the command keeps contents or not, where nothing is taken out that is kept.
 use Rattle.std.proofs.Common.{ℕ, ◌&&◌, not, if◌then◌else◌, List, refl}
 use Rattle.std.specs.Prelude.{◌==◌}
-use Rattle.edit_commands.specs.DomModel.declared.attributes.Attribute.{Attribute}
-use Rattle.edit_commands.specs.DomModel.Contents.{has_chars_at, length_of}
-use Rattle.edit_commands.specs.LiveRange.declared.places.Point.{Point}
-use Rattle.edit_commands.specs.EditModel.Run.{Run, done}
-use Rattle.edit_commands.specs.EditModel.State.{State}
-use Rattle.edit_commands.specs.TextInsertion.Start.{active_start, cuts_text}
-use Rattle.edit_commands.specs.InsertObjects.Putting.{collapse_before, collapse_after, leave_text, put}
-use Rattle.edit_commands.specs.InsertObjects.Rule.{widen_range, outermost_start, out_of_start, outermost_end, out_of_end, put_rule}
+use Rattle.edit_model.specs.DomModel.declared.attributes.Attribute.{Attribute}
+use Rattle.edit_model.specs.DomModel.Contents.{has_chars_at, length_of}
+use Rattle.edit_model.specs.LiveRange.declared.places.Point.{Point}
+use Rattle.edit_model.specs.Run.{Run, done}
+use Rattle.edit_model.specs.State.{State}
+use Rattle.text_insertion.specs.Start.{active_start, cuts_text}
+use Rattle.insert_objects.specs.Putting.{collapse_before, collapse_after, leave_text, put}
+use Rattle.insert_objects.specs.Rule.{widen_range, outermost_start, out_of_start, outermost_end, out_of_end, put_rule}
 use Rattle.caret_laws.proofs.AlikeTexts.{alike_at, alike_look_at, given_at, if_at, split_at}
 use Rattle.caret_laws.proofs.AlikeParagraphs.{alike_insert_at_start, cuts_words}
 use Rattle.caret_laws.proofs.AlikeAncestors.{alike_fix_ancestors}

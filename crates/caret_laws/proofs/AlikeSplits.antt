@@ -1,10 +1,10 @@
 -- Removing line breaks and splitting parents is the same whether the command keeps contents or not, where nothing is taken out that is
 -- kept.
 use Rattle.std.proofs.Common.{ℕ, Bool, List}
-use Rattle.edit_commands.specs.EditModel.Confined.{is_editable_for}
-use Rattle.edit_commands.specs.EditActions.Siblings.{starts_in, ends_in}
-use Rattle.edit_commands.specs.WrapSplit.Breaks.{breaks_before, back, back_step, last_below, breaks_at_end, top_hidden, up_step, breaks_from}
-use Rattle.edit_commands.specs.WrapSplit.Split.{break_before, break_after, clear_before, copied, copy_front, drop_first_break, close, tidy_after, split_end, split_rest, split_marked, split_at, split_members, split_parent, split_around, remove_keeping_children}
+use Rattle.edit_model.specs.Confined.{is_editable_for}
+use Rattle.inline_value.specs.EditActions.Siblings.{starts_in, ends_in}
+use Rattle.inline_value.specs.WrapSplit.Breaks.{breaks_before, back, back_step, last_below, breaks_at_end, top_hidden, up_step, breaks_from}
+use Rattle.inline_value.specs.WrapSplit.Split.{break_before, break_after, clear_before, copied, copy_front, drop_first_break, close, tidy_after, split_end, split_rest, split_marked, split_at, split_members, split_parent, split_around, remove_keeping_children}
 use Rattle.caret_laws.proofs.AlikeMoves.{alike_make_break, alike_insert_before, alike_insert_after, alike_move_each_last, alike_move_all_after, alike_move_all_before}
 use Rattle.caret_laws.proofs.LookedAt.{first_parent_same, members_same}
 use Rattle.caret_laws.proofs.SparingRuns.{Alike, alike_look, alike_parts}

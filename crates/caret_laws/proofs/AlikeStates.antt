@@ -1,27 +1,27 @@
 -- Restoring states and values is the same whether the command keeps contents or not, where nothing is taken out that is kept.
 use Rattle.std.proofs.Common.{◌≡◌, ℕ, Bool, List, Option, true, false, [], ◌∷◌, refl}
 use Rattle.std.proofs.lemmas.Bool.{and_parts}
-use Rattle.edit_commands.specs.HtmlNames.declared.commands.Command.{Command}
-use Rattle.edit_commands.specs.HtmlNames.declared.commands.Command.TheVariants as command
-use Rattle.edit_commands.specs.LiveRange.declared.places.Point.{Point}
-use Rattle.edit_commands.specs.NodeTests.CollapsedWhitespace.{is_words}
-use Rattle.edit_commands.specs.EditModel.Confined.{is_editable_for}
-use Rattle.edit_commands.specs.EditModel.Run.{done}
-use Rattle.edit_commands.specs.EditModel.State.{State}
-use Rattle.edit_commands.specs.EditModel.declared.settings.Setting.{Setting}
-use Rattle.edit_commands.specs.EditModel.declared.settings.Setting.TheVariants.{Absent, On, Off, Text}
-use Rattle.edit_commands.specs.EditQuery.Queries.{state_of, value_of}
-use Rattle.edit_commands.specs.EditQuery.Rows.{is_on, first_value}
-use Rattle.edit_commands.specs.EditQuery.Formattable.{start_node, formattable_nodes, first_formattable}
-use Rattle.edit_commands.specs.EditQuery.Leaves.{leaves, first_leaf}
-use Rattle.edit_commands.specs.EditQuery.ListStates.{list_state}
-use Rattle.edit_commands.specs.InlineValue.Selections.{set_start, start_text, split_at_start, is_amid, split_at_end, split_start, split_end, split_ends, unset_rival, set_overrides, clear_one, clear_elements, elements_in_range, editable_in_range, nodes_in_range, force_phrase, give_node, give_nodes, give_range, set_value}
-use Rattle.edit_commands.specs.InlineValue.declared.overrides.Override.{Override}
-use Rattle.edit_commands.specs.InlineValue.Forcing.{has_alike}
-use Rattle.edit_commands.specs.InlineCommands.Toggling.{set_toggled, toggle_style, set_unless, set_script, toggle_script}
-use Rattle.edit_commands.specs.InlineCommands.Linking.{relink, relink_range, links_around, is_around, link_range, link_to, create_link}
-use Rattle.edit_commands.specs.InlineCommands.ValueCommands.{set_taken, take, apply_value}
-use Rattle.edit_commands.specs.InlineCommands.RestoringStates.{override_by, set_override, turn_round, toggle_state, restore_on, restore_off, restore_shown, restore_link, is_other_value, restore_size, restore_text, restore_setting, restore_entry, restore_states}
+use Rattle.edit_model.specs.HtmlNames.declared.commands.Command.{Command}
+use Rattle.edit_model.specs.HtmlNames.declared.commands.Command.TheVariants as command
+use Rattle.edit_model.specs.LiveRange.declared.places.Point.{Point}
+use Rattle.inline_value.specs.NodeTests.CollapsedWhitespace.{is_words}
+use Rattle.edit_model.specs.Confined.{is_editable_for}
+use Rattle.edit_model.specs.Run.{done}
+use Rattle.edit_model.specs.State.{State}
+use Rattle.edit_model.specs.declared.settings.Setting.{Setting}
+use Rattle.edit_model.specs.declared.settings.Setting.TheVariants.{Absent, On, Off, Text}
+use Rattle.inline_value.specs.EditQuery.Queries.{state_of, value_of}
+use Rattle.inline_value.specs.EditQuery.Rows.{is_on, first_value}
+use Rattle.inline_value.specs.EditQuery.Formattable.{start_node, formattable_nodes, first_formattable}
+use Rattle.inline_value.specs.EditQuery.Leaves.{leaves, first_leaf}
+use Rattle.inline_value.specs.EditQuery.ListStates.{list_state}
+use Rattle.inline_value.specs.Selections.{set_start, start_text, split_at_start, is_amid, split_at_end, split_start, split_end, split_ends, unset_rival, set_overrides, clear_one, clear_elements, elements_in_range, editable_in_range, nodes_in_range, force_phrase, give_node, give_nodes, give_range, set_value}
+use Rattle.inline_value.specs.declared.overrides.Override.{Override}
+use Rattle.inline_value.specs.Forcing.{has_alike}
+use Rattle.inline_commands.specs.Toggling.{set_toggled, toggle_style, set_unless, set_script, toggle_script}
+use Rattle.inline_commands.specs.Linking.{relink, relink_range, links_around, is_around, link_range, link_to, create_link}
+use Rattle.inline_commands.specs.ValueCommands.{set_taken, take, apply_value}
+use Rattle.inline_commands.specs.RestoringStates.{override_by, set_override, turn_round, toggle_state, restore_on, restore_off, restore_shown, restore_link, is_other_value, restore_size, restore_text, restore_setting, restore_entry, restore_states}
 use Rattle.caret_laws.proofs.AlikeValues.{alike_clear_value, alike_force, alike_push_down}
 use Rattle.caret_laws.proofs.AlikeTexts.{alike_at, alike_look_at, if_at, split_at}
 use Rattle.caret_laws.proofs.SparingRuns.{Alike, alike_answer, alike_perform, alike_parts}

@@ -3,16 +3,16 @@ use Rattle.std.proofs.Common.{◌≡◌, ◌+◌, ◌-◌, ◌<◌, ◌^◌, ℕ
 use Rattle.std.specs.Prelude.{unwrap_or}
 use Rattle.std.specs.Option.{option_and_then}
 use Rattle.std.proofs.lemmas.List.{length-drop}
-use Rattle.edit_commands.specs.DomModel.declared.Content.{Content}
-use Rattle.edit_commands.specs.DomModel.Contents.{chars_in}
-use Rattle.edit_commands.specs.DomModel.Forest.{content_of, next_of, parent_of}
-use Rattle.edit_commands.specs.DomModel.Places.{index_of}
-use Rattle.edit_commands.specs.NodeTests.CollapsedWhitespace.{is_words}
-use Rattle.edit_commands.specs.EditModel.Compositions.{characters_of, points_sent, split_words, split_under}
-use Rattle.edit_commands.specs.EditModel.Run.{Run, final, value, ◌>>=◌, ◌>>◌, answer, look, given, insert, replace}
-use Rattle.edit_commands.specs.EditModel.State.{State}
-use Rattle.edit_commands.specs.EditModel.Valid.{IsValid}
-use Rattle.edit_commands.proofs.EditModel.ValidRuns.{valid_along}
+use Rattle.edit_model.specs.DomModel.declared.Content.{Content}
+use Rattle.edit_model.specs.DomModel.Contents.{chars_in}
+use Rattle.edit_model.specs.DomModel.Forest.{content_of, next_of, parent_of}
+use Rattle.edit_model.specs.DomModel.Places.{index_of}
+use Rattle.inline_value.specs.NodeTests.CollapsedWhitespace.{is_words}
+use Rattle.edit_model.specs.Compositions.{characters_of, points_sent, split_words, split_under}
+use Rattle.edit_model.specs.Run.{Run, final, value, ◌>>=◌, ◌>>◌, answer, look, given, insert, replace}
+use Rattle.edit_model.specs.State.{State}
+use Rattle.edit_model.specs.Valid.{IsValid}
+use Rattle.edit_model.proofs.ValidRuns.{valid_along}
 use Rattle.caret_laws.specs.SolidOrder.{HasRoomFor}
 use Rattle.caret_laws.specs.Sparing.{SparesOn}
 use Rattle.caret_laws.proofs.BlindRuns.{kept}

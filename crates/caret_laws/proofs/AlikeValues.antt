@@ -1,24 +1,24 @@
 -- Clearing, forcing, pushing down, recording and restoring values is the same whether the command keeps contents or not, where nothing
 -- is taken out that is kept.
 use Rattle.std.proofs.Common.{ℕ, List, codes, Bool, Option, zero, suc, ◌≡◌, [], ◌∷◌, Some, None, refl, ap, ◌++◌}
-use Rattle.edit_commands.specs.HtmlNames.declared.commands.Command.{Command}
-use Rattle.edit_commands.specs.CssValue.declared.decoration.DecorationLine.{DecorationLine}
-use Rattle.edit_commands.specs.CommandValue.declared.subject.Subject.{Subject}
-use Rattle.edit_commands.specs.CommandValue.declared.subject.Subject.TheVariants.{Line, Link}
-use Rattle.edit_commands.specs.EditModel.Confined.{is_editable_for}
-use Rattle.edit_commands.specs.InlineValue.Styling.{write_text, set_style, declarations_of, style_of, unset_style, decoration_of}
-use Rattle.edit_commands.specs.InlineValue.Clearing.{write_words, drop_line, drop_word, drop_property, drop_attribute, drop_hint, drop_link, span_for, stripped, unwrapped, clear_value}
+use Rattle.edit_model.specs.HtmlNames.declared.commands.Command.{Command}
+use Rattle.inline_value.specs.CssValue.declared.decoration.DecorationLine.{DecorationLine}
+use Rattle.inline_value.specs.CommandValue.declared.subject.Subject.{Subject}
+use Rattle.inline_value.specs.CommandValue.declared.subject.Subject.TheVariants.{Line, Link}
+use Rattle.edit_model.specs.Confined.{is_editable_for}
+use Rattle.inline_value.specs.Styling.{write_text, set_style, declarations_of, style_of, unset_style, decoration_of}
+use Rattle.inline_value.specs.Clearing.{write_words, drop_line, drop_word, drop_property, drop_attribute, drop_hint, drop_link, span_for, stripped, unwrapped, clear_value}
 use Rattle.caret_laws.proofs.SparingRuns.{alike_answer, alike_parts, alike_bind, alike_look, Alike}
 use Rattle.caret_laws.proofs.AlikeMoves.{alike_set_tag_name, alike_unwrap, alike_move_all_before, alike_insert_after, alike_move_before, alike_insert_before}
-use Rattle.edit_commands.specs.EditModel.Run.{Run}
-use Rattle.edit_commands.specs.InlineValue.Reordering.{swapped, reorder_with, reorder, reordered}
-use Rattle.edit_commands.specs.InlineValue.Forcing.{reorder_prev, reorder_next, joined, rename_link, rename_links, clear_way, make_wrapper, style_by, style_wrapper, has_alike, taken_back, confirm_value, put_in, wrapped, unless_alike, force_node, force_self, force_child, force_heirs, heirs, forced, force_value, force}
+use Rattle.edit_model.specs.Run.{Run}
+use Rattle.inline_value.specs.Reordering.{swapped, reorder_with, reorder, reordered}
+use Rattle.inline_value.specs.Forcing.{reorder_prev, reorder_next, joined, rename_link, rename_links, clear_way, make_wrapper, style_by, style_wrapper, has_alike, taken_back, confirm_value, put_in, wrapped, unless_alike, force_node, force_self, force_child, force_heirs, heirs, forced, force_value, force}
 use Rattle.caret_laws.proofs.AlikeWraps.{alike_wrap}
-use Rattle.edit_commands.specs.DomModel.Forest.{first_in}
-use Rattle.edit_commands.specs.CommandValue.SpecifiedValues.{specified}
-use Rattle.edit_commands.specs.EditModel.State.{State}
-use Rattle.edit_commands.specs.InlineValue.Pushing.{push_to, clear_level, push_level, push_levels, own_or, push_from, is_hopeless, push_listed, push_down, needs_none, others_above}
-use Rattle.edit_commands.specs.InlineValue.Recording.{record_values, restored_to, Recorded, restore_value, restore_values, value_at, values_at, values_of}
+use Rattle.edit_model.specs.DomModel.Forest.{first_in}
+use Rattle.inline_value.specs.CommandValue.SpecifiedValues.{specified}
+use Rattle.edit_model.specs.State.{State}
+use Rattle.inline_value.specs.Pushing.{push_to, clear_level, push_level, push_levels, own_or, push_from, is_hopeless, push_listed, push_down, needs_none, others_above}
+use Rattle.inline_value.specs.Recording.{record_values, restored_to, Recorded, restore_value, restore_values, value_at, values_at, values_of}
 use Rattle.caret_laws.proofs.BlindRuns.{kept}
 
 -- ---- styles

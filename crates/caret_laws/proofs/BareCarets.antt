@@ -3,36 +3,36 @@
 use Rattle.std.proofs.Common.{◌≡◌, ◌≢◌, ◌⊎◌, ℕ, ◌+◌, ◌≤◌, Bool, true, false, ◌&&◌, List, length, Option, Some, None, IfSome, refl, sym, ap, subst, ◌∙◌, inl, inr, arith, true≢false}
 use Rattle.std.specs.Option.{option_map_or}
 use Rattle.std.proofs.lemmas.Bool.Decides.{eqb_tells}
-use Rattle.edit_commands.specs.DomModel.declared.Content.{Content}
-use Rattle.edit_commands.specs.DomModel.declared.Content.TheVariants.{Document, Element, Words, Remark}
-use Rattle.edit_commands.specs.DomModel.Contents.{name_of, length_in, length_of, has_chars_at}
-use Rattle.edit_commands.specs.DomModel.Forest.{tree_of, parent_of, children_of, content_of, IsWithin}
-use Rattle.edit_commands.specs.DomModel.Places.{index_of}
-use Rattle.edit_commands.proofs.DomModel.Within.{within_self, within_up}
-use Rattle.edit_commands.specs.LiveRange.declared.places.Point.{Point}
-use Rattle.edit_commands.specs.NodeTests.BlockPoints.{child_at}
-use Rattle.edit_commands.specs.NodeTests.CollapsedWhitespace.{is_words_content, is_words}
-use Rattle.edit_commands.specs.EditModel.Action as action
-use Rattle.edit_commands.specs.EditModel.Action.{selected, acted}
-use Rattle.edit_commands.specs.EditModel.Confined.{is_inside, may_select}
-use Rattle.edit_commands.specs.EditModel.Edit.{changed}
-use Rattle.edit_commands.specs.EditModel.Run.{◌>>◌, final, value, select}
-use Rattle.edit_commands.specs.EditModel.Kept.{is_thing}
-use Rattle.edit_commands.specs.EditModel.State.{State}
-use Rattle.edit_commands.specs.EditModel.Valid.{IsValid, IsPlacedPair}
-use Rattle.edit_commands.proofs.EditModel.OutsideRuns.{trees-selected}
-use Rattle.edit_commands.proofs.EditModel.Points.{placed_is}
-use Rattle.edit_commands.proofs.EditModel.Steps.{final-perform}
-use Rattle.edit_commands.proofs.EditModel.ValidRuns.{valid_acted}
-use Rattle.command_laws.proofs.EditLaws.SteadyRuns.{steady_perform}
+use Rattle.edit_model.specs.DomModel.declared.Content.{Content}
+use Rattle.edit_model.specs.DomModel.declared.Content.TheVariants.{Document, Element, Words, Remark}
+use Rattle.edit_model.specs.DomModel.Contents.{name_of, length_in, length_of, has_chars_at}
+use Rattle.edit_model.specs.DomModel.Forest.{tree_of, parent_of, children_of, content_of, IsWithin}
+use Rattle.edit_model.specs.DomModel.Places.{index_of}
+use Rattle.edit_model.proofs.DomModel.Within.{within_self, within_up}
+use Rattle.edit_model.specs.LiveRange.declared.places.Point.{Point}
+use Rattle.inline_value.specs.NodeTests.BlockPoints.{child_at}
+use Rattle.inline_value.specs.NodeTests.CollapsedWhitespace.{is_words_content, is_words}
+use Rattle.edit_model.specs.Action as action
+use Rattle.edit_model.specs.Action.{selected, acted}
+use Rattle.edit_model.specs.Confined.{is_inside, may_select}
+use Rattle.edit_model.specs.Edit.{changed}
+use Rattle.edit_model.specs.Run.{◌>>◌, final, value, select}
+use Rattle.edit_model.specs.Kept.{is_thing}
+use Rattle.edit_model.specs.State.{State}
+use Rattle.edit_model.specs.Valid.{IsValid, IsPlacedPair}
+use Rattle.edit_model.proofs.OutsideRuns.{trees-selected}
+use Rattle.edit_model.proofs.Points.{placed_is}
+use Rattle.edit_model.proofs.Steps.{final-perform}
+use Rattle.edit_model.proofs.ValidRuns.{valid_acted}
+use Rattle.edit_laws.proofs.SteadyRuns.{steady_perform}
 use Rattle.command_laws.proofs.ErasingRuns.{steady_canonicalize_start, steady_canonicalize_end}
-use Rattle.edit_commands.specs.InlineCommands.RestoringStates.{restore_states}
-use Rattle.edit_commands.specs.DeleteCore.declared.deletion.Manner.{Manner}
-use Rattle.edit_commands.specs.DeleteCore.Deletion.{delete_between, delete_selection}
-use Rattle.edit_commands.specs.DeleteCore.Ends.{canonicalize_start, canonicalize_end}
-use Rattle.edit_commands.specs.DeleteCore.Places.{at}
-use Rattle.edit_commands.specs.TextInsertion.Start.{erase}
-use Rattle.edit_commands.specs.InsertObjects.Rule.{outermost_start, outermost_end, widen_range}
+use Rattle.inline_commands.specs.RestoringStates.{restore_states}
+use Rattle.delete_core.specs.declared.deletion.Manner.{Manner}
+use Rattle.delete_core.specs.Deletion.{delete_between, delete_selection}
+use Rattle.delete_core.specs.Ends.{canonicalize_start, canonicalize_end}
+use Rattle.delete_core.specs.Places.{at}
+use Rattle.text_insertion.specs.Start.{erase}
+use Rattle.insert_objects.specs.Rule.{outermost_start, outermost_end, widen_range}
 use Rattle.caret_laws.specs.ParagraphOrder.{StandsInNoThing}
 use Rattle.caret_laws.specs.RuleLaws.{StaysWhenWidened, IsFilled}
 use Rattle.caret_laws.specs.SolidOrder.{solid_leaves, StandsAt, HasRoom}

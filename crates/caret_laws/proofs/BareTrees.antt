@@ -6,47 +6,47 @@ use Rattle.std.specs.List.{filter}
 use Rattle.std.specs.Option.{option_map, option_map_or, option_and_then}
 use Rattle.std.proofs.lemmas.Bool.{and_parts, cases_Bool, ne_eqb}
 use Rattle.std.proofs.lemmas.Bool.Decides.{eqb_tells}
-use Rattle.edit_commands.specs.DomModel.declared.Content.{Content}
-use Rattle.edit_commands.specs.DomModel.declared.Content.TheVariants.{Document, Element, Words, Remark}
-use Rattle.edit_commands.specs.DomModel.Contents.{name_in, length_of}
-use Rattle.edit_commands.specs.DomModel.Forest.{Forest, Seen, tops, seek, count_of, tree_of, preorder, parent_of, content_of, link, unlink, with_leaf, relinked, unlinked, IsDistinct, IsWithin}
-use Rattle.edit_commands.specs.DomModel.Forest.Forest.{Nil, Tree}
-use Rattle.edit_commands.specs.DomModel.Places.{index_of}
-use Rattle.edit_commands.proofs.DomModel.Kept.{content_of-link, content_of-unlink, content_of-with_leaf_new, content_of-with_leaf_other}
-use Rattle.edit_commands.proofs.DomModel.Links.{seek-link, seek-unlink, parent_of-with_leaf}
-use Rattle.edit_commands.proofs.DomModel.Stands.{Stands, count_of-Stands, Stands-tree_of, seek_Stands}
-use Rattle.edit_commands.specs.LiveRange.declared.places.Point.{Point}
-use Rattle.edit_commands.specs.LiveRange.LivePoints.{LivePoints}
-use Rattle.edit_commands.specs.LiveRange.PointsEdit as range
-use Rattle.edit_commands.specs.LiveRange.PointsEdit.{adjusted, adjusted_pair, has_label, with_offset, after_insert, after_removal}
-use Rattle.edit_commands.specs.NodeStyles.Blocks.{is_block}
-use Rattle.edit_commands.proofs.NodeTests.Reaching.{child_with}
-use Rattle.edit_commands.specs.EditModel.State.{State}
-use Rattle.edit_commands.specs.EditModel.Action.{made}
-use Rattle.edit_commands.specs.EditModel.Confined.{is_editable_for, is_inside, is_open}
-use Rattle.edit_commands.specs.EditModel.Edit.{Edit, Insert, Remove, is_made_edit, trees_after, points_after, parent_or_0, index_before, changed, with_change, edited}
-use Rattle.edit_commands.specs.EditModel.Kept.{Letter, borne_by, leaves, is_thing, is_kept, is_empty, kept_leaves, has_no_kept_leaves}
-use Rattle.edit_commands.specs.EditModel.Moves.{make_break}
-use Rattle.edit_commands.specs.EditModel.Run.{Run, ◌>>◌, act, final, answer, done, given, for_each, while_at_most, edit, remove}
-use Rattle.edit_commands.specs.EditModel.Valid.{IsValid}
-use Rattle.edit_commands.proofs.EditModel.Documents.{index_below}
-use Rattle.edit_commands.proofs.EditModel.Forests.{fresh}
-use Rattle.edit_commands.proofs.EditModel.IslandRuns.{trees_made, trees_left}
-use Rattle.edit_commands.proofs.EditModel.Steps.{final-bind, final-answer, final-edit, final-make_element, value-make_element}
-use Rattle.edit_commands.proofs.EditModel.TailForests.{away-unlink, away-link, away-with_leaf}
-use Rattle.edit_commands.proofs.EditModel.Tests.{removes, inserts}
-use Rattle.edit_commands.proofs.EditModel.Trees.{none_or_some}
-use Rattle.command_laws.specs.EditLaws.MoveLaws.{IsBare}
-use Rattle.command_laws.specs.EditLaws.Order.{KeepsOrder}
-use Rattle.command_laws.proofs.EditLaws.Leaves.{leaves-Nil, leaves-Tree}
-use Rattle.command_laws.proofs.EditLaws.OrderPreserving.{order_preserving_remove}
-use Rattle.command_laws.proofs.EditLaws.SteadyRuns.{steady_edit}
-use Rattle.command_laws.proofs.EditLaws.Subsequences.{keeps_trans}
+use Rattle.edit_model.specs.DomModel.declared.Content.{Content}
+use Rattle.edit_model.specs.DomModel.declared.Content.TheVariants.{Document, Element, Words, Remark}
+use Rattle.edit_model.specs.DomModel.Contents.{name_in, length_of}
+use Rattle.edit_model.specs.DomModel.Forest.{Forest, Seen, tops, seek, count_of, tree_of, preorder, parent_of, content_of, link, unlink, with_leaf, relinked, unlinked, IsDistinct, IsWithin}
+use Rattle.edit_model.specs.DomModel.Forest.Forest.{Nil, Tree}
+use Rattle.edit_model.specs.DomModel.Places.{index_of}
+use Rattle.edit_model.proofs.DomModel.Kept.{content_of-link, content_of-unlink, content_of-with_leaf_new, content_of-with_leaf_other}
+use Rattle.edit_model.proofs.DomModel.Links.{seek-link, seek-unlink, parent_of-with_leaf}
+use Rattle.edit_model.proofs.DomModel.Stands.{Stands, count_of-Stands, Stands-tree_of, seek_Stands}
+use Rattle.edit_model.specs.LiveRange.declared.places.Point.{Point}
+use Rattle.edit_model.specs.LiveRange.LivePoints.{LivePoints}
+use Rattle.edit_model.specs.LiveRange.PointsEdit as range
+use Rattle.edit_model.specs.LiveRange.PointsEdit.{adjusted, adjusted_pair, has_label, with_offset, after_insert, after_removal}
+use Rattle.inline_value.specs.NodeStyles.Blocks.{is_block}
+use Rattle.inline_value.proofs.NodeTests.Reaching.{child_with}
+use Rattle.edit_model.specs.State.{State}
+use Rattle.edit_model.specs.Action.{made}
+use Rattle.edit_model.specs.Confined.{is_editable_for, is_inside, is_open}
+use Rattle.edit_model.specs.Edit.{Edit, Insert, Remove, is_made_edit, trees_after, points_after, parent_or_0, index_before, changed, with_change, edited}
+use Rattle.edit_model.specs.Kept.{Letter, borne_by, leaves, is_thing, is_kept, is_empty, kept_leaves, has_no_kept_leaves}
+use Rattle.edit_model.specs.Moves.{make_break}
+use Rattle.edit_model.specs.Run.{Run, ◌>>◌, act, final, answer, done, given, for_each, while_at_most, edit, remove}
+use Rattle.edit_model.specs.Valid.{IsValid}
+use Rattle.edit_model.proofs.Documents.{index_below}
+use Rattle.edit_model.proofs.Forests.{fresh}
+use Rattle.edit_model.proofs.IslandRuns.{trees_made, trees_left}
+use Rattle.edit_model.proofs.Steps.{final-bind, final-answer, final-edit, final-make_element, value-make_element}
+use Rattle.edit_model.proofs.TailForests.{away-unlink, away-link, away-with_leaf}
+use Rattle.edit_model.proofs.Tests.{removes, inserts}
+use Rattle.edit_model.proofs.Trees.{none_or_some}
+use Rattle.edit_laws.specs.MoveLaws.{IsBare}
+use Rattle.edit_laws.specs.Order.{KeepsOrder}
+use Rattle.edit_laws.proofs.Leaves.{leaves-Nil, leaves-Tree}
+use Rattle.edit_laws.proofs.OrderPreserving.{order_preserving_remove}
+use Rattle.edit_laws.proofs.SteadyRuns.{steady_edit}
+use Rattle.edit_laws.proofs.Subsequences.{keeps_trans}
 use Rattle.command_laws.proofs.SteadyWraps.{steady_append_break}
-use Rattle.edit_commands.specs.WrapSplit.Walks.{turn_bound}
-use Rattle.edit_commands.specs.WrapSplit.Wrap.{append_break}
-use Rattle.edit_commands.specs.DeleteCore.Erasing.{is_hollow, fill_hollow, removed_up, is_strippable, strip_empty, strip_from, remove_under, remove_node}
-use Rattle.edit_commands.specs.PointOrder.PointOrder.{is_within}
+use Rattle.inline_value.specs.WrapSplit.Walks.{turn_bound}
+use Rattle.inline_value.specs.WrapSplit.Wrap.{append_break}
+use Rattle.delete_core.specs.Erasing.{is_hollow, fill_hollow, removed_up, is_strippable, strip_empty, strip_from, remove_under, remove_node}
+use Rattle.edit_model.specs.PointOrder.PointOrder.{is_within}
 use Rattle.caret_laws.specs.SolidOrder.{KeepsOrderUpToBlanks}
 use Rattle.caret_laws.specs.TailLaws.{is_thing_at}
 use Rattle.caret_laws.proofs.Blanks.{length_words}

@@ -7,36 +7,36 @@ use Rattle.std.specs.Option.{option_map, option_map_or, option_and_then}
 use Rattle.std.proofs.lemmas.Bool.{cases_Bool, lt-ltb, le-leb, ne_eqb}
 use Rattle.std.proofs.lemmas.Bool.Decides.{eqb_tells, nat_tests}
 use Rattle.std.proofs.lemmas.Slice.Eq.{bytes_eq-Decides}
-use Rattle.edit_commands.specs.DomModel.declared.Content.{Content}
-use Rattle.edit_commands.specs.DomModel.declared.Content.TheVariants.{Document, Element, Words, Remark}
-use Rattle.edit_commands.specs.DomModel.Contents.{is_element, name_in, with_chars, length_in, length_of, name_of}
-use Rattle.edit_commands.specs.DomModel.Editing.{is_true_state, host_by, offered, host_from, editing_host, is_host}
-use Rattle.edit_commands.specs.DomModel.Forest.{Forest, either, is_label, tree_of, parent_of, children_of, content_of, IsDistinct, IsWithin}
-use Rattle.edit_commands.specs.DomModel.Forest.Forest.{Nil, Tree}
-use Rattle.edit_commands.specs.DomModel.Places.{place_in, index_of}
-use Rattle.edit_commands.specs.DomModel.Revised.{revised}
-use Rattle.edit_commands.proofs.DomModel.Revising.{parent_of-revised, children_of-revised, content_of-revised}
-use Rattle.edit_commands.specs.LiveRange.declared.places.Point.{Point}
-use Rattle.edit_commands.specs.LiveRange.ActiveRange.{range_changed}
-use Rattle.edit_commands.specs.LiveRange.PointsEdit as range
-use Rattle.edit_commands.specs.LiveRange.PointsEdit.{adjusted, adjusted_pair, with_offset, after_replacement}
-use Rattle.edit_commands.specs.PointOrder.PointOrder.{is_before}
-use Rattle.edit_commands.specs.EditModel.Kept.{Leaf}
-use Rattle.edit_commands.specs.EditModel.Overrides.{no_overrides}
-use Rattle.edit_commands.specs.EditModel.State.{State}
-use Rattle.edit_commands.specs.EditModel.Confined.{spliced, is_editable_for, is_made, is_own, may_replace}
-use Rattle.edit_commands.specs.EditModel.Edit.{Edit, Replace, is_made_edit, trees_after, points_after, with_replaced, changed, with_change, overrides_after, edited}
-use Rattle.edit_commands.specs.EditModel.Action as action
-use Rattle.edit_commands.specs.EditModel.Action.{acted}
-use Rattle.edit_commands.specs.EditModel.Valid.{IsForest, IsValid}
-use Rattle.edit_commands.proofs.EditModel.CommandParts.{command_acted}
-use Rattle.edit_commands.proofs.EditModel.Documents.{document-revised, within-revised}
-use Rattle.edit_commands.proofs.EditModel.Resting.{forest-document}
-use Rattle.edit_commands.proofs.EditModel.IslandRuns.{trees_made}
-use Rattle.edit_commands.proofs.EditModel.ValidRuns.{valid_edited}
-use Rattle.edit_commands.specs.DeleteCore.Places.{at}
-use Rattle.edit_commands.specs.DeleteCore.Spaces.{is_blank}
-use Rattle.edit_commands.specs.DeleteCore.Whitespace.{text_of, char_at, chars_of_words}
+use Rattle.edit_model.specs.DomModel.declared.Content.{Content}
+use Rattle.edit_model.specs.DomModel.declared.Content.TheVariants.{Document, Element, Words, Remark}
+use Rattle.edit_model.specs.DomModel.Contents.{is_element, name_in, with_chars, length_in, length_of, name_of}
+use Rattle.edit_model.specs.DomModel.Editing.{is_true_state, host_by, offered, host_from, editing_host, is_host}
+use Rattle.edit_model.specs.DomModel.Forest.{Forest, either, is_label, tree_of, parent_of, children_of, content_of, IsDistinct, IsWithin}
+use Rattle.edit_model.specs.DomModel.Forest.Forest.{Nil, Tree}
+use Rattle.edit_model.specs.DomModel.Places.{place_in, index_of}
+use Rattle.edit_model.specs.DomModel.Revised.{revised}
+use Rattle.edit_model.proofs.DomModel.Revising.{parent_of-revised, children_of-revised, content_of-revised}
+use Rattle.edit_model.specs.LiveRange.declared.places.Point.{Point}
+use Rattle.edit_model.specs.LiveRange.ActiveRange.{range_changed}
+use Rattle.edit_model.specs.LiveRange.PointsEdit as range
+use Rattle.edit_model.specs.LiveRange.PointsEdit.{adjusted, adjusted_pair, with_offset, after_replacement}
+use Rattle.edit_model.specs.PointOrder.PointOrder.{is_before}
+use Rattle.edit_model.specs.Kept.{Leaf}
+use Rattle.edit_model.specs.Overrides.{no_overrides}
+use Rattle.edit_model.specs.State.{State}
+use Rattle.edit_model.specs.Confined.{spliced, is_editable_for, is_made, is_own, may_replace}
+use Rattle.edit_model.specs.Edit.{Edit, Replace, is_made_edit, trees_after, points_after, with_replaced, changed, with_change, overrides_after, edited}
+use Rattle.edit_model.specs.Action as action
+use Rattle.edit_model.specs.Action.{acted}
+use Rattle.edit_model.specs.Valid.{IsForest, IsValid}
+use Rattle.edit_model.proofs.CommandParts.{command_acted}
+use Rattle.edit_model.proofs.Documents.{document-revised, within-revised}
+use Rattle.edit_model.proofs.Resting.{forest-document}
+use Rattle.edit_model.proofs.IslandRuns.{trees_made}
+use Rattle.edit_model.proofs.ValidRuns.{valid_edited}
+use Rattle.delete_core.specs.Places.{at}
+use Rattle.delete_core.specs.Spaces.{is_blank}
+use Rattle.delete_core.specs.Whitespace.{text_of, char_at, chars_of_words}
 use Rattle.caret_laws.specs.SolidOrder.{is_solid, solid_leaves, KeepsOrderUpToBlanks, StandsAt, HasRoomFor, HasRoom}
 use Rattle.caret_laws.proofs.Fronts.{TextAt, text_own, text_beside, Front, SamePlace, cut_place, put_place, replaced_rises}
 use Rattle.caret_laws.proofs.Solid.{alike_words, cut, put, swapped, cut_is, put_is, both_are, length_cut, length_put, length_swapped, get_low, get_cut, get_swapped, solid_chars, solid_cut, solid_put, solid_swapped, solid_replaced}

@@ -1,22 +1,22 @@
 -- Runs that end alike whether the command keeps contents or not: splitting a text is such, so it keeps the order in any command.
 use Rattle.std.proofs.Common.{◌≡◌, ℕ, ◌+◌, ◌-◌, Bool, true, false, if◌then◌else◌, List, [], length, drop, Option, Some, None, refl, sym, ap, subst, ◌∙◌}
-use Rattle.edit_commands.specs.DomModel.declared.Content.TheVariants.{Words}
-use Rattle.edit_commands.specs.DomModel.Forest.{IsWithin, parent_of, next_of, content_of}
-use Rattle.edit_commands.specs.DomModel.Places.{index_of}
-use Rattle.edit_commands.specs.LiveRange.declared.places.Point.{Point}
-use Rattle.edit_commands.specs.LiveRange.LivePoints.{mapped}
-use Rattle.edit_commands.specs.LiveRange.PointsEdit as range
-use Rattle.edit_commands.specs.EditModel.State.{State}
-use Rattle.edit_commands.specs.EditModel.Compositions.{characters_of, points_sent, split_under, split_words}
-use Rattle.edit_commands.specs.EditModel.Confined.{is_editable_for, is_inside, is_made, is_open, is_own, may_insert, may_replace, may_grow, may_send}
-use Rattle.edit_commands.specs.EditModel.Edit.{Edit, Insert, Replace, is_made_edit, trees_after, points_after, overrides_after, changed, change_of, with_change, edited}
-use Rattle.edit_commands.specs.EditModel.Action as action
-use Rattle.edit_commands.specs.EditModel.Action.{made, grown, sent, acted}
-use Rattle.edit_commands.specs.EditModel.Run.{Run, ◌>>=◌, final, value, answer, look, given, make_words, perform, send, grow, insert, replace}
-use Rattle.edit_commands.specs.EditModel.Valid.{IsValid}
-use Rattle.edit_commands.proofs.EditModel.Steps.{final-bind, value-bind, final-answer, value-answer, final-look, value-look, final-edit, value-edit, final-make_words, value-make_words, final-perform}
-use Rattle.command_laws.specs.EditLaws.Order.{KeepsOrder}
-use Rattle.command_laws.proofs.EditLaws.Splitting.{split_keeps}
+use Rattle.edit_model.specs.DomModel.declared.Content.TheVariants.{Words}
+use Rattle.edit_model.specs.DomModel.Forest.{IsWithin, parent_of, next_of, content_of}
+use Rattle.edit_model.specs.DomModel.Places.{index_of}
+use Rattle.edit_model.specs.LiveRange.declared.places.Point.{Point}
+use Rattle.edit_model.specs.LiveRange.LivePoints.{mapped}
+use Rattle.edit_model.specs.LiveRange.PointsEdit as range
+use Rattle.edit_model.specs.State.{State}
+use Rattle.edit_model.specs.Compositions.{characters_of, points_sent, split_under, split_words}
+use Rattle.edit_model.specs.Confined.{is_editable_for, is_inside, is_made, is_open, is_own, may_insert, may_replace, may_grow, may_send}
+use Rattle.edit_model.specs.Edit.{Edit, Insert, Replace, is_made_edit, trees_after, points_after, overrides_after, changed, change_of, with_change, edited}
+use Rattle.edit_model.specs.Action as action
+use Rattle.edit_model.specs.Action.{made, grown, sent, acted}
+use Rattle.edit_model.specs.Run.{Run, ◌>>=◌, final, value, answer, look, given, make_words, perform, send, grow, insert, replace}
+use Rattle.edit_model.specs.Valid.{IsValid}
+use Rattle.edit_model.proofs.Steps.{final-bind, value-bind, final-answer, value-answer, final-look, value-look, final-edit, value-edit, final-make_words, value-make_words, final-perform}
+use Rattle.edit_laws.specs.Order.{KeepsOrder}
+use Rattle.edit_laws.proofs.Splitting.{split_keeps}
 
 -- the same state while a command runs that keeps contents
 abbrev pub kept : State → State

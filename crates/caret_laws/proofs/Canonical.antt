@@ -5,26 +5,26 @@ use Rattle.std.specs.Prelude.{slice_get, nat_lt}
 use Rattle.std.specs.Option.{option_map, option_map_or}
 use Rattle.std.proofs.lemmas.Bool.{and_parts}
 use Rattle.std.proofs.lemmas.Bool.Decides.{eqb_tells}
-use Rattle.edit_commands.specs.DomModel.declared.Content.{Content}
-use Rattle.edit_commands.specs.DomModel.declared.Content.TheVariants.{Words}
-use Rattle.edit_commands.specs.DomModel.Contents.{may_have_children, length_in, length_of}
-use Rattle.edit_commands.specs.DomModel.Forest.{Forest, Seen, seek, either, is_label, parent_of, children_of, content_of, IsWithin}
-use Rattle.edit_commands.specs.DomModel.Places.{index_of}
-use Rattle.edit_commands.specs.LiveRange.declared.places.Point.{Point}
-use Rattle.edit_commands.specs.PointOrder.PointOrder.{is_before}
-use Rattle.edit_commands.specs.NodeTests.BlockPoints.{child_before, child_at}
-use Rattle.edit_commands.specs.NodeTests.LineBreaks.{follows_break, precedes_break}
-use Rattle.edit_commands.specs.EditModel.State.{State}
-use Rattle.edit_commands.specs.EditModel.Confined.{is_inside, is_there}
-use Rattle.edit_commands.specs.EditModel.Action.{Action, made, words_content, acted}
-use Rattle.edit_commands.specs.EditModel.Edit.{Edit, Replace, is_made_edit, edited}
-use Rattle.edit_commands.specs.EditModel.Run.{Run, ◌>>=◌, ◌>>◌, act, final, value, answer, done, look, given, while_at_most, edit, replace, make_words, perform}
-use Rattle.edit_commands.specs.EditModel.Valid.{IsForest, IsValid}
-use Rattle.edit_commands.proofs.EditModel.Documents.{within_above, within_below, index_below}
-use Rattle.edit_commands.specs.WrapSplit.Walks.{turn_bound}
-use Rattle.edit_commands.specs.DeleteCore.Places.{at, start_in, end_in, before_in, after_in, after_node, if_inside, comes_before, led_on, walk_points}
-use Rattle.edit_commands.specs.DeleteCore.Spaces.{soft, is_blank, hard_if, canonical_spaces}
-use Rattle.edit_commands.specs.DeleteCore.Whitespace.{char_at, char_before, is_collapsing, blank_in, blank_at, blank_before, into_child_before, into_child_at, out_to_start, out_to_end, back_step, out_back, over_blank, start_of_blanks, first_scan, stopped, taken_to, passed, out_on, on_step, scan_blank, scan_char, scan_turn, scans, scan_blanks, out_front, trim_step, ends_softly, starts_line, ends_line, shrunk, trim_char, trim_turn, trims, restarted, trimmed, trimmed_if, spaces_for, put_space, next_laid, gone_to, lay_char, lay_out, lay_text, lay_turn, lays, lay_all, laid_between, canonicalize_from, canonicalize}
+use Rattle.edit_model.specs.DomModel.declared.Content.{Content}
+use Rattle.edit_model.specs.DomModel.declared.Content.TheVariants.{Words}
+use Rattle.edit_model.specs.DomModel.Contents.{may_have_children, length_in, length_of}
+use Rattle.edit_model.specs.DomModel.Forest.{Forest, Seen, seek, either, is_label, parent_of, children_of, content_of, IsWithin}
+use Rattle.edit_model.specs.DomModel.Places.{index_of}
+use Rattle.edit_model.specs.LiveRange.declared.places.Point.{Point}
+use Rattle.edit_model.specs.PointOrder.PointOrder.{is_before}
+use Rattle.inline_value.specs.NodeTests.BlockPoints.{child_before, child_at}
+use Rattle.inline_value.specs.NodeTests.LineBreaks.{follows_break, precedes_break}
+use Rattle.edit_model.specs.State.{State}
+use Rattle.edit_model.specs.Confined.{is_inside, is_there}
+use Rattle.edit_model.specs.Action.{Action, made, words_content, acted}
+use Rattle.edit_model.specs.Edit.{Edit, Replace, is_made_edit, edited}
+use Rattle.edit_model.specs.Run.{Run, ◌>>=◌, ◌>>◌, act, final, value, answer, done, look, given, while_at_most, edit, replace, make_words, perform}
+use Rattle.edit_model.specs.Valid.{IsForest, IsValid}
+use Rattle.edit_model.proofs.Documents.{within_above, within_below, index_below}
+use Rattle.inline_value.specs.WrapSplit.Walks.{turn_bound}
+use Rattle.delete_core.specs.Places.{at, start_in, end_in, before_in, after_in, after_node, if_inside, comes_before, led_on, walk_points}
+use Rattle.delete_core.specs.Spaces.{soft, is_blank, hard_if, canonical_spaces}
+use Rattle.delete_core.specs.Whitespace.{char_at, char_before, is_collapsing, blank_in, blank_at, blank_before, into_child_before, into_child_at, out_to_start, out_to_end, back_step, out_back, over_blank, start_of_blanks, first_scan, stopped, taken_to, passed, out_on, on_step, scan_blank, scan_char, scan_turn, scans, scan_blanks, out_front, trim_step, ends_softly, starts_line, ends_line, shrunk, trim_char, trim_turn, trims, restarted, trimmed, trimmed_if, spaces_for, put_space, next_laid, gone_to, lay_char, lay_out, lay_text, lay_turn, lays, lay_all, laid_between, canonicalize_from, canonicalize}
 use Rattle.caret_laws.specs.SolidOrder.{HasRoom}
 use Rattle.caret_laws.proofs.Blanks.{Blanked, blanked_here, blanked_trans, char_there, cut_out, swap_out}
 use Rattle.caret_laws.proofs.Solid.{get_low}

@@ -2,43 +2,43 @@
 -- doesn't come before its first one.
 use Rattle.std.proofs.Common.{◌≡◌, ◌⊎◌, ℕ, ◌+◌, Bool, true, false, ◌||◌, ◌&&◌, eqb, if◌then◌else◌, List, [], Option, Some, None, is_none, IfSome, refl, sym, ap, subst, ◌∙◌, inl, inr, arith}
 use Rattle.std.specs.Option.{option_map}
-use Rattle.edit_commands.specs.DomModel.declared.Content.{Content}
-use Rattle.edit_commands.specs.DomModel.Contents.{length_of, name_of}
-use Rattle.edit_commands.specs.DomModel.Editing.{is_host}
-use Rattle.edit_commands.specs.DomModel.declared.Content.TheVariants.{Words}
-use Rattle.edit_commands.specs.DomModel.Forest.{Forest, tree_of, parent_of, children_of, content_of, IsWithin}
-use Rattle.edit_commands.specs.DomModel.Places.{index_of}
-use Rattle.edit_commands.specs.LiveRange.ActiveRange.{range_changed}
-use Rattle.edit_commands.specs.LiveRange.declared.places.Pair.{Pair}
-use Rattle.edit_commands.specs.LiveRange.declared.places.Point.{Point}
-use Rattle.edit_commands.specs.PointOrder.PointOrder.{is_before}
-use Rattle.edit_commands.specs.NodeStyles.Blocks.{is_block}
-use Rattle.edit_commands.specs.NodeStyles.TurnBound as bound
-use Rattle.edit_commands.specs.NodeTests.BlockPoints.{child_before, child_at}
-use Rattle.edit_commands.specs.EditModel.State.{State}
-use Rattle.edit_commands.specs.EditModel.Action as action
-use Rattle.edit_commands.specs.EditModel.Action.{selected, with_selection, acted}
-use Rattle.edit_commands.specs.EditModel.Confined.{may_select, is_there}
-use Rattle.edit_commands.specs.EditModel.Edit.{changed, overrides_after}
-use Rattle.edit_commands.specs.EditModel.Kept.{Leaf}
-use Rattle.edit_commands.specs.EditModel.Overrides.{no_overrides}
-use Rattle.edit_commands.specs.EditModel.Run.{Run, ◌>>◌, final, value, answer, done, given, for_each, collapse}
-use Rattle.edit_commands.specs.EditModel.Valid.{IsForest, IsValid, IsPlacedPair}
-use Rattle.edit_commands.proofs.EditModel.Documents.{within_above, within_below}
-use Rattle.edit_commands.proofs.EditModel.OutsideRuns.{trees-selected}
-use Rattle.edit_commands.proofs.EditModel.Points.{placed_is}
-use Rattle.edit_commands.proofs.EditModel.ValidRuns.{valid_acted}
-use Rattle.edit_commands.specs.EditActions.ActiveRange.{start_of, end_of}
-use Rattle.edit_commands.specs.EditQuery.Formattable.{first_formattable}
-use Rattle.edit_commands.specs.InlineValue.declared.overrides.Override.{Override}
-use Rattle.edit_commands.specs.InlineCommands.RestoringStates.{set_override, restore_entry, restore_states}
-use Rattle.edit_commands.specs.DeleteCore.declared.deletion.Manner.{Manner}
-use Rattle.edit_commands.specs.DeleteCore.Deletion.{delete_selected, delete_range, delete_between, delete_selection}
-use Rattle.edit_commands.specs.DeleteCore.Ends.{end_for, collapse_selection, canonicalize_start, canonicalize_end, out_of_start, out_of_end}
-use Rattle.edit_commands.specs.DeleteCore.Equivalent.{if_enterable, into_after, into_before, out_after, out_before, next_point, previous_point, last_equivalent, first_equivalent}
-use Rattle.edit_commands.specs.DeleteCore.Places.{at, start_in, end_in, before_in, after_in, before_node, after_node, comes_before}
-use Rattle.edit_commands.specs.DeleteCore.Whitespace.{canonicalize}
-use Rattle.edit_commands.specs.TextInsertion.Start.{erase}
+use Rattle.edit_model.specs.DomModel.declared.Content.{Content}
+use Rattle.edit_model.specs.DomModel.Contents.{length_of, name_of}
+use Rattle.edit_model.specs.DomModel.Editing.{is_host}
+use Rattle.edit_model.specs.DomModel.declared.Content.TheVariants.{Words}
+use Rattle.edit_model.specs.DomModel.Forest.{Forest, tree_of, parent_of, children_of, content_of, IsWithin}
+use Rattle.edit_model.specs.DomModel.Places.{index_of}
+use Rattle.edit_model.specs.LiveRange.ActiveRange.{range_changed}
+use Rattle.edit_model.specs.LiveRange.declared.places.Pair.{Pair}
+use Rattle.edit_model.specs.LiveRange.declared.places.Point.{Point}
+use Rattle.edit_model.specs.PointOrder.PointOrder.{is_before}
+use Rattle.inline_value.specs.NodeStyles.Blocks.{is_block}
+use Rattle.inline_value.specs.NodeStyles.TurnBound as bound
+use Rattle.inline_value.specs.NodeTests.BlockPoints.{child_before, child_at}
+use Rattle.edit_model.specs.State.{State}
+use Rattle.edit_model.specs.Action as action
+use Rattle.edit_model.specs.Action.{selected, with_selection, acted}
+use Rattle.edit_model.specs.Confined.{may_select, is_there}
+use Rattle.edit_model.specs.Edit.{changed, overrides_after}
+use Rattle.edit_model.specs.Kept.{Leaf}
+use Rattle.edit_model.specs.Overrides.{no_overrides}
+use Rattle.edit_model.specs.Run.{Run, ◌>>◌, final, value, answer, done, given, for_each, collapse}
+use Rattle.edit_model.specs.Valid.{IsForest, IsValid, IsPlacedPair}
+use Rattle.edit_model.proofs.Documents.{within_above, within_below}
+use Rattle.edit_model.proofs.OutsideRuns.{trees-selected}
+use Rattle.edit_model.proofs.Points.{placed_is}
+use Rattle.edit_model.proofs.ValidRuns.{valid_acted}
+use Rattle.inline_value.specs.EditActions.ActiveRange.{start_of, end_of}
+use Rattle.inline_value.specs.EditQuery.Formattable.{first_formattable}
+use Rattle.inline_value.specs.declared.overrides.Override.{Override}
+use Rattle.inline_commands.specs.RestoringStates.{set_override, restore_entry, restore_states}
+use Rattle.delete_core.specs.declared.deletion.Manner.{Manner}
+use Rattle.delete_core.specs.Deletion.{delete_selected, delete_range, delete_between, delete_selection}
+use Rattle.delete_core.specs.Ends.{end_for, collapse_selection, canonicalize_start, canonicalize_end, out_of_start, out_of_end}
+use Rattle.delete_core.specs.Equivalent.{if_enterable, into_after, into_before, out_after, out_before, next_point, previous_point, last_equivalent, first_equivalent}
+use Rattle.delete_core.specs.Places.{at, start_in, end_in, before_in, after_in, before_node, after_node, comes_before}
+use Rattle.delete_core.specs.Whitespace.{canonicalize}
+use Rattle.text_insertion.specs.Start.{erase}
 use Rattle.caret_laws.specs.SolidOrder.{solid_leaves, StandsAt, HasRoom}
 use Rattle.caret_laws.proofs.Blanks.{body_at, Edges, blanked_here, blanked_trans, caret_then}
 use Rattle.caret_laws.proofs.Canonical.{Ends, ends_answer, ends_look, ends_bind, ends_perform, mapped_is, same_number, child_apart, walk_keeps, Settled, canonical}

@@ -1,27 +1,27 @@
 -- What the trees become where a list of nodes goes to the end of another node.
 use Rattle.std.proofs.Common.{◌≡◌, ◌≢◌, ℕ, ◌+◌, ◌<◌, ◌≤◌, true, cond, eqb, Some, None, sym, ap, subst, ◌∙◌, arith}
 use Rattle.std.proofs.lemmas.Bool.{and_parts, ne_eqb}
-use Rattle.edit_commands.specs.DomModel.declared.Content.{Content}
-use Rattle.edit_commands.specs.DomModel.Forest.{Forest, join, tops, times, count_of, tree_of, parent_of, children_of, without, put_under, IsDistinct, IsWithin, CanPut}
-use Rattle.edit_commands.specs.DomModel.Forest.Forest.{Nil, Tree}
-use Rattle.edit_commands.proofs.DomModel.Totals.{total-without}
-use Rattle.edit_commands.proofs.DomModel.Links.{join-Nil, eqb_refl_true}
-use Rattle.edit_commands.proofs.DomModel.Move.{tree_of-unlink}
-use Rattle.edit_commands.proofs.DomModel.Within.{within_step}
-use Rattle.edit_commands.specs.EditModel.State.{State}
-use Rattle.edit_commands.specs.EditModel.Edit.{Insert, Remove, is_made_edit, trees_after, changed, with_change}
-use Rattle.edit_commands.specs.EditModel.Tail.{carried}
-use Rattle.edit_commands.specs.EditModel.Action.{applied, stepped, stepped_all}
-use Rattle.edit_commands.specs.EditModel.Possible.{freed, are_possible}
-use Rattle.edit_commands.specs.EditModel.Valid.{IsValid}
-use Rattle.edit_commands.proofs.EditModel.Tests.{inserts}
-use Rattle.edit_commands.proofs.EditModel.Trees.{tree_of-inside}
-use Rattle.edit_commands.proofs.EditModel.TailPlan.{parent_among}
-use Rattle.edit_commands.proofs.EditModel.TailOutside.{root_there}
-use Rattle.edit_commands.proofs.EditModel.ValidParts.{valid_applied}
-use Rattle.command_laws.proofs.EditLaws.Around.{self_one}
-use Rattle.command_laws.proofs.EditLaws.Patterns.{count-join, join-assoc, put_last, Taken, take_one}
-use Rattle.command_laws.proofs.EditLaws.Lifting.{tops-join}
+use Rattle.edit_model.specs.DomModel.declared.Content.{Content}
+use Rattle.edit_model.specs.DomModel.Forest.{Forest, join, tops, times, count_of, tree_of, parent_of, children_of, without, put_under, IsDistinct, IsWithin, CanPut}
+use Rattle.edit_model.specs.DomModel.Forest.Forest.{Nil, Tree}
+use Rattle.edit_model.proofs.DomModel.Totals.{total-without}
+use Rattle.edit_model.proofs.DomModel.Links.{join-Nil, eqb_refl_true}
+use Rattle.edit_model.proofs.DomModel.Move.{tree_of-unlink}
+use Rattle.edit_model.proofs.DomModel.Within.{within_step}
+use Rattle.edit_model.specs.State.{State}
+use Rattle.edit_model.specs.Edit.{Insert, Remove, is_made_edit, trees_after, changed, with_change}
+use Rattle.edit_model.specs.Tail.{carried}
+use Rattle.edit_model.specs.Action.{applied, stepped, stepped_all}
+use Rattle.edit_model.specs.Possible.{freed, are_possible}
+use Rattle.edit_model.specs.Valid.{IsValid}
+use Rattle.edit_model.proofs.Tests.{inserts}
+use Rattle.edit_model.proofs.Trees.{tree_of-inside}
+use Rattle.edit_model.proofs.TailPlan.{parent_among}
+use Rattle.edit_model.proofs.TailOutside.{root_there}
+use Rattle.edit_model.proofs.ValidParts.{valid_applied}
+use Rattle.edit_laws.proofs.Around.{self_one}
+use Rattle.edit_laws.proofs.Patterns.{count-join, join-assoc, put_last, Taken, take_one}
+use Rattle.edit_laws.proofs.Lifting.{tops-join}
 use Rattle.caret_laws.proofs.Trees.{root_seen}
 use Rattle.caret_laws.proofs.OtherChildren.{with_children, children_here, children_past, children_absent, children_put, children_without, children_swap, children_only}
 use Rattle.caret_laws.proofs.TreesBeside.{tree_of-unlinked, tree_of-linked}

@@ -1,23 +1,23 @@
 -- A list of nodes goes to the end of another node, each by a removal and an insertion: no edit is left out.
 use Rattle.std.proofs.Common.{◌≡◌, ◌≢◌, ℕ, ◌<◌, ◌≤◌, Bool, true, false, eqb, List, [], ◌∷◌, Some, None, refl, sym, ap, subst, ◌∙◌, arith}
 use Rattle.std.proofs.lemmas.Bool.{and_parts, eq-eqb, ne_eqb, lt-ltb, le-ltb}
-use Rattle.edit_commands.specs.DomModel.Editing.{editing_host}
-use Rattle.edit_commands.specs.DomModel.Forest.{times, count_of, tree_of, parent_of, content_of, link, unlink, CanPut, IsDistinct, IsWithin, depth_of}
-use Rattle.edit_commands.proofs.DomModel.Links.{parent_count, IsDistinct-link, IsDistinct-unlink}
-use Rattle.edit_commands.proofs.DomModel.Kept.{content_of-link, content_of-unlink}
-use Rattle.edit_commands.proofs.DomModel.Move.{parent_apart, tree_of-unlink}
-use Rattle.edit_commands.proofs.DomModel.Within.{within_step}
-use Rattle.edit_commands.specs.PointOrder.PointOrder.{is_within}
-use Rattle.edit_commands.specs.EditModel.State.{State}
-use Rattle.edit_commands.specs.EditModel.Confined.{is_editable_for, is_inside, is_made, is_open, may_insert}
-use Rattle.edit_commands.specs.EditModel.Edit.{Edit, Insert, Remove, is_made_edit, trees_after, changed, with_change, edited}
-use Rattle.edit_commands.specs.EditModel.Tail.{carried}
-use Rattle.edit_commands.specs.EditModel.Action.{applied, stepped, stepped_all}
-use Rattle.edit_commands.specs.EditModel.Possible.{freed, are_possible}
-use Rattle.edit_commands.specs.EditModel.Valid.{IsValid}
-use Rattle.edit_commands.proofs.EditModel.CommandParts.{SameCommand}
-use Rattle.edit_commands.proofs.EditModel.Tests.{inserts}
-use Rattle.edit_commands.proofs.EditModel.ValidParts.{valid_applied}
+use Rattle.edit_model.specs.DomModel.Editing.{editing_host}
+use Rattle.edit_model.specs.DomModel.Forest.{times, count_of, tree_of, parent_of, content_of, link, unlink, CanPut, IsDistinct, IsWithin, depth_of}
+use Rattle.edit_model.proofs.DomModel.Links.{parent_count, IsDistinct-link, IsDistinct-unlink}
+use Rattle.edit_model.proofs.DomModel.Kept.{content_of-link, content_of-unlink}
+use Rattle.edit_model.proofs.DomModel.Move.{parent_apart, tree_of-unlink}
+use Rattle.edit_model.proofs.DomModel.Within.{within_step}
+use Rattle.edit_model.specs.PointOrder.PointOrder.{is_within}
+use Rattle.edit_model.specs.State.{State}
+use Rattle.edit_model.specs.Confined.{is_editable_for, is_inside, is_made, is_open, may_insert}
+use Rattle.edit_model.specs.Edit.{Edit, Insert, Remove, is_made_edit, trees_after, changed, with_change, edited}
+use Rattle.edit_model.specs.Tail.{carried}
+use Rattle.edit_model.specs.Action.{applied, stepped, stepped_all}
+use Rattle.edit_model.specs.Possible.{freed, are_possible}
+use Rattle.edit_model.specs.Valid.{IsValid}
+use Rattle.edit_model.proofs.CommandParts.{SameCommand}
+use Rattle.edit_model.proofs.Tests.{inserts}
+use Rattle.edit_model.proofs.ValidParts.{valid_applied}
 use Rattle.command_laws.proofs.Openness.{host_same}
 use Rattle.caret_laws.specs.SingleEdits.{taken_out, brought, brought_all}
 use Rattle.caret_laws.specs.TailRun.{Leave}

@@ -4,35 +4,35 @@ use Rattle.std.proofs.Common.{◌≡◌, ◌≢◌, ℕ, Bool, true, false, ◌&
 use Rattle.std.specs.Option.{option_map_or}
 use Rattle.std.proofs.lemmas.Bool.{and_right}
 use Rattle.std.proofs.lemmas.Bool.Decides.{eqb_tells}
-use Rattle.edit_commands.specs.DomModel.declared.Content.{Content}
-use Rattle.edit_commands.specs.DomModel.declared.Content.TheVariants.{Words}
-use Rattle.edit_commands.specs.DomModel.Contents.{length_of}
-use Rattle.edit_commands.specs.DomModel.Forest.{Forest, parent_of, content_of, tree_of, IsWithin}
-use Rattle.edit_commands.specs.LiveRange.declared.places.Pair.{Pair}
-use Rattle.edit_commands.specs.LiveRange.declared.places.Point.{Point}
-use Rattle.edit_commands.specs.PointOrder.PointOrder.{is_before}
-use Rattle.edit_commands.specs.NodeTests.CollapsedWhitespace.{is_words_content, is_words}
-use Rattle.edit_commands.specs.EditModel.Action as action
-use Rattle.edit_commands.specs.EditModel.Action.{selected, acted}
-use Rattle.edit_commands.specs.EditModel.Confined.{is_editable_for, may_select}
-use Rattle.edit_commands.specs.EditModel.Edit.{changed}
-use Rattle.edit_commands.specs.EditModel.Run.{Run, ◌>>◌, final, answer, given, for_each, select}
-use Rattle.edit_commands.specs.EditModel.State.{State}
-use Rattle.edit_commands.specs.EditModel.Valid.{IsValid, IsPlacedPair}
-use Rattle.edit_commands.proofs.EditModel.OutsideRuns.{trees-selected}
-use Rattle.edit_commands.proofs.EditModel.Points.{Placed, placed_is}
-use Rattle.edit_commands.proofs.EditModel.Steps.{final-perform}
-use Rattle.command_laws.proofs.EditLaws.SteadyRuns.{steady_perform}
-use Rattle.edit_commands.specs.EditActions.ActiveRange.{start_of, end_of}
-use Rattle.edit_commands.specs.BlockExtend.Gather.{gathered}
-use Rattle.edit_commands.specs.InlineValue.Overrides.{states_of}
-use Rattle.edit_commands.specs.DeleteCore.declared.deletion.Manner.{Manner}
-use Rattle.edit_commands.specs.DeleteCore.Deletion.{erase as erase_between, erase_across, delete_recorded, delete_selected, delete_range, delete_between}
-use Rattle.edit_commands.specs.DeleteCore.Ends.{collapse_selection, canonicalize_start, canonicalize_end, out_of_start, out_of_end, block_of_end}
-use Rattle.edit_commands.specs.DeleteCore.Equivalent.{last_equivalent, first_equivalent}
-use Rattle.edit_commands.specs.DeleteCore.Erasing.{is_own_text, is_removable, removable_between, removable_nodes, remove_node, erase_within, cut_after, cut_before, remove_nodes}
-use Rattle.edit_commands.specs.DeleteCore.Merging.{merge_both, merge_if}
-use Rattle.edit_commands.specs.DeleteCore.Places.{comes_before}
+use Rattle.edit_model.specs.DomModel.declared.Content.{Content}
+use Rattle.edit_model.specs.DomModel.declared.Content.TheVariants.{Words}
+use Rattle.edit_model.specs.DomModel.Contents.{length_of}
+use Rattle.edit_model.specs.DomModel.Forest.{Forest, parent_of, content_of, tree_of, IsWithin}
+use Rattle.edit_model.specs.LiveRange.declared.places.Pair.{Pair}
+use Rattle.edit_model.specs.LiveRange.declared.places.Point.{Point}
+use Rattle.edit_model.specs.PointOrder.PointOrder.{is_before}
+use Rattle.inline_value.specs.NodeTests.CollapsedWhitespace.{is_words_content, is_words}
+use Rattle.edit_model.specs.Action as action
+use Rattle.edit_model.specs.Action.{selected, acted}
+use Rattle.edit_model.specs.Confined.{is_editable_for, may_select}
+use Rattle.edit_model.specs.Edit.{changed}
+use Rattle.edit_model.specs.Run.{Run, ◌>>◌, final, answer, given, for_each, select}
+use Rattle.edit_model.specs.State.{State}
+use Rattle.edit_model.specs.Valid.{IsValid, IsPlacedPair}
+use Rattle.edit_model.proofs.OutsideRuns.{trees-selected}
+use Rattle.edit_model.proofs.Points.{Placed, placed_is}
+use Rattle.edit_model.proofs.Steps.{final-perform}
+use Rattle.edit_laws.proofs.SteadyRuns.{steady_perform}
+use Rattle.inline_value.specs.EditActions.ActiveRange.{start_of, end_of}
+use Rattle.inline_value.specs.BlockExtend.Gather.{gathered}
+use Rattle.inline_value.specs.Overrides.{states_of}
+use Rattle.delete_core.specs.declared.deletion.Manner.{Manner}
+use Rattle.delete_core.specs.Deletion.{erase as erase_between, erase_across, delete_recorded, delete_selected, delete_range, delete_between}
+use Rattle.delete_core.specs.Ends.{collapse_selection, canonicalize_start, canonicalize_end, out_of_start, out_of_end, block_of_end}
+use Rattle.delete_core.specs.Equivalent.{last_equivalent, first_equivalent}
+use Rattle.delete_core.specs.Erasing.{is_own_text, is_removable, removable_between, removable_nodes, remove_node, erase_within, cut_after, cut_before, remove_nodes}
+use Rattle.delete_core.specs.Merging.{merge_both, merge_if}
+use Rattle.delete_core.specs.Places.{comes_before}
 use Rattle.caret_laws.specs.SolidOrder.{solid_leaves, HasRoom}
 use Rattle.caret_laws.specs.TailLaws.{is_thing_at}
 use Rattle.caret_laws.proofs.BareTrees.{Same, Chain, Selected, Onward, AllBarren, all_removed}

@@ -8,47 +8,47 @@ use Rattle.std.proofs.lemmas.Bool.{and_parts, and_right, ne_eqb}
 use Rattle.std.proofs.lemmas.Bool.Decides.{eqb_tells}
 use Rattle.std.proofs.lemmas.List.{take-append-drop}
 use Rattle.std.proofs.lemmas.Slice.Eq.{bytes_eq-Decides}
-use Rattle.edit_commands.specs.DomModel.declared.Content.{Content}
-use Rattle.edit_commands.specs.DomModel.declared.Content.TheVariants.{Document, Element, Words, Remark}
-use Rattle.edit_commands.specs.DomModel.Contents.{length_of}
-use Rattle.edit_commands.specs.DomModel.Forest.{Forest, tree_of, parent_of, children_of, content_of, preorder, IsWithin}
-use Rattle.edit_commands.specs.DomModel.Places.{place_in, index_of}
-use Rattle.edit_commands.specs.LiveRange.declared.places.Pair.{Pair}
-use Rattle.edit_commands.specs.LiveRange.declared.places.Point.{Point}
-use Rattle.edit_commands.specs.PointOrder.PointOrder.{is_before, is_placed}
-use Rattle.edit_commands.specs.NodeTests.BlockPoints.{child_at}
-use Rattle.edit_commands.specs.NodeTests.CollapsedWhitespace.{is_words}
-use Rattle.edit_commands.specs.NodeTests.Ranges.{is_effectively_contained, effective_nodes, all_effective}
-use Rattle.edit_commands.specs.NodeTests.Visible.{is_formattable}
-use Rattle.edit_commands.specs.EditModel.declared.settings.Setting.{Setting}
-use Rattle.edit_commands.specs.EditModel.declared.settings.Setting.TheVariants.{On, Off, Text, Absent}
-use Rattle.edit_commands.specs.EditModel.Action as action
-use Rattle.edit_commands.specs.EditModel.Action.{selected, with_selection, acted}
-use Rattle.edit_commands.specs.EditModel.Confined.{spliced, is_editable_for, is_own, is_there, may_change, may_replace, may_select}
-use Rattle.edit_commands.specs.EditModel.Edit.{Replace, changed, is_made_edit, edited}
-use Rattle.edit_commands.specs.EditModel.Kept.{Letter}
-use Rattle.edit_commands.specs.EditModel.Run.{Run, ◌>>◌, final, value, answer, done, given, for_each, collapse, replace, select, set_setting}
-use Rattle.edit_commands.specs.EditModel.State.{State}
-use Rattle.edit_commands.specs.EditModel.Valid.{IsForest, IsValid, IsPlacedPair}
-use Rattle.edit_commands.proofs.EditModel.OutsideRuns.{trees-selected}
-use Rattle.edit_commands.proofs.EditModel.Points.{placed_is}
-use Rattle.edit_commands.proofs.EditModel.Steps.{final-bind, final-answer, final-look, final-edit}
-use Rattle.edit_commands.proofs.EditModel.ValidRuns.{valid_acted}
-use Rattle.edit_commands.specs.EditActions.ActiveRange.{start_of, end_of}
-use Rattle.edit_commands.specs.EditQuery.Formattable.{formattable_between, formattable_for, formattable_nodes, first_in, first_formattable}
-use Rattle.edit_commands.specs.BlockExtend.Gather.{gathered}
-use Rattle.edit_commands.specs.InlineValue.declared.overrides.Override.{Override}
-use Rattle.edit_commands.specs.InlineValue.Overrides.{states_of}
-use Rattle.edit_commands.specs.InlineCommands.RestoringStates.{override_by, set_override, restore_entry, restore_states}
-use Rattle.edit_commands.proofs.InlineCommands.Merging.{none_found}
-use Rattle.edit_commands.specs.DeleteCore.declared.deletion.Manner.{Manner}
-use Rattle.edit_commands.specs.DeleteCore.Deletion.{erase as erase_between, erase_across, delete_recorded, delete_selected, delete_range, delete_between, delete_selection}
-use Rattle.edit_commands.specs.DeleteCore.Ends.{end_for, collapse_selection, canonicalize_start, canonicalize_end, out_of_start, out_of_end, block_of_end}
-use Rattle.edit_commands.specs.DeleteCore.Equivalent.{last_equivalent, first_equivalent}
-use Rattle.edit_commands.specs.DeleteCore.Erasing.{is_own_text, is_removable, removable_between, removable_nodes, remove_node, erase_within, cut_after, cut_before, remove_nodes}
-use Rattle.edit_commands.specs.DeleteCore.Merging.{merge_both, merge_if}
-use Rattle.edit_commands.specs.DeleteCore.Places.{at, comes_before}
-use Rattle.edit_commands.specs.TextInsertion.Start.{erase}
+use Rattle.edit_model.specs.DomModel.declared.Content.{Content}
+use Rattle.edit_model.specs.DomModel.declared.Content.TheVariants.{Document, Element, Words, Remark}
+use Rattle.edit_model.specs.DomModel.Contents.{length_of}
+use Rattle.edit_model.specs.DomModel.Forest.{Forest, tree_of, parent_of, children_of, content_of, preorder, IsWithin}
+use Rattle.edit_model.specs.DomModel.Places.{place_in, index_of}
+use Rattle.edit_model.specs.LiveRange.declared.places.Pair.{Pair}
+use Rattle.edit_model.specs.LiveRange.declared.places.Point.{Point}
+use Rattle.edit_model.specs.PointOrder.PointOrder.{is_before, is_placed}
+use Rattle.inline_value.specs.NodeTests.BlockPoints.{child_at}
+use Rattle.inline_value.specs.NodeTests.CollapsedWhitespace.{is_words}
+use Rattle.inline_value.specs.NodeTests.Ranges.{is_effectively_contained, effective_nodes, all_effective}
+use Rattle.inline_value.specs.NodeTests.Visible.{is_formattable}
+use Rattle.edit_model.specs.declared.settings.Setting.{Setting}
+use Rattle.edit_model.specs.declared.settings.Setting.TheVariants.{On, Off, Text, Absent}
+use Rattle.edit_model.specs.Action as action
+use Rattle.edit_model.specs.Action.{selected, with_selection, acted}
+use Rattle.edit_model.specs.Confined.{spliced, is_editable_for, is_own, is_there, may_change, may_replace, may_select}
+use Rattle.edit_model.specs.Edit.{Replace, changed, is_made_edit, edited}
+use Rattle.edit_model.specs.Kept.{Letter}
+use Rattle.edit_model.specs.Run.{Run, ◌>>◌, final, value, answer, done, given, for_each, collapse, replace, select, set_setting}
+use Rattle.edit_model.specs.State.{State}
+use Rattle.edit_model.specs.Valid.{IsForest, IsValid, IsPlacedPair}
+use Rattle.edit_model.proofs.OutsideRuns.{trees-selected}
+use Rattle.edit_model.proofs.Points.{placed_is}
+use Rattle.edit_model.proofs.Steps.{final-bind, final-answer, final-look, final-edit}
+use Rattle.edit_model.proofs.ValidRuns.{valid_acted}
+use Rattle.inline_value.specs.EditActions.ActiveRange.{start_of, end_of}
+use Rattle.inline_value.specs.EditQuery.Formattable.{formattable_between, formattable_for, formattable_nodes, first_in, first_formattable}
+use Rattle.inline_value.specs.BlockExtend.Gather.{gathered}
+use Rattle.inline_value.specs.declared.overrides.Override.{Override}
+use Rattle.inline_value.specs.Overrides.{states_of}
+use Rattle.inline_commands.specs.RestoringStates.{override_by, set_override, restore_entry, restore_states}
+use Rattle.inline_commands.proofs.Merging.{none_found}
+use Rattle.delete_core.specs.declared.deletion.Manner.{Manner}
+use Rattle.delete_core.specs.Deletion.{erase as erase_between, erase_across, delete_recorded, delete_selected, delete_range, delete_between, delete_selection}
+use Rattle.delete_core.specs.Ends.{end_for, collapse_selection, canonicalize_start, canonicalize_end, out_of_start, out_of_end, block_of_end}
+use Rattle.delete_core.specs.Equivalent.{last_equivalent, first_equivalent}
+use Rattle.delete_core.specs.Erasing.{is_own_text, is_removable, removable_between, removable_nodes, remove_node, erase_within, cut_after, cut_before, remove_nodes}
+use Rattle.delete_core.specs.Merging.{merge_both, merge_if}
+use Rattle.delete_core.specs.Places.{at, comes_before}
+use Rattle.text_insertion.specs.Start.{erase}
 use Rattle.caret_laws.specs.RuleLaws.{IsFilled}
 use Rattle.caret_laws.specs.SolidOrder.{is_solid, solid_leaves, KeepsOrderUpToBlanks, StandsAt, HasRoom}
 use Rattle.caret_laws.proofs.Blanks.{Moved, Blanked, length_words, edit_left}

@@ -4,38 +4,38 @@ use Rattle.std.specs.Prelude.{codes}
 use Rattle.std.specs.List.{list_any}
 use Rattle.std.specs.Option.{option_map_or}
 use Rattle.std.proofs.lemmas.Slice.Eq.{bytes_eq-Decides}
-use Rattle.edit_commands.specs.HtmlNames.declared.commands.Command.{Command}
-use Rattle.edit_commands.specs.DomModel.declared.attributes.Attribute.{Attribute}
-use Rattle.edit_commands.specs.DomModel.declared.Content.{Content}
-use Rattle.edit_commands.specs.DomModel.Editing.{editing_host, is_editable}
-use Rattle.edit_commands.specs.DomModel.Forest.{Forest, parent_of, count_of, IsDistinct}
-use Rattle.edit_commands.proofs.DomModel.Hosts.{editing_host-root}
-use Rattle.edit_commands.proofs.DomModel.Links.{parent_count}
-use Rattle.edit_commands.specs.NodeStyles.Allowed.{allowed_in}
-use Rattle.edit_commands.specs.NodeStyles.Lineage.{Ancestor, lineage}
-use Rattle.edit_commands.proofs.NodeStyles.Lineages.{lineage-root, lineage-child}
-use Rattle.edit_commands.specs.CommandValue.Equivalence.{are_equivalent, equivalent}
-use Rattle.edit_commands.specs.EditModel.Action.{Action, Change, MakeElement, MakeWords}
-use Rattle.edit_commands.specs.EditModel.Action as action
-use Rattle.edit_commands.specs.EditModel.Confined.{is_editable_for, is_inside}
-use Rattle.edit_commands.specs.EditModel.Edit.{Insert, Remove, Move, Replace, Set, Unset}
-use Rattle.edit_commands.specs.EditModel.Run.{Reaches, here, onward, Run, ◌>>=◌, ◌>>◌, final, value, answer, done, look, for_each, while_at_most, collapse}
-use Rattle.edit_commands.specs.EditModel.State.{State}
-use Rattle.edit_commands.specs.EditModel.Valid.{IsValid}
-use Rattle.edit_commands.proofs.EditModel.IslandRuns.{content_at}
-use Rattle.edit_commands.proofs.EditModel.Each.{EachOn, Each, each_bind, each_answer, each_look, each_if, each_given, each_edit, each_make_element, each_perform}
-use Rattle.edit_commands.proofs.EditModel.Tests.{label_is}
-use Rattle.edit_commands.proofs.EditModel.ValidRuns.{valid_along}
-use Rattle.command_laws.proofs.EditLaws.Hosts.{parent_inside}
-use Rattle.edit_commands.specs.WrapSplit.Split.{split_around}
-use Rattle.edit_commands.specs.WrapSplit.Walks.{turn_bound}
-use Rattle.edit_commands.specs.InlineValue.Forcing.{above, ancestors, force}
-use Rattle.edit_commands.specs.InlineValue.Recording.{Recorded, recorded_commands, given_value, value_at, values_at, values_of, record_values, restored_to, restore_value, restore_values}
-use Rattle.edit_commands.specs.InlineValue.Ancestors.{has_place, is_misplaced, lifted, lift, replace_misplaced, fix_ancestors}
-use Rattle.edit_commands.specs.TextInsertion.Start.{active_start, cuts_text, insert_at, insert_at_start}
-use Rattle.edit_commands.specs.InsertObjects.Putting.{collapse_before, collapse_after, leave_text, put}
-use Rattle.edit_commands.specs.InsertObjects.Rule.{put_rule}
-use Rattle.edit_commands.specs.DeleteCore.Places.{before_node, after_node}
+use Rattle.edit_model.specs.HtmlNames.declared.commands.Command.{Command}
+use Rattle.edit_model.specs.DomModel.declared.attributes.Attribute.{Attribute}
+use Rattle.edit_model.specs.DomModel.declared.Content.{Content}
+use Rattle.edit_model.specs.DomModel.Editing.{editing_host, is_editable}
+use Rattle.edit_model.specs.DomModel.Forest.{Forest, parent_of, count_of, IsDistinct}
+use Rattle.edit_model.proofs.DomModel.Hosts.{editing_host-root}
+use Rattle.edit_model.proofs.DomModel.Links.{parent_count}
+use Rattle.inline_value.specs.NodeStyles.Allowed.{allowed_in}
+use Rattle.inline_value.specs.NodeStyles.Lineage.{Ancestor, lineage}
+use Rattle.inline_value.proofs.NodeStyles.Lineages.{lineage-root, lineage-child}
+use Rattle.inline_value.specs.CommandValue.Equivalence.{are_equivalent, equivalent}
+use Rattle.edit_model.specs.Action.{Action, Change, MakeElement, MakeWords}
+use Rattle.edit_model.specs.Action as action
+use Rattle.edit_model.specs.Confined.{is_editable_for, is_inside}
+use Rattle.edit_model.specs.Edit.{Insert, Remove, Move, Replace, Set, Unset}
+use Rattle.edit_model.specs.Run.{Reaches, here, onward, Run, ◌>>=◌, ◌>>◌, final, value, answer, done, look, for_each, while_at_most, collapse}
+use Rattle.edit_model.specs.State.{State}
+use Rattle.edit_model.specs.Valid.{IsValid}
+use Rattle.edit_model.proofs.IslandRuns.{content_at}
+use Rattle.edit_model.proofs.Each.{EachOn, Each, each_bind, each_answer, each_look, each_if, each_given, each_edit, each_make_element, each_perform}
+use Rattle.edit_model.proofs.Tests.{label_is}
+use Rattle.edit_model.proofs.ValidRuns.{valid_along}
+use Rattle.edit_laws.proofs.Hosts.{parent_inside}
+use Rattle.inline_value.specs.WrapSplit.Split.{split_around}
+use Rattle.inline_value.specs.WrapSplit.Walks.{turn_bound}
+use Rattle.inline_value.specs.Forcing.{above, ancestors, force}
+use Rattle.inline_value.specs.Recording.{Recorded, recorded_commands, given_value, value_at, values_at, values_of, record_values, restored_to, restore_value, restore_values}
+use Rattle.inline_value.specs.Ancestors.{has_place, is_misplaced, lifted, lift, replace_misplaced, fix_ancestors}
+use Rattle.text_insertion.specs.Start.{active_start, cuts_text, insert_at, insert_at_start}
+use Rattle.insert_objects.specs.Putting.{collapse_before, collapse_after, leave_text, put}
+use Rattle.insert_objects.specs.Rule.{put_rule}
+use Rattle.delete_core.specs.Places.{before_node, after_node}
 use Rattle.caret_laws.specs.RuleLaws.{RuleFits}
 use Rattle.caret_laws.specs.Sparing.{Spares, SparesOn}
 use Rattle.caret_laws.proofs.SparingRuns.{spares_both}

@@ -6,21 +6,21 @@ use Rattle.std.proofs.lemmas.Bool.{cases_Bool, cases_lt, eq-eqb, ne_eqb}
 use Rattle.std.proofs.lemmas.Bool.Decides.{eqb_tells, nat_tests}
 use Rattle.std.proofs.lemmas.List.{map-append, take-append-drop}
 use Rattle.std.proofs.lemmas.List.Elements.{filter-append}
-use Rattle.edit_commands.specs.DomModel.declared.Content.{Content}
-use Rattle.edit_commands.specs.DomModel.declared.Content.TheVariants.{Words}
-use Rattle.edit_commands.specs.DomModel.Forest.{Forest, Seen, seek, tops, is_label, count_of, tree_of, content_of, put_before, put_under, IsDistinct}
-use Rattle.edit_commands.specs.DomModel.Forest.Forest.{Nil, Tree}
-use Rattle.edit_commands.specs.DomModel.Revised.{revised}
-use Rattle.edit_commands.proofs.DomModel.Stands.{seek_absent}
-use Rattle.edit_commands.proofs.DomModel.Totals.{put_under_nowhere}
-use Rattle.edit_commands.specs.LiveRange.declared.places.Point.{Point}
-use Rattle.edit_commands.specs.LiveRange.PointsEdit.{after_replacement}
-use Rattle.edit_commands.specs.EditModel.Kept.{Leaf, Letter, borne_by, leaves}
-use Rattle.edit_commands.specs.EditModel.State.{State}
-use Rattle.edit_commands.proofs.EditModel.Trees.{none_or_some}
-use Rattle.command_laws.proofs.EditLaws.Leaves.{leaves-Nil, leaves-Tree}
-use Rattle.command_laws.proofs.EditLaws.Splitting.{revised_none}
-use Rattle.edit_commands.specs.DeleteCore.Spaces as spaces
+use Rattle.edit_model.specs.DomModel.declared.Content.{Content}
+use Rattle.edit_model.specs.DomModel.declared.Content.TheVariants.{Words}
+use Rattle.edit_model.specs.DomModel.Forest.{Forest, Seen, seek, tops, is_label, count_of, tree_of, content_of, put_before, put_under, IsDistinct}
+use Rattle.edit_model.specs.DomModel.Forest.Forest.{Nil, Tree}
+use Rattle.edit_model.specs.DomModel.Revised.{revised}
+use Rattle.edit_model.proofs.DomModel.Stands.{seek_absent}
+use Rattle.edit_model.proofs.DomModel.Totals.{put_under_nowhere}
+use Rattle.edit_model.specs.LiveRange.declared.places.Point.{Point}
+use Rattle.edit_model.specs.LiveRange.PointsEdit.{after_replacement}
+use Rattle.edit_model.specs.Kept.{Leaf, Letter, borne_by, leaves}
+use Rattle.edit_model.specs.State.{State}
+use Rattle.edit_model.proofs.Trees.{none_or_some}
+use Rattle.edit_laws.proofs.Leaves.{leaves-Nil, leaves-Tree}
+use Rattle.edit_laws.proofs.Splitting.{revised_none}
+use Rattle.delete_core.specs.Spaces as spaces
 use Rattle.caret_laws.specs.SolidOrder.{is_solid, solid_leaves}
 use Rattle.caret_laws.proofs.Solid.{cut, put, solid_chars, solid_cut, solid_put, passed_over, both_sides, not_solid, solid-revised, Alike}
 

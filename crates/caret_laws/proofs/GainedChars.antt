@@ -3,34 +3,34 @@ use Rattle.std.proofs.Common.{◌≡◌, ℕ, suc, ◌+◌, ◌<◌, ◌^◌, Bo
 use Rattle.std.specs.Option.{option_map}
 use Rattle.std.proofs.lemmas.Bool.{cases_Bool}
 use Rattle.std.proofs.lemmas.Bool.Decides.{eqb_tells}
-use Rattle.edit_commands.specs.DomModel.declared.Content.{Content}
-use Rattle.edit_commands.specs.DomModel.declared.Content.TheVariants.{Words}
-use Rattle.edit_commands.specs.DomModel.Forest.{Forest, Seen, seek, count_of, tree_of, content_of, put_under, IsWithin}
-use Rattle.edit_commands.specs.DomModel.Revised.{revised}
-use Rattle.edit_commands.proofs.DomModel.Totals.{total-without, put_under_nowhere}
-use Rattle.edit_commands.specs.LiveRange.declared.places.Point.{Point}
-use Rattle.edit_commands.specs.NodeTests.BlockPoints.{child_at}
-use Rattle.edit_commands.specs.NodeTests.CollapsedWhitespace.{is_words}
-use Rattle.edit_commands.specs.EditModel.State.{State}
-use Rattle.edit_commands.specs.EditModel.Action.{Change, MakeWords, made, words_content, selected, acted}
-use Rattle.edit_commands.specs.EditModel.Confined.{spliced}
-use Rattle.edit_commands.specs.EditModel.Edit.{Insert, Replace, is_made_edit, trees_after, with_replaced, edited}
-use Rattle.edit_commands.specs.EditModel.Kept.{Letter, borne_by, leaves}
-use Rattle.edit_commands.specs.EditModel.Run.{Run, ◌>>=◌, ◌>>◌, final, done, given, look, make_words, replace, select}
-use Rattle.edit_commands.specs.EditModel.Valid.{IsValid}
-use Rattle.edit_commands.proofs.EditModel.Documents.{document-link, document-revised, document-with_leaf}
-use Rattle.edit_commands.proofs.EditModel.IslandRuns.{trees_made}
-use Rattle.edit_commands.proofs.EditModel.OutsideRuns.{trees-selected}
-use Rattle.edit_commands.proofs.EditModel.Resting.{seek_document, forest-document}
-use Rattle.edit_commands.proofs.EditModel.Steps.{final-bind, final-answer, final-look, final-edit, final-make_words, value-make_words, final-perform}
-use Rattle.edit_commands.proofs.EditModel.Tests.{inserts}
-use Rattle.edit_commands.proofs.EditModel.Trees.{none_or_some}
-use Rattle.edit_commands.proofs.EditModel.ValidRuns.{valid_acted, final_valid}
-use Rattle.command_laws.specs.EditLaws.OrderPreserving.{OrderPreserving}
-use Rattle.command_laws.proofs.EditLaws.OrderPreserving.{order_preserving}
-use Rattle.edit_commands.specs.DeleteCore.Places.{at, start_in, end_in}
-use Rattle.edit_commands.specs.TextInsertion.Start.{active_start, insert_at, insert_at_start}
-use Rattle.edit_commands.specs.TextInsertion.Typing.{drop_sole_break, put_at, put_char}
+use Rattle.edit_model.specs.DomModel.declared.Content.{Content}
+use Rattle.edit_model.specs.DomModel.declared.Content.TheVariants.{Words}
+use Rattle.edit_model.specs.DomModel.Forest.{Forest, Seen, seek, count_of, tree_of, content_of, put_under, IsWithin}
+use Rattle.edit_model.specs.DomModel.Revised.{revised}
+use Rattle.edit_model.proofs.DomModel.Totals.{total-without, put_under_nowhere}
+use Rattle.edit_model.specs.LiveRange.declared.places.Point.{Point}
+use Rattle.inline_value.specs.NodeTests.BlockPoints.{child_at}
+use Rattle.inline_value.specs.NodeTests.CollapsedWhitespace.{is_words}
+use Rattle.edit_model.specs.State.{State}
+use Rattle.edit_model.specs.Action.{Change, MakeWords, made, words_content, selected, acted}
+use Rattle.edit_model.specs.Confined.{spliced}
+use Rattle.edit_model.specs.Edit.{Insert, Replace, is_made_edit, trees_after, with_replaced, edited}
+use Rattle.edit_model.specs.Kept.{Letter, borne_by, leaves}
+use Rattle.edit_model.specs.Run.{Run, ◌>>=◌, ◌>>◌, final, done, given, look, make_words, replace, select}
+use Rattle.edit_model.specs.Valid.{IsValid}
+use Rattle.edit_model.proofs.Documents.{document-link, document-revised, document-with_leaf}
+use Rattle.edit_model.proofs.IslandRuns.{trees_made}
+use Rattle.edit_model.proofs.OutsideRuns.{trees-selected}
+use Rattle.edit_model.proofs.Resting.{seek_document, forest-document}
+use Rattle.edit_model.proofs.Steps.{final-bind, final-answer, final-look, final-edit, final-make_words, value-make_words, final-perform}
+use Rattle.edit_model.proofs.Tests.{inserts}
+use Rattle.edit_model.proofs.Trees.{none_or_some}
+use Rattle.edit_model.proofs.ValidRuns.{valid_acted, final_valid}
+use Rattle.edit_laws.specs.OrderPreserving.{OrderPreserving}
+use Rattle.edit_laws.proofs.OrderPreserving.{order_preserving}
+use Rattle.delete_core.specs.Places.{at, start_in, end_in}
+use Rattle.text_insertion.specs.Start.{active_start, insert_at, insert_at_start}
+use Rattle.text_insertion.specs.Typing.{drop_sole_break, put_at, put_char}
 use Rattle.caret_laws.specs.SolidOrder.{is_solid, solid_leaves, KeepsOrderUpToBlanks, OneMore, StandsAt, HasRoomFor}
 use Rattle.caret_laws.specs.TypingLaws.{MayGain}
 use Rattle.caret_laws.proofs.Blanks.{Rewritten, rewritten, trees_t, edit_left, words_same}

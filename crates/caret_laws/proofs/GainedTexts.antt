@@ -3,41 +3,41 @@ use Rattle.std.proofs.Common.{◌≡◌, ◌≢◌, ◌⊎◌, ℕ, suc, ◌+◌
 use Rattle.std.specs.Prelude.{unwrap_or}
 use Rattle.std.specs.Option.{option_map}
 use Rattle.std.proofs.lemmas.Bool.{ne_eqb}
-use Rattle.edit_commands.specs.DomModel.Forest.{either, tree_of, content_of, IsWithin}
-use Rattle.edit_commands.specs.DomModel.declared.Content.TheVariants.{Words}
-use Rattle.edit_commands.specs.LiveRange.declared.places.Pair.{Pair}
-use Rattle.edit_commands.specs.LiveRange.declared.places.Point.{Point}
-use Rattle.edit_commands.specs.PointOrder.PointOrder.{is_before, is_placed}
-use Rattle.edit_commands.specs.NodeTests.BlockPoints.{child_before, child_at}
-use Rattle.edit_commands.specs.EditModel.State.{State}
-use Rattle.edit_commands.specs.EditModel.Action as action
-use Rattle.edit_commands.specs.EditModel.Action.{with_selection, selected, acted}
-use Rattle.edit_commands.specs.EditModel.Confined.{is_inside, may_select}
-use Rattle.edit_commands.specs.EditModel.Edit.{changed}
-use Rattle.edit_commands.specs.EditModel.History.{begun}
-use Rattle.edit_commands.specs.EditModel.Kept.{Leaf}
-use Rattle.edit_commands.specs.EditModel.Run.{◌>>=◌, ◌>>◌, final, value, answer, done, given, for_each, collapse}
-use Rattle.edit_commands.specs.EditModel.Valid.{IsValid, IsPlacedPair}
-use Rattle.edit_commands.proofs.EditModel.Commands.{valid_begun}
-use Rattle.edit_commands.proofs.EditModel.Documents.{within_below}
-use Rattle.edit_commands.proofs.EditModel.OutsideRuns.{trees-selected}
-use Rattle.edit_commands.proofs.EditModel.Steps.{final-bind, value-bind, final-answer, value-answer, final-look, value-look, final-perform}
-use Rattle.edit_commands.proofs.EditModel.ValidRuns.{final_valid}
-use Rattle.command_laws.specs.EditLaws.Order.{KeepsOrder}
+use Rattle.edit_model.specs.DomModel.Forest.{either, tree_of, content_of, IsWithin}
+use Rattle.edit_model.specs.DomModel.declared.Content.TheVariants.{Words}
+use Rattle.edit_model.specs.LiveRange.declared.places.Pair.{Pair}
+use Rattle.edit_model.specs.LiveRange.declared.places.Point.{Point}
+use Rattle.edit_model.specs.PointOrder.PointOrder.{is_before, is_placed}
+use Rattle.inline_value.specs.NodeTests.BlockPoints.{child_before, child_at}
+use Rattle.edit_model.specs.State.{State}
+use Rattle.edit_model.specs.Action as action
+use Rattle.edit_model.specs.Action.{with_selection, selected, acted}
+use Rattle.edit_model.specs.Confined.{is_inside, may_select}
+use Rattle.edit_model.specs.Edit.{changed}
+use Rattle.edit_model.specs.History.{begun}
+use Rattle.edit_model.specs.Kept.{Leaf}
+use Rattle.edit_model.specs.Run.{◌>>=◌, ◌>>◌, final, value, answer, done, given, for_each, collapse}
+use Rattle.edit_model.specs.Valid.{IsValid, IsPlacedPair}
+use Rattle.edit_model.proofs.Commands.{valid_begun}
+use Rattle.edit_model.proofs.Documents.{within_below}
+use Rattle.edit_model.proofs.OutsideRuns.{trees-selected}
+use Rattle.edit_model.proofs.Steps.{final-bind, value-bind, final-answer, value-answer, final-look, value-look, final-perform}
+use Rattle.edit_model.proofs.ValidRuns.{final_valid}
+use Rattle.edit_laws.specs.Order.{KeepsOrder}
 use Rattle.command_laws.proofs.RestoringRuns.{order_preserving_restore_states}
-use Rattle.edit_commands.specs.EditActions.ActiveRange.{start_of, end_of}
-use Rattle.edit_commands.specs.InlineValue.declared.overrides.Override.{Override}
-use Rattle.edit_commands.specs.InlineValue.Overrides.{overrides_of}
-use Rattle.edit_commands.specs.InlineCommands.RestoringStates.{restore_states}
-use Rattle.edit_commands.specs.DeleteCore.declared.deletion.TheConstants.Manner.{KEEP_WRAPPERS}
-use Rattle.edit_commands.specs.DeleteCore.Deletion.{delete_range, delete_between, delete_selection}
-use Rattle.edit_commands.specs.DeleteCore.Ends.{end_for, collapse_selection, canonicalize_start, canonicalize_end}
-use Rattle.edit_commands.specs.DeleteCore.Equivalent.{last_equivalent, first_equivalent}
-use Rattle.edit_commands.specs.DeleteCore.Places.{start_in, end_in}
-use Rattle.edit_commands.specs.DeleteCore.Whitespace.{canonicalize}
-use Rattle.edit_commands.specs.TextInsertion.Paragraph.{insert_paragraph}
-use Rattle.edit_commands.specs.TextInsertion.Start.{active_start, if_point_inside, start_inside, erase}
-use Rattle.edit_commands.specs.TextInsertion.Typing.{if_words, end_before, start_after, into_text, put_char, close_text, type_char, insert_char_at, insert_char_inside, insert_char, insert_several, insert_chars, insert_text}
+use Rattle.inline_value.specs.EditActions.ActiveRange.{start_of, end_of}
+use Rattle.inline_value.specs.declared.overrides.Override.{Override}
+use Rattle.inline_value.specs.Overrides.{overrides_of}
+use Rattle.inline_commands.specs.RestoringStates.{restore_states}
+use Rattle.delete_core.specs.declared.deletion.TheConstants.Manner.{KEEP_WRAPPERS}
+use Rattle.delete_core.specs.Deletion.{delete_range, delete_between, delete_selection}
+use Rattle.delete_core.specs.Ends.{end_for, collapse_selection, canonicalize_start, canonicalize_end}
+use Rattle.delete_core.specs.Equivalent.{last_equivalent, first_equivalent}
+use Rattle.delete_core.specs.Places.{start_in, end_in}
+use Rattle.delete_core.specs.Whitespace.{canonicalize}
+use Rattle.text_insertion.specs.Paragraph.{insert_paragraph}
+use Rattle.text_insertion.specs.Start.{active_start, if_point_inside, start_inside, erase}
+use Rattle.text_insertion.specs.Typing.{if_words, end_before, start_after, into_text, put_char, close_text, type_char, insert_char_at, insert_char_inside, insert_char, insert_several, insert_chars, insert_text}
 use Rattle.caret_laws.specs.SolidOrder.{solid_leaves, KeepsOrderUpToBlanks, StandsAt, HasRoomFor, HasRoom}
 use Rattle.caret_laws.specs.TypingLaws.{HasNoBreaks, MayGainEach}
 use Rattle.caret_laws.proofs.AlikeStates.{alike_restore_states}

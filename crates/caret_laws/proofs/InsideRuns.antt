@@ -5,35 +5,35 @@ use Rattle.std.specs.Prelude.{unwrap_or}
 use Rattle.std.specs.Option.{option_map, option_map_or}
 use Rattle.std.proofs.lemmas.Bool.{or_cases, cases_Bool, cases_lt, eq-eqb, leb-true}
 use Rattle.std.proofs.lemmas.Bool.Decides.{eqb_tells}
-use Rattle.edit_commands.specs.DomModel.declared.Content.{Content}
-use Rattle.edit_commands.specs.DomModel.Contents.{is_element}
-use Rattle.edit_commands.specs.DomModel.Editing.{contenteditable, is_true_state, is_false_state, editing_host, is_host, is_editable}
-use Rattle.edit_commands.specs.DomModel.Forest.{Forest, Seen, is_label, count_of, tree_of, parent_of, IsDistinct, IsWithin, depth_of}
-use Rattle.edit_commands.proofs.DomModel.Totals.{total-without}
-use Rattle.edit_commands.proofs.DomModel.Stands.{seek_absent}
-use Rattle.edit_commands.proofs.DomModel.Links.{parent_count, tree_is, tree_of_absent}
-use Rattle.edit_commands.proofs.DomModel.Move.{parent_apart}
-use Rattle.edit_commands.proofs.DomModel.Within.{within_parent, within_child, depth_of-parent}
-use Rattle.edit_commands.proofs.DomModel.Hosts.{editing_host-child}
-use Rattle.edit_commands.specs.EditModel.State.{State}
-use Rattle.edit_commands.specs.EditModel.Confined.{is_editable_for, is_inside, is_made, is_open}
-use Rattle.edit_commands.specs.EditModel.Run.{Reaches, here, onward, reaches_trans}
-use Rattle.edit_commands.specs.EditModel.History.{begun}
-use Rattle.edit_commands.specs.EditModel.Valid.{IsValid}
-use Rattle.edit_commands.specs.EditModel.Outside.{hollowed, IsConfined}
-use Rattle.edit_commands.specs.EditModel.Laws.{LeavesStatesOn}
-use Rattle.edit_commands.proofs.EditModel.CommandParts.{command_along}
-use Rattle.edit_commands.proofs.EditModel.Tests.{label_is}
-use Rattle.edit_commands.proofs.EditModel.ValidRuns.{valid_along}
-use Rattle.edit_commands.proofs.EditModel.Trees.{none_or_some, within_trans}
-use Rattle.edit_commands.proofs.EditModel.Hollow.{below_left_out, hollowed_split, inside_part}
-use Rattle.edit_commands.proofs.EditModel.Commands.{valid_begun, confined_begun, command_confined}
-use Rattle.edit_commands.proofs.EditModel.OutsideRuns.{open_out, outside_along, rim}
-use Rattle.edit_commands.proofs.EditModel.OwnRoots.{holder_inside}
-use Rattle.edit_commands.proofs.EditModel.Islands.{host_within}
-use Rattle.edit_commands.proofs.EditModel.IslandRuns.{Locked, Offers, root_content, content_at, host_offers, editable_offers, locked_along}
+use Rattle.edit_model.specs.DomModel.declared.Content.{Content}
+use Rattle.edit_model.specs.DomModel.Contents.{is_element}
+use Rattle.edit_model.specs.DomModel.Editing.{contenteditable, is_true_state, is_false_state, editing_host, is_host, is_editable}
+use Rattle.edit_model.specs.DomModel.Forest.{Forest, Seen, is_label, count_of, tree_of, parent_of, IsDistinct, IsWithin, depth_of}
+use Rattle.edit_model.proofs.DomModel.Totals.{total-without}
+use Rattle.edit_model.proofs.DomModel.Stands.{seek_absent}
+use Rattle.edit_model.proofs.DomModel.Links.{parent_count, tree_is, tree_of_absent}
+use Rattle.edit_model.proofs.DomModel.Move.{parent_apart}
+use Rattle.edit_model.proofs.DomModel.Within.{within_parent, within_child, depth_of-parent}
+use Rattle.edit_model.proofs.DomModel.Hosts.{editing_host-child}
+use Rattle.edit_model.specs.State.{State}
+use Rattle.edit_model.specs.Confined.{is_editable_for, is_inside, is_made, is_open}
+use Rattle.edit_model.specs.Run.{Reaches, here, onward, reaches_trans}
+use Rattle.edit_model.specs.History.{begun}
+use Rattle.edit_model.specs.Valid.{IsValid}
+use Rattle.edit_model.specs.Outside.{hollowed, IsConfined}
+use Rattle.edit_model.specs.Laws.{LeavesStatesOn}
+use Rattle.edit_model.proofs.CommandParts.{command_along}
+use Rattle.edit_model.proofs.Tests.{label_is}
+use Rattle.edit_model.proofs.ValidRuns.{valid_along}
+use Rattle.edit_model.proofs.Trees.{none_or_some, within_trans}
+use Rattle.edit_model.proofs.Hollow.{below_left_out, hollowed_split, inside_part}
+use Rattle.edit_model.proofs.Commands.{valid_begun, confined_begun, command_confined}
+use Rattle.edit_model.proofs.OutsideRuns.{open_out, outside_along, rim}
+use Rattle.edit_model.proofs.OwnRoots.{holder_inside}
+use Rattle.edit_model.proofs.Islands.{host_within}
+use Rattle.edit_model.proofs.IslandRuns.{Locked, Offers, root_content, content_at, host_offers, editable_offers, locked_along}
 use Rattle.caret_laws.proofs.Trees.{either_true}
-use Rattle.edit_commands.proofs.EditModel.States.{editable_value, stated_value, host_value, host_is, stated_is, SameStates, states_along}
+use Rattle.edit_model.proofs.States.{editable_value, stated_value, host_value, host_is, stated_is, SameStates, states_along}
 
 -- the root of a tree that holds something is there
 pub top_known : (f : Forest Content) (n l : ℕ) → IsWithin f n l → 0 < count_of f n

@@ -4,54 +4,54 @@ use Rattle.std.specs.Prelude.{codes, bytes_eq}
 use Rattle.std.specs.Option.{option_map_or, option_and_then}
 use Rattle.std.proofs.lemmas.Bool.{and_parts, or_cases, cases_Bool, ne_eqb}
 use Rattle.std.proofs.lemmas.Slice.Eq.{bytes_eq-Decides}
-use Rattle.edit_commands.specs.DomModel.declared.Content.{Content}
-use Rattle.edit_commands.specs.DomModel.declared.Content.TheVariants.{Document, Element, Words, Remark}
-use Rattle.edit_commands.specs.DomModel.Contents.{is_parent_at, name_in, name_of}
-use Rattle.edit_commands.specs.DomModel.Forest.{Seen, last_in, after_in, count_of, tree_of, parent_of, children_of, first_of, next_of, IsWithin}
-use Rattle.edit_commands.proofs.DomModel.Links.{child_of_parent}
-use Rattle.edit_commands.specs.LiveRange.declared.places.Pair.{Pair}
-use Rattle.edit_commands.specs.LiveRange.declared.places.Point.{Point}
-use Rattle.edit_commands.specs.EditModel.State.{State}
-use Rattle.edit_commands.specs.EditModel.Compositions.{set_tag_name}
-use Rattle.edit_commands.specs.EditModel.Confined.{is_inside}
-use Rattle.edit_commands.specs.EditModel.Edit.{Insert, is_made_edit, trees_after, edited}
-use Rattle.edit_commands.specs.EditModel.Kept.{borne_by, leaves, is_thing}
-use Rattle.edit_commands.specs.EditModel.Action.{made, element_content}
-use Rattle.edit_commands.specs.EditModel.History.{begun}
-use Rattle.edit_commands.specs.EditModel.Moves.{make_break}
-use Rattle.edit_commands.specs.EditModel.Run.{Run, ◌>>=◌, ◌>>◌, final, value, answer, done, given, make_element, insert, collapse}
-use Rattle.edit_commands.specs.EditModel.Valid.{IsValid}
-use Rattle.edit_commands.proofs.EditModel.IslandRuns.{trees_made, trees_left}
-use Rattle.edit_commands.proofs.EditModel.Steps.{final-bind, value-bind, final-look, value-look, final-answer, value-answer, final-edit, final-make_element, value-make_element}
-use Rattle.edit_commands.proofs.EditModel.Tests.{inserts}
-use Rattle.edit_commands.proofs.EditModel.Trees.{tree_of-with_leaf_other}
-use Rattle.edit_commands.proofs.EditModel.ValidRuns.{final_valid}
-use Rattle.command_laws.specs.EditLaws.MoveLaws.{IsBare}
-use Rattle.command_laws.specs.EditLaws.Order.{KeepsOrder, IsKeeping}
-use Rattle.command_laws.proofs.EditLaws.Leaves.{leaves-put_under}
-use Rattle.command_laws.proofs.EditLaws.NewElements.{new_bare}
-use Rattle.command_laws.proofs.EditLaws.Renaming.{tag_name_keeps}
-use Rattle.command_laws.proofs.EditLaws.Subsequences.{keeps_refl, keeps_trans}
+use Rattle.edit_model.specs.DomModel.declared.Content.{Content}
+use Rattle.edit_model.specs.DomModel.declared.Content.TheVariants.{Document, Element, Words, Remark}
+use Rattle.edit_model.specs.DomModel.Contents.{is_parent_at, name_in, name_of}
+use Rattle.edit_model.specs.DomModel.Forest.{Seen, last_in, after_in, count_of, tree_of, parent_of, children_of, first_of, next_of, IsWithin}
+use Rattle.edit_model.proofs.DomModel.Links.{child_of_parent}
+use Rattle.edit_model.specs.LiveRange.declared.places.Pair.{Pair}
+use Rattle.edit_model.specs.LiveRange.declared.places.Point.{Point}
+use Rattle.edit_model.specs.State.{State}
+use Rattle.edit_model.specs.Compositions.{set_tag_name}
+use Rattle.edit_model.specs.Confined.{is_inside}
+use Rattle.edit_model.specs.Edit.{Insert, is_made_edit, trees_after, edited}
+use Rattle.edit_model.specs.Kept.{borne_by, leaves, is_thing}
+use Rattle.edit_model.specs.Action.{made, element_content}
+use Rattle.edit_model.specs.History.{begun}
+use Rattle.edit_model.specs.Moves.{make_break}
+use Rattle.edit_model.specs.Run.{Run, ◌>>=◌, ◌>>◌, final, value, answer, done, given, make_element, insert, collapse}
+use Rattle.edit_model.specs.Valid.{IsValid}
+use Rattle.edit_model.proofs.IslandRuns.{trees_made, trees_left}
+use Rattle.edit_model.proofs.Steps.{final-bind, value-bind, final-look, value-look, final-answer, value-answer, final-edit, final-make_element, value-make_element}
+use Rattle.edit_model.proofs.Tests.{inserts}
+use Rattle.edit_model.proofs.Trees.{tree_of-with_leaf_other}
+use Rattle.edit_model.proofs.ValidRuns.{final_valid}
+use Rattle.edit_laws.specs.MoveLaws.{IsBare}
+use Rattle.edit_laws.specs.Order.{KeepsOrder, IsKeeping}
+use Rattle.edit_laws.proofs.Leaves.{leaves-put_under}
+use Rattle.edit_laws.proofs.NewElements.{new_bare}
+use Rattle.edit_laws.proofs.Renaming.{tag_name_keeps}
+use Rattle.edit_laws.proofs.Subsequences.{keeps_refl, keeps_trans}
 use Rattle.command_laws.proofs.AncestorRuns.{order_preserving_fix_ancestors}
 use Rattle.command_laws.proofs.ListWalks.{Consecutive, alone, among, consecutive_keeps}
 use Rattle.command_laws.proofs.Splitting.{parted, order_preserving_split_one}
 use Rattle.command_laws.proofs.Widening.{Siblings, pushed-last, one_after, same_list}
-use Rattle.edit_commands.specs.NodeStyles.Allowed.{allowed_in_name}
-use Rattle.edit_commands.specs.EditQuery.Rows.{container_name}
-use Rattle.edit_commands.specs.InlineValue.Ancestors.{is_description, has_place, fix_ancestors}
-use Rattle.edit_commands.specs.WrapSplit.declared.rule.Criterion.TheVariants.{Never}
-use Rattle.edit_commands.specs.WrapSplit.declared.rule.Recipe.TheVariants.{Make}
-use Rattle.edit_commands.specs.WrapSplit.Split.{split_parent}
-use Rattle.edit_commands.specs.WrapSplit.Walks.{turn_bound}
-use Rattle.edit_commands.specs.WrapSplit.Wrap.{list_on, append_break, wrap}
-use Rattle.edit_commands.specs.DeleteCore.declared.deletion.TheConstants.Manner.{DEFAULT}
-use Rattle.edit_commands.specs.DeleteCore.Merging.{fill_empty}
-use Rattle.edit_commands.specs.DeleteCore.Places.{start_in}
-use Rattle.edit_commands.specs.TextInsertion.Containers.{container_of, is_own_container, own_container, make_line, first_content, add_container, takes_container, make_container, insert_container, wrap_line, plain_container, contents_from, contents_after, if_paragraph_child}
-use Rattle.edit_commands.specs.TextInsertion.Entries.{is_entry, is_stray, rename_stray, has_sole_break, is_empty_entry, leave_list}
-use Rattle.edit_commands.specs.TextInsertion.Halves.{part_container}
-use Rattle.edit_commands.specs.TextInsertion.Paragraph.{split_text, holds_lines, break_line, part_line, part_line_if, part_paragraph, insert_paragraph_inside, insert_paragraph}
-use Rattle.edit_commands.specs.TextInsertion.Start.{active_start, start_inside, insert_at_start, erase}
+use Rattle.inline_value.specs.NodeStyles.Allowed.{allowed_in_name}
+use Rattle.inline_value.specs.EditQuery.Rows.{container_name}
+use Rattle.inline_value.specs.Ancestors.{is_description, has_place, fix_ancestors}
+use Rattle.inline_value.specs.WrapSplit.declared.rule.Criterion.TheVariants.{Never}
+use Rattle.inline_value.specs.WrapSplit.declared.rule.Recipe.TheVariants.{Make}
+use Rattle.inline_value.specs.WrapSplit.Split.{split_parent}
+use Rattle.inline_value.specs.WrapSplit.Walks.{turn_bound}
+use Rattle.inline_value.specs.WrapSplit.Wrap.{list_on, append_break, wrap}
+use Rattle.delete_core.specs.declared.deletion.TheConstants.Manner.{DEFAULT}
+use Rattle.delete_core.specs.Merging.{fill_empty}
+use Rattle.delete_core.specs.Places.{start_in}
+use Rattle.text_insertion.specs.Containers.{container_of, is_own_container, own_container, make_line, first_content, add_container, takes_container, make_container, insert_container, wrap_line, plain_container, contents_from, contents_after, if_paragraph_child}
+use Rattle.text_insertion.specs.Entries.{is_entry, is_stray, rename_stray, has_sole_break, is_empty_entry, leave_list}
+use Rattle.text_insertion.specs.Halves.{part_container}
+use Rattle.text_insertion.specs.Paragraph.{split_text, holds_lines, break_line, part_line, part_line_if, part_paragraph, insert_paragraph_inside, insert_paragraph}
+use Rattle.text_insertion.specs.Start.{active_start, start_inside, insert_at_start, erase}
 use Rattle.caret_laws.specs.ParagraphOrder.{StandsInNoThing}
 use Rattle.caret_laws.specs.SolidOrder.{KeepsOrderUpToBlanks, StandsAt, HasRoom}
 use Rattle.caret_laws.specs.TailLaws.{is_thing_at, AmidNoThing}

@@ -6,25 +6,25 @@ use Rattle.std.specs.List.{filter}
 use Rattle.std.specs.Option.{option_map, option_map_or}
 use Rattle.std.proofs.lemmas.Bool.{and_parts, cases_lt}
 use Rattle.std.proofs.lemmas.Bool.Decides.{eqb_tells}
-use Rattle.edit_commands.specs.DomModel.declared.Content.{Content}
-use Rattle.edit_commands.specs.DomModel.declared.Content.TheVariants.{Document, Element, Words, Remark}
-use Rattle.edit_commands.specs.DomModel.Contents.{may_have_children, length_in, length_of}
-use Rattle.edit_commands.specs.DomModel.Forest.{Forest, Seen, seek, parent_of, children_of, content_of, preorder, tree_of, IsWithin}
-use Rattle.edit_commands.specs.DomModel.Places.{index_of}
-use Rattle.edit_commands.proofs.DomModel.Within.{within_self, within_up}
-use Rattle.edit_commands.specs.LiveRange.declared.places.Point.{Point}
-use Rattle.edit_commands.specs.PointOrder.PointOrder.{is_before}
-use Rattle.edit_commands.specs.NodeTests.BlockPoints.{child_at}
-use Rattle.edit_commands.specs.NodeTests.CollapsedWhitespace.{is_words_content, is_words}
-use Rattle.edit_commands.specs.NodeTests.Ranges.{is_contained, contained_nodes}
-use Rattle.edit_commands.proofs.NodeTests.Reaching.{after_it, before_it, child_with}
-use Rattle.edit_commands.specs.EditModel.Valid.{IsForest}
-use Rattle.edit_commands.proofs.EditModel.Documents.{index_below}
-use Rattle.edit_commands.specs.BlockExtend.Gather.{gather, gathered}
-use Rattle.edit_commands.proofs.InlineCommands.Elsewhere.{contained_in}
-use Rattle.edit_commands.proofs.InlineCommands.Merging.{none_found}
-use Rattle.edit_commands.proofs.InlineCommands.Pairs.{listed}
-use Rattle.edit_commands.specs.DeleteCore.Places.{at}
+use Rattle.edit_model.specs.DomModel.declared.Content.{Content}
+use Rattle.edit_model.specs.DomModel.declared.Content.TheVariants.{Document, Element, Words, Remark}
+use Rattle.edit_model.specs.DomModel.Contents.{may_have_children, length_in, length_of}
+use Rattle.edit_model.specs.DomModel.Forest.{Forest, Seen, seek, parent_of, children_of, content_of, preorder, tree_of, IsWithin}
+use Rattle.edit_model.specs.DomModel.Places.{index_of}
+use Rattle.edit_model.proofs.DomModel.Within.{within_self, within_up}
+use Rattle.edit_model.specs.LiveRange.declared.places.Point.{Point}
+use Rattle.edit_model.specs.PointOrder.PointOrder.{is_before}
+use Rattle.inline_value.specs.NodeTests.BlockPoints.{child_at}
+use Rattle.inline_value.specs.NodeTests.CollapsedWhitespace.{is_words_content, is_words}
+use Rattle.inline_value.specs.NodeTests.Ranges.{is_contained, contained_nodes}
+use Rattle.inline_value.proofs.NodeTests.Reaching.{after_it, before_it, child_with}
+use Rattle.edit_model.specs.Valid.{IsForest}
+use Rattle.edit_model.proofs.Documents.{index_below}
+use Rattle.inline_value.specs.BlockExtend.Gather.{gather, gathered}
+use Rattle.inline_commands.proofs.Elsewhere.{contained_in}
+use Rattle.inline_commands.proofs.Merging.{none_found}
+use Rattle.inline_commands.proofs.Pairs.{listed}
+use Rattle.delete_core.specs.Places.{at}
 use Rattle.caret_laws.proofs.Canonical.{no_children, no_child_at, no_child_end, no_char_end}
 use Rattle.caret_laws.proofs.Trails.{own_index, index_is, same_index, same_high, same_low, by_tree, there_is, Into, Out, Step, into, over, out, Trail, stop, on, trail_first, trail_inside}
 

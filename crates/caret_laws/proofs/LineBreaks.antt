@@ -1,35 +1,35 @@
 -- From a caret on, inserting a line break keeps what the document bears: a text is split, and a br or two come.
 use Rattle.std.proofs.Common.{◌≡◌, ℕ, Bool, true, false, ◌||◌, if◌then◌else◌, [], ◌++◌, Option, Some, None, refl, sym, ap, subst, ◌∙◌}
 use Rattle.std.specs.Prelude.{codes}
-use Rattle.edit_commands.specs.DomModel.declared.Content.{Content}
-use Rattle.edit_commands.specs.DomModel.declared.Content.TheVariants.{Element}
-use Rattle.edit_commands.specs.DomModel.Editing.{is_host}
-use Rattle.edit_commands.specs.DomModel.Forest.{tree_of}
-use Rattle.edit_commands.specs.DomModel.Forest.Forest.{Nil}
-use Rattle.edit_commands.specs.LiveRange.declared.places.Point.{Point}
-use Rattle.edit_commands.specs.NodeTests.BlockPoints.{child_at}
-use Rattle.edit_commands.specs.NodeTests.SolidNeighbours.{is_extraneous_break, is_collapsed_break}
-use Rattle.edit_commands.specs.EditModel.State.{State}
-use Rattle.edit_commands.specs.EditModel.Confined.{is_inside}
-use Rattle.edit_commands.specs.EditModel.Edit.{Insert, is_made_edit, trees_after, edited}
-use Rattle.edit_commands.specs.EditModel.Kept.{leaves}
-use Rattle.edit_commands.specs.EditModel.Action.{made}
-use Rattle.edit_commands.specs.EditModel.Moves.{make_break}
-use Rattle.edit_commands.specs.EditModel.Run.{◌>>=◌, final, value, answer, done, look, given, make_element}
-use Rattle.edit_commands.specs.EditModel.Valid.{IsValid}
-use Rattle.edit_commands.proofs.EditModel.Documents.{document-link}
-use Rattle.edit_commands.proofs.EditModel.Steps.{final-bind, value-bind, final-answer, value-answer, final-look, final-edit, final-make_element, value-make_element}
-use Rattle.edit_commands.proofs.EditModel.Tests.{inserts}
-use Rattle.edit_commands.proofs.EditModel.ValidRuns.{final_valid}
-use Rattle.command_laws.specs.EditLaws.Order.{KeepsOrder}
-use Rattle.command_laws.proofs.EditLaws.Leaves.{leaves-Nil, leaves-Tree, leaves-put_under}
-use Rattle.command_laws.proofs.EditLaws.QuietActions.{same_trees, by_made}
-use Rattle.command_laws.proofs.EditLaws.NewElements.{new_bare}
-use Rattle.command_laws.proofs.EditLaws.Renaming.{plain_borne}
-use Rattle.command_laws.proofs.EditLaws.Subsequences.{keeps_same, keeps_refl, keeps_trans}
-use Rattle.edit_commands.specs.TextInsertion.Start.{active_start, if_point_inside, start_inside, insert_at, insert_at_start}
-use Rattle.edit_commands.specs.InsertObjects.LineBreak.{takes_break, repeat_break, put_break, break_line}
-use Rattle.edit_commands.specs.InsertObjects.Putting.{from_start_inside, collapse_after, leave_text, put}
+use Rattle.edit_model.specs.DomModel.declared.Content.{Content}
+use Rattle.edit_model.specs.DomModel.declared.Content.TheVariants.{Element}
+use Rattle.edit_model.specs.DomModel.Editing.{is_host}
+use Rattle.edit_model.specs.DomModel.Forest.{tree_of}
+use Rattle.edit_model.specs.DomModel.Forest.Forest.{Nil}
+use Rattle.edit_model.specs.LiveRange.declared.places.Point.{Point}
+use Rattle.inline_value.specs.NodeTests.BlockPoints.{child_at}
+use Rattle.inline_value.specs.NodeTests.SolidNeighbours.{is_extraneous_break, is_collapsed_break}
+use Rattle.edit_model.specs.State.{State}
+use Rattle.edit_model.specs.Confined.{is_inside}
+use Rattle.edit_model.specs.Edit.{Insert, is_made_edit, trees_after, edited}
+use Rattle.edit_model.specs.Kept.{leaves}
+use Rattle.edit_model.specs.Action.{made}
+use Rattle.edit_model.specs.Moves.{make_break}
+use Rattle.edit_model.specs.Run.{◌>>=◌, final, value, answer, done, look, given, make_element}
+use Rattle.edit_model.specs.Valid.{IsValid}
+use Rattle.edit_model.proofs.Documents.{document-link}
+use Rattle.edit_model.proofs.Steps.{final-bind, value-bind, final-answer, value-answer, final-look, final-edit, final-make_element, value-make_element}
+use Rattle.edit_model.proofs.Tests.{inserts}
+use Rattle.edit_model.proofs.ValidRuns.{final_valid}
+use Rattle.edit_laws.specs.Order.{KeepsOrder}
+use Rattle.edit_laws.proofs.Leaves.{leaves-Nil, leaves-Tree, leaves-put_under}
+use Rattle.edit_laws.proofs.QuietActions.{same_trees, by_made}
+use Rattle.edit_laws.proofs.NewElements.{new_bare}
+use Rattle.edit_laws.proofs.Renaming.{plain_borne}
+use Rattle.edit_laws.proofs.Subsequences.{keeps_same, keeps_refl, keeps_trans}
+use Rattle.text_insertion.specs.Start.{active_start, if_point_inside, start_inside, insert_at, insert_at_start}
+use Rattle.insert_objects.specs.LineBreak.{takes_break, repeat_break, put_break, break_line}
+use Rattle.insert_objects.specs.Putting.{from_start_inside, collapse_after, leave_text, put}
 use Rattle.caret_laws.proofs.BlindRuns.{kept}
 use Rattle.caret_laws.proofs.PutElements.{Fine, left, is_kept_state, made_order, after_trees, start_caret}
 

@@ -2,20 +2,20 @@
 use Rattle.std.proofs.Common.{◌≡◌, ℕ, true, false, if◌then◌else◌, List, [], ◌∷◌, Option, Some, None, refl, sym, ap, subst, ◌∙◌, inl, inr}
 use Rattle.std.specs.Option.{option_map_or}
 use Rattle.std.proofs.lemmas.Bool.{cases_Bool}
-use Rattle.edit_commands.specs.DomModel.Forest.{IsWithin}
-use Rattle.edit_commands.specs.LiveRange.declared.places.Point.{Point}
-use Rattle.edit_commands.specs.EditModel.State.{State}
-use Rattle.edit_commands.specs.EditModel.Confined.{is_inside}
-use Rattle.edit_commands.specs.EditModel.History.{begun}
-use Rattle.edit_commands.specs.EditModel.Kept.{is_thing}
-use Rattle.edit_commands.specs.EditModel.Run.{◌>>=◌, ◌>>◌, final, answer, done, given}
-use Rattle.edit_commands.specs.EditModel.Valid.{IsValid}
-use Rattle.edit_commands.proofs.EditModel.Steps.{final-bind, final-answer, final-look}
+use Rattle.edit_model.specs.DomModel.Forest.{IsWithin}
+use Rattle.edit_model.specs.LiveRange.declared.places.Point.{Point}
+use Rattle.edit_model.specs.State.{State}
+use Rattle.edit_model.specs.Confined.{is_inside}
+use Rattle.edit_model.specs.History.{begun}
+use Rattle.edit_model.specs.Kept.{is_thing}
+use Rattle.edit_model.specs.Run.{◌>>=◌, ◌>>◌, final, answer, done, given}
+use Rattle.edit_model.specs.Valid.{IsValid}
+use Rattle.edit_model.proofs.Steps.{final-bind, final-answer, final-look}
 use Rattle.command_laws.proofs.DeleteRuns.{steady_erase}
-use Rattle.edit_commands.specs.DeleteCore.declared.deletion.TheConstants.Manner.{DEFAULT, KEEP_WRAPPERS}
-use Rattle.edit_commands.specs.TextInsertion.Paragraph.{insert_paragraph_inside, insert_paragraph}
-use Rattle.edit_commands.specs.TextInsertion.Start.{if_point_inside, start_inside, erase}
-use Rattle.edit_commands.specs.TextInsertion.Typing.{insert_char_at, insert_char_inside, insert_chars, insert_text}
+use Rattle.delete_core.specs.declared.deletion.TheConstants.Manner.{DEFAULT, KEEP_WRAPPERS}
+use Rattle.text_insertion.specs.Paragraph.{insert_paragraph_inside, insert_paragraph}
+use Rattle.text_insertion.specs.Start.{if_point_inside, start_inside, erase}
+use Rattle.text_insertion.specs.Typing.{insert_char_at, insert_char_inside, insert_chars, insert_text}
 use Rattle.caret_laws.specs.ParagraphOrder.{StandsInNoThing}
 use Rattle.caret_laws.specs.SolidOrder.{KeepsOrderUpToBlanks, StandsAt, HasRoom}
 use Rattle.caret_laws.proofs.Blanks.{Caret, caret_then}

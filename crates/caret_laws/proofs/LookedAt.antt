@@ -1,11 +1,11 @@
 -- Lists of nodes that runs look at by recursion are the same whether the command keeps contents or not.
 use Rattle.std.proofs.Common.{◌≡◌, ℕ, zero, suc, ◌&&◌, not, List, [], ◌∷◌, Some, None, if◌then◌else◌, refl, ap}
-use Rattle.edit_commands.specs.DomModel.Contents.{is_break}
-use Rattle.edit_commands.specs.DomModel.Forest.{is_label, either, parent_of, prev_of, next_of}
-use Rattle.edit_commands.specs.EditModel.State.{State}
-use Rattle.edit_commands.specs.EditActions.Siblings.{first_parent, members}
-use Rattle.edit_commands.specs.WrapSplit.Walks.{is_invisible}
-use Rattle.edit_commands.specs.WrapSplit.Wrap.{list_on, if_hidden, all_hidden, extended_front, hidden_after, first_visible, last_visible}
+use Rattle.edit_model.specs.DomModel.Contents.{is_break}
+use Rattle.edit_model.specs.DomModel.Forest.{is_label, either, parent_of, prev_of, next_of}
+use Rattle.edit_model.specs.State.{State}
+use Rattle.inline_value.specs.EditActions.Siblings.{first_parent, members}
+use Rattle.inline_value.specs.WrapSplit.Walks.{is_invisible}
+use Rattle.inline_value.specs.WrapSplit.Wrap.{list_on, if_hidden, all_hidden, extended_front, hidden_after, first_visible, last_visible}
 use Rattle.caret_laws.proofs.BlindRuns.{kept}
 
 -- ---- siblings

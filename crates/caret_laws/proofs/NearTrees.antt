@@ -5,30 +5,30 @@ use Rattle.std.specs.Prelude.{unwrap_or}
 use Rattle.std.specs.List.{list_any}
 use Rattle.std.specs.Option.{option_or}
 use Rattle.std.proofs.lemmas.Bool.Decides.{eqb_tells}
-use Rattle.edit_commands.specs.DomModel.declared.Content.{Content}
-use Rattle.edit_commands.specs.DomModel.Forest.{Forest, count_of, tree_of, parent_of, content_of, IsDistinct, IsWithin, depth_of}
-use Rattle.edit_commands.specs.DomModel.Forest.Forest.{Nil, Tree}
-use Rattle.edit_commands.proofs.DomModel.Totals.{total-without}
-use Rattle.edit_commands.proofs.DomModel.Walks.{document_first}
-use Rattle.edit_commands.proofs.DomModel.Within.{within_parent, depth_of-parent}
-use Rattle.edit_commands.specs.NodeStyles.Blocks.{own_or_inline, has_no_box, is_hidden}
-use Rattle.edit_commands.specs.NodeStyles.Lineage.{Ancestor, lineage_from, lineage, has_in_lineage}
-use Rattle.edit_commands.proofs.NodeStyles.Lineages.{lineage_absent, lineage-root, lineage-child}
-use Rattle.edit_commands.specs.EditModel.State.{State}
-use Rattle.edit_commands.specs.EditModel.Confined.{is_open, may_remove}
-use Rattle.edit_commands.specs.EditModel.History.{begun}
-use Rattle.edit_commands.specs.EditModel.Outside.{hollowed, IsConfined}
-use Rattle.edit_commands.specs.EditModel.Run.{Reaches, reaches_trans, Run, final}
-use Rattle.edit_commands.specs.EditModel.Valid.{IsForest, IsValid}
-use Rattle.edit_commands.proofs.EditModel.CommandParts.{command_along}
-use Rattle.edit_commands.proofs.EditModel.Commands.{valid_begun, confined_begun, command_confined}
-use Rattle.edit_commands.proofs.EditModel.IslandRuns.{content_at}
-use Rattle.edit_commands.proofs.EditModel.OutsideRuns.{open_out, outside_along, rim}
-use Rattle.edit_commands.proofs.EditModel.Tests.{removes}
-use Rattle.edit_commands.proofs.EditModel.Trees.{none_or_some}
-use Rattle.edit_commands.proofs.EditModel.ValidRuns.{valid_along}
-use Rattle.command_laws.specs.EditLaws.InHost.{IsNear}
-use Rattle.command_laws.proofs.EditLaws.Nearness.{near_child, near_parent}
+use Rattle.edit_model.specs.DomModel.declared.Content.{Content}
+use Rattle.edit_model.specs.DomModel.Forest.{Forest, count_of, tree_of, parent_of, content_of, IsDistinct, IsWithin, depth_of}
+use Rattle.edit_model.specs.DomModel.Forest.Forest.{Nil, Tree}
+use Rattle.edit_model.proofs.DomModel.Totals.{total-without}
+use Rattle.edit_model.proofs.DomModel.Walks.{document_first}
+use Rattle.edit_model.proofs.DomModel.Within.{within_parent, depth_of-parent}
+use Rattle.inline_value.specs.NodeStyles.Blocks.{own_or_inline, has_no_box, is_hidden}
+use Rattle.inline_value.specs.NodeStyles.Lineage.{Ancestor, lineage_from, lineage, has_in_lineage}
+use Rattle.inline_value.proofs.NodeStyles.Lineages.{lineage_absent, lineage-root, lineage-child}
+use Rattle.edit_model.specs.State.{State}
+use Rattle.edit_model.specs.Confined.{is_open, may_remove}
+use Rattle.edit_model.specs.History.{begun}
+use Rattle.edit_model.specs.Outside.{hollowed, IsConfined}
+use Rattle.edit_model.specs.Run.{Reaches, reaches_trans, Run, final}
+use Rattle.edit_model.specs.Valid.{IsForest, IsValid}
+use Rattle.edit_model.proofs.CommandParts.{command_along}
+use Rattle.edit_model.proofs.Commands.{valid_begun, confined_begun, command_confined}
+use Rattle.edit_model.proofs.IslandRuns.{content_at}
+use Rattle.edit_model.proofs.OutsideRuns.{open_out, outside_along, rim}
+use Rattle.edit_model.proofs.Tests.{removes}
+use Rattle.edit_model.proofs.Trees.{none_or_some}
+use Rattle.edit_model.proofs.ValidRuns.{valid_along}
+use Rattle.edit_laws.specs.InHost.{IsNear}
+use Rattle.edit_laws.proofs.Nearness.{near_child, near_parent}
 use Rattle.caret_laws.proofs.InsideRuns.{Began, top_known}
 use Rattle.caret_laws.proofs.Unseen.{hides, Appears}
 

@@ -4,16 +4,16 @@ use Rattle.std.specs.List.{filter}
 use Rattle.std.proofs.lemmas.Bool.{cases_Bool, eq-eqb, ne_eqb}
 use Rattle.std.proofs.lemmas.Bool.Decides.{eqb_tells}
 use Rattle.std.proofs.lemmas.List.Elements.{filter-append}
-use Rattle.edit_commands.specs.DomModel.declared.Content.{Content}
-use Rattle.edit_commands.specs.DomModel.Forest.{Forest, Seen, seek, tops, is_label, count_of, put_before, put_under, IsDistinct}
-use Rattle.edit_commands.specs.DomModel.Forest.Forest.{Nil, Tree}
-use Rattle.edit_commands.specs.DomModel.Revised.{revised}
-use Rattle.edit_commands.proofs.DomModel.Stands.{seek_absent}
-use Rattle.edit_commands.proofs.DomModel.Totals.{put_under_nowhere}
-use Rattle.edit_commands.specs.EditModel.Kept.{Leaf, Letter, borne_by, leaves}
-use Rattle.edit_commands.proofs.EditModel.Trees.{none_or_some}
-use Rattle.command_laws.proofs.EditLaws.Leaves.{leaves-Nil, leaves-Tree, leaves-join}
-use Rattle.command_laws.proofs.EditLaws.Splitting.{revised_none}
+use Rattle.edit_model.specs.DomModel.declared.Content.{Content}
+use Rattle.edit_model.specs.DomModel.Forest.{Forest, Seen, seek, tops, is_label, count_of, put_before, put_under, IsDistinct}
+use Rattle.edit_model.specs.DomModel.Forest.Forest.{Nil, Tree}
+use Rattle.edit_model.specs.DomModel.Revised.{revised}
+use Rattle.edit_model.proofs.DomModel.Stands.{seek_absent}
+use Rattle.edit_model.proofs.DomModel.Totals.{put_under_nowhere}
+use Rattle.edit_model.specs.Kept.{Leaf, Letter, borne_by, leaves}
+use Rattle.edit_model.proofs.Trees.{none_or_some}
+use Rattle.edit_laws.proofs.Leaves.{leaves-Nil, leaves-Tree, leaves-join}
+use Rattle.edit_laws.proofs.Splitting.{revised_none}
 use Rattle.caret_laws.specs.SolidOrder.{is_solid, OneMore}
 use Rattle.caret_laws.proofs.Solid.{put}
 

@@ -2,15 +2,15 @@
 use Rattle.std.proofs.Common.{◌≡◌, ◌≢◌, ℕ, ◌+◌, ◌<◌, ◌≤◌, true, false, cond, eqb, Option, refl, sym, ap, ◌∙◌, inl, inr, arith}
 use Rattle.std.proofs.lemmas.Bool.{ne_eqb}
 use Rattle.std.proofs.lemmas.Bool.Decides.{eqb_tells}
-use Rattle.edit_commands.specs.DomModel.declared.Content.{Content}
-use Rattle.edit_commands.specs.DomModel.Forest.{Forest, join, count_of, tree_of, without, put_before, put_under, IsDistinct}
-use Rattle.edit_commands.specs.DomModel.Forest.Forest.{Nil, Tree}
-use Rattle.edit_commands.specs.DomModel.Places.{kids_in}
-use Rattle.edit_commands.proofs.DomModel.Totals.{total-without}
-use Rattle.edit_commands.proofs.DomModel.Links.{join-Nil, tree_of_absent}
-use Rattle.edit_commands.proofs.DomModel.DropTree.{without_absent}
-use Rattle.edit_commands.proofs.EditModel.Trees.{none_or_some, tree_of-inside}
-use Rattle.command_laws.proofs.EditLaws.Around.{Around, Here, Below, Past, fill, count_around, off_by}
+use Rattle.edit_model.specs.DomModel.declared.Content.{Content}
+use Rattle.edit_model.specs.DomModel.Forest.{Forest, join, count_of, tree_of, without, put_before, put_under, IsDistinct}
+use Rattle.edit_model.specs.DomModel.Forest.Forest.{Nil, Tree}
+use Rattle.edit_model.specs.DomModel.Places.{kids_in}
+use Rattle.edit_model.proofs.DomModel.Totals.{total-without}
+use Rattle.edit_model.proofs.DomModel.Links.{join-Nil, tree_of_absent}
+use Rattle.edit_model.proofs.DomModel.DropTree.{without_absent}
+use Rattle.edit_model.proofs.Trees.{none_or_some, tree_of-inside}
+use Rattle.edit_laws.proofs.Around.{Around, Here, Below, Past, fill, count_around, off_by}
 
 abbrev pub with_children : Forest Content → ℕ → Forest Content → Forest Content
 with_children Nil p new = Nil

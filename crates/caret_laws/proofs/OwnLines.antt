@@ -4,37 +4,37 @@ use Rattle.std.proofs.Common.{◌≡◌, ◌≢◌, ℕ, ◌<◌, ◌+◌, ◌-�
 use Rattle.std.specs.Option.{option_map, option_map_or, option_and_then}
 use Rattle.std.proofs.lemmas.Bool.{cases_Bool}
 use Rattle.std.proofs.lemmas.Bool.Decides.{eqb_tells}
-use Rattle.edit_commands.specs.DomModel.declared.Content.{Content}
-use Rattle.edit_commands.specs.DomModel.declared.Content.TheVariants.{Document, Element, Words, Remark}
-use Rattle.edit_commands.specs.DomModel.Contents.{name_in, name_of}
-use Rattle.edit_commands.specs.DomModel.Editing.{editing_host, is_editable}
-use Rattle.edit_commands.specs.DomModel.Forest.{Forest, times, parent_of, children_of, next_of, content_of, IsWithin}
-use Rattle.edit_commands.specs.DomModel.Places.{index_of}
-use Rattle.edit_commands.proofs.DomModel.Links.{parent_of-with_leaf}
-use Rattle.edit_commands.proofs.DomModel.Revising.{parent_of-revised}
-use Rattle.edit_commands.proofs.DomModel.Totals.{total-without}
-use Rattle.edit_commands.proofs.DomModel.Within.{within_root}
-use Rattle.edit_commands.specs.LiveRange.declared.places.Point.{Point}
-use Rattle.edit_commands.specs.EditModel.State.{State}
-use Rattle.edit_commands.specs.EditModel.Compositions.{characters_of, points_sent, split_under, split_words}
-use Rattle.edit_commands.specs.EditModel.Confined.{is_editable_for}
-use Rattle.edit_commands.specs.EditModel.Edit.{Edit, Insert, Remove, Move, Replace, Set, Unset, is_made_edit, trees_after, with_replaced, with_set, with_unset, changed}
-use Rattle.edit_commands.specs.EditModel.Action as action
-use Rattle.edit_commands.specs.EditModel.Action.{Action, made, words_content, element_content, extended, acted}
-use Rattle.edit_commands.specs.EditModel.Run.{Reaches, here, onward, Run, ◌>>◌, final, answer, done, send, grow}
-use Rattle.edit_commands.specs.EditModel.Valid.{IsValid}
-use Rattle.edit_commands.proofs.EditModel.Each.{Each, EachOn, each_bind, each_answer, each_look, each_if, each_given, each_edit, each_make_words, each_perform}
-use Rattle.edit_commands.proofs.EditModel.Forests.{fresh}
-use Rattle.edit_commands.proofs.EditModel.Hollow.{editable_below}
-use Rattle.edit_commands.proofs.EditModel.IslandRuns.{trees_made, trees_left}
-use Rattle.edit_commands.proofs.EditModel.OutsideRuns.{trees-extended, trees-selected, trees-grown, trees-sent, trees-scratched}
-use Rattle.edit_commands.proofs.EditModel.Tests.{inserts, label_is}
-use Rattle.edit_commands.proofs.EditModel.ValidRuns.{valid_along}
-use Rattle.command_laws.specs.EditLaws.Kinds as kind
-use Rattle.command_laws.specs.EditLaws.Kinds.{Kind, kind_in, kind_of}
-use Rattle.command_laws.proofs.EditLaws.Fronts.{child_by}
-use Rattle.command_laws.proofs.EditLaws.StayingKinds.{kind_along}
-use Rattle.edit_commands.specs.TextInsertion.Start.{cuts_text}
+use Rattle.edit_model.specs.DomModel.declared.Content.{Content}
+use Rattle.edit_model.specs.DomModel.declared.Content.TheVariants.{Document, Element, Words, Remark}
+use Rattle.edit_model.specs.DomModel.Contents.{name_in, name_of}
+use Rattle.edit_model.specs.DomModel.Editing.{editing_host, is_editable}
+use Rattle.edit_model.specs.DomModel.Forest.{Forest, times, parent_of, children_of, next_of, content_of, IsWithin}
+use Rattle.edit_model.specs.DomModel.Places.{index_of}
+use Rattle.edit_model.proofs.DomModel.Links.{parent_of-with_leaf}
+use Rattle.edit_model.proofs.DomModel.Revising.{parent_of-revised}
+use Rattle.edit_model.proofs.DomModel.Totals.{total-without}
+use Rattle.edit_model.proofs.DomModel.Within.{within_root}
+use Rattle.edit_model.specs.LiveRange.declared.places.Point.{Point}
+use Rattle.edit_model.specs.State.{State}
+use Rattle.edit_model.specs.Compositions.{characters_of, points_sent, split_under, split_words}
+use Rattle.edit_model.specs.Confined.{is_editable_for}
+use Rattle.edit_model.specs.Edit.{Edit, Insert, Remove, Move, Replace, Set, Unset, is_made_edit, trees_after, with_replaced, with_set, with_unset, changed}
+use Rattle.edit_model.specs.Action as action
+use Rattle.edit_model.specs.Action.{Action, made, words_content, element_content, extended, acted}
+use Rattle.edit_model.specs.Run.{Reaches, here, onward, Run, ◌>>◌, final, answer, done, send, grow}
+use Rattle.edit_model.specs.Valid.{IsValid}
+use Rattle.edit_model.proofs.Each.{Each, EachOn, each_bind, each_answer, each_look, each_if, each_given, each_edit, each_make_words, each_perform}
+use Rattle.edit_model.proofs.Forests.{fresh}
+use Rattle.edit_model.proofs.Hollow.{editable_below}
+use Rattle.edit_model.proofs.IslandRuns.{trees_made, trees_left}
+use Rattle.edit_model.proofs.OutsideRuns.{trees-extended, trees-selected, trees-grown, trees-sent, trees-scratched}
+use Rattle.edit_model.proofs.Tests.{inserts, label_is}
+use Rattle.edit_model.proofs.ValidRuns.{valid_along}
+use Rattle.edit_laws.specs.Kinds as kind
+use Rattle.edit_laws.specs.Kinds.{Kind, kind_in, kind_of}
+use Rattle.edit_laws.proofs.Fronts.{child_by}
+use Rattle.edit_laws.proofs.StayingKinds.{kind_along}
+use Rattle.text_insertion.specs.Start.{cuts_text}
 use Rattle.caret_laws.proofs.InsideRuns.{Began, Underway, open_near, near_editable, valid_way, host_way}
 use Rattle.caret_laws.proofs.SameLines.{child_listed}
 use Rattle.caret_laws.proofs.SplitTexts.{cut}

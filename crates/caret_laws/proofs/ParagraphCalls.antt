@@ -2,45 +2,45 @@
 use Rattle.std.proofs.Common.{◌≡◌, ◌≢◌, ℕ, zero, suc, ◌+◌, ◌<◌, Bool, true, false, ◌&&◌, not, if◌then◌else◌, cond, eqb, List, Option, Some, None, refl, sym, ap, subst, ◌∙◌, inl, inr, arith, true≢false}
 use Rattle.std.specs.Option.{option_map, option_map_or, option_and_then}
 use Rattle.std.proofs.lemmas.Bool.{cases_Bool, eq-eqb, ne_eqb, lt-ltb, le-ltb, le-leb}
-use Rattle.edit_commands.specs.DomModel.declared.Content.{Content}
-use Rattle.edit_commands.specs.DomModel.declared.attributes.Attribute.{Attribute}
-use Rattle.edit_commands.specs.DomModel.Contents.{is_parent_at, may_have_children, length_of}
-use Rattle.edit_commands.specs.DomModel.Editing.{editing_host, is_editable}
-use Rattle.edit_commands.specs.DomModel.Forest.{Forest, Seen, is_label, count_of, tree_of, parent_of, next_of, link, IsWithin, CanPut}
-use Rattle.edit_commands.specs.DomModel.Places.{index_of}
-use Rattle.edit_commands.proofs.DomModel.Kept.{content_of-link, content_of-with_leaf_new, content_of-with_leaf_other}
-use Rattle.edit_commands.proofs.DomModel.Links.{parent_count, parent_of-with_leaf, total-with_leaf, seek-with_leaf_new, tree_of_absent}
-use Rattle.edit_commands.proofs.DomModel.Move.{parent_apart}
-use Rattle.edit_commands.proofs.DomModel.Neighbours.{parent_of-next}
-use Rattle.edit_commands.proofs.DomModel.Hosts.{editing_host-root}
-use Rattle.edit_commands.proofs.DomModel.Totals.{total-without}
-use Rattle.edit_commands.proofs.DomModel.Within.{within_self, within_up}
-use Rattle.edit_commands.specs.LiveRange.declared.places.Point.{Point}
-use Rattle.edit_commands.specs.PointOrder.PointOrder.{is_within}
-use Rattle.edit_commands.specs.EditModel.State.{State}
-use Rattle.edit_commands.specs.EditModel.Confined.{is_editable_for, is_made, is_open, is_place, may_insert}
-use Rattle.edit_commands.specs.EditModel.Edit.{Insert, is_made_edit, trees_after, edited}
-use Rattle.edit_commands.specs.EditModel.Action as action
-use Rattle.edit_commands.specs.EditModel.Action.{made, element_content, acted, may_extract}
-use Rattle.edit_commands.specs.EditModel.Laws.{LeavesStates}
-use Rattle.edit_commands.specs.EditModel.Moves.{insert_after}
-use Rattle.edit_commands.specs.EditModel.Run.{onward, final}
-use Rattle.edit_commands.specs.EditModel.Valid.{IsForest, IsValid}
-use Rattle.edit_commands.proofs.EditModel.Documents.{within-link, within-with_leaf, within_above, has_children}
-use Rattle.edit_commands.proofs.EditModel.Forests.{fresh}
-use Rattle.edit_commands.proofs.EditModel.Hollow.{editable_below}
-use Rattle.edit_commands.proofs.EditModel.IslandRuns.{trees_made, trees_left}
-use Rattle.edit_commands.proofs.EditModel.Islands.{link_elsewhere}
-use Rattle.edit_commands.proofs.EditModel.Steps.{final-bind, final-look, final-answer, final-edit}
-use Rattle.edit_commands.proofs.EditModel.TailForests.{away-link, away-with_leaf, holds-link}
-use Rattle.edit_commands.proofs.EditModel.TailPossible.{both}
-use Rattle.edit_commands.proofs.EditModel.Tests.{inserts, label_is}
-use Rattle.edit_commands.proofs.EditModel.Trees.{none_or_some, within_trans, tree_of-with_leaf_other}
-use Rattle.command_laws.proofs.EditLaws.Hosts.{parent_inside}
-use Rattle.edit_commands.specs.DeleteCore.Places.{before_node, after_node, led_on, walk_points}
-use Rattle.edit_commands.specs.WrapSplit.Walks.{turn_bound}
-use Rattle.edit_commands.specs.TextInsertion.Halves.{leave_start, leave_end, outer_start, outer_end, parting_point}
-use Rattle.edit_commands.specs.InlineValue.Ancestors.{is_prohibited}
+use Rattle.edit_model.specs.DomModel.declared.Content.{Content}
+use Rattle.edit_model.specs.DomModel.declared.attributes.Attribute.{Attribute}
+use Rattle.edit_model.specs.DomModel.Contents.{is_parent_at, may_have_children, length_of}
+use Rattle.edit_model.specs.DomModel.Editing.{editing_host, is_editable}
+use Rattle.edit_model.specs.DomModel.Forest.{Forest, Seen, is_label, count_of, tree_of, parent_of, next_of, link, IsWithin, CanPut}
+use Rattle.edit_model.specs.DomModel.Places.{index_of}
+use Rattle.edit_model.proofs.DomModel.Kept.{content_of-link, content_of-with_leaf_new, content_of-with_leaf_other}
+use Rattle.edit_model.proofs.DomModel.Links.{parent_count, parent_of-with_leaf, total-with_leaf, seek-with_leaf_new, tree_of_absent}
+use Rattle.edit_model.proofs.DomModel.Move.{parent_apart}
+use Rattle.edit_model.proofs.DomModel.Neighbours.{parent_of-next}
+use Rattle.edit_model.proofs.DomModel.Hosts.{editing_host-root}
+use Rattle.edit_model.proofs.DomModel.Totals.{total-without}
+use Rattle.edit_model.proofs.DomModel.Within.{within_self, within_up}
+use Rattle.edit_model.specs.LiveRange.declared.places.Point.{Point}
+use Rattle.edit_model.specs.PointOrder.PointOrder.{is_within}
+use Rattle.edit_model.specs.State.{State}
+use Rattle.edit_model.specs.Confined.{is_editable_for, is_made, is_open, is_place, may_insert}
+use Rattle.edit_model.specs.Edit.{Insert, is_made_edit, trees_after, edited}
+use Rattle.edit_model.specs.Action as action
+use Rattle.edit_model.specs.Action.{made, element_content, acted, may_extract}
+use Rattle.edit_model.specs.Laws.{LeavesStates}
+use Rattle.edit_model.specs.Moves.{insert_after}
+use Rattle.edit_model.specs.Run.{onward, final}
+use Rattle.edit_model.specs.Valid.{IsForest, IsValid}
+use Rattle.edit_model.proofs.Documents.{within-link, within-with_leaf, within_above, has_children}
+use Rattle.edit_model.proofs.Forests.{fresh}
+use Rattle.edit_model.proofs.Hollow.{editable_below}
+use Rattle.edit_model.proofs.IslandRuns.{trees_made, trees_left}
+use Rattle.edit_model.proofs.Islands.{link_elsewhere}
+use Rattle.edit_model.proofs.Steps.{final-bind, final-look, final-answer, final-edit}
+use Rattle.edit_model.proofs.TailForests.{away-link, away-with_leaf, holds-link}
+use Rattle.edit_model.proofs.TailPossible.{both}
+use Rattle.edit_model.proofs.Tests.{inserts, label_is}
+use Rattle.edit_model.proofs.Trees.{none_or_some, within_trans, tree_of-with_leaf_other}
+use Rattle.edit_laws.proofs.Hosts.{parent_inside}
+use Rattle.delete_core.specs.Places.{before_node, after_node, led_on, walk_points}
+use Rattle.inline_value.specs.WrapSplit.Walks.{turn_bound}
+use Rattle.text_insertion.specs.Halves.{leave_start, leave_end, outer_start, outer_end, parting_point}
+use Rattle.inline_value.specs.Ancestors.{is_prohibited}
 use Rattle.caret_laws.proofs.InsideRuns.{Began, Underway, Near, open_near, near_editable, valid_way, host_way, start_way, keeping_way}
 use Rattle.caret_laws.proofs.Trees.{inside_open, editable_open}
 

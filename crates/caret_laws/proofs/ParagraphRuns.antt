@@ -3,43 +3,43 @@ use Rattle.std.proofs.Common.{◌≡◌, ◌≢◌, ◌⊎◌, ℕ, zero, suc, �
 use Rattle.std.specs.Prelude.{nat_lt, codes}
 use Rattle.std.specs.Option.{option_map_or}
 use Rattle.std.proofs.lemmas.Bool.{and_parts, cases_Bool, lt-ltb, le-ltb, ltb-true, le-leb}
-use Rattle.edit_commands.specs.DomModel.AttributeList.{unset_in}
-use Rattle.edit_commands.specs.DomModel.declared.attributes.Attribute.{Attribute}
-use Rattle.edit_commands.specs.DomModel.Editing.{editing_host, is_editable}
-use Rattle.edit_commands.specs.DomModel.Forest.{count_of, tree_of, IsWithin}
-use Rattle.edit_commands.proofs.DomModel.Totals.{total-without}
-use Rattle.edit_commands.proofs.DomModel.Within.{within_self}
-use Rattle.edit_commands.specs.LiveRange.declared.places.Point.{Point}
-use Rattle.edit_commands.specs.LiveRange.declared.places.Pair.{Pair}
-use Rattle.edit_commands.specs.NodeStyles.NameClasses.{is_single_line}
-use Rattle.edit_commands.specs.PointOrder.PointOrder.{is_within}
-use Rattle.edit_commands.specs.EditModel.State.{State}
-use Rattle.edit_commands.specs.EditModel.Compositions.{attribute_list_of}
-use Rattle.edit_commands.specs.EditModel.Confined.{is_editable_for, is_made}
-use Rattle.edit_commands.specs.EditModel.Action as action
-use Rattle.edit_commands.specs.EditModel.Action.{made, element_content, acted, extracted}
-use Rattle.edit_commands.specs.EditModel.History.{begun}
-use Rattle.edit_commands.specs.EditModel.Laws.{LeavesStates}
-use Rattle.edit_commands.specs.EditModel.Moves.{insert_after}
-use Rattle.edit_commands.specs.EditModel.Run.{◌>>=◌, ◌>>◌, final, value, answer, done, given}
-use Rattle.edit_commands.specs.EditModel.Valid.{IsValid}
-use Rattle.edit_commands.proofs.EditModel.Hollow.{editable_below}
-use Rattle.edit_commands.proofs.EditModel.OwnRoots.{holder_inside}
-use Rattle.edit_commands.proofs.EditModel.Points.{Placed}
-use Rattle.edit_commands.proofs.EditModel.Steps.{final-bind, value-bind, final-look, value-look, final-answer, value-answer, final-perform, final-make_element, value-make_element, next_along}
-use Rattle.edit_commands.proofs.EditModel.Tests.{label_is, parent_there}
-use Rattle.edit_commands.proofs.EditModel.Trees.{within_trans}
-use Rattle.edit_commands.proofs.EditModel.ValidRuns.{final_valid}
+use Rattle.edit_model.specs.DomModel.AttributeList.{unset_in}
+use Rattle.edit_model.specs.DomModel.declared.attributes.Attribute.{Attribute}
+use Rattle.edit_model.specs.DomModel.Editing.{editing_host, is_editable}
+use Rattle.edit_model.specs.DomModel.Forest.{count_of, tree_of, IsWithin}
+use Rattle.edit_model.proofs.DomModel.Totals.{total-without}
+use Rattle.edit_model.proofs.DomModel.Within.{within_self}
+use Rattle.edit_model.specs.LiveRange.declared.places.Point.{Point}
+use Rattle.edit_model.specs.LiveRange.declared.places.Pair.{Pair}
+use Rattle.inline_value.specs.NodeStyles.NameClasses.{is_single_line}
+use Rattle.edit_model.specs.PointOrder.PointOrder.{is_within}
+use Rattle.edit_model.specs.State.{State}
+use Rattle.edit_model.specs.Compositions.{attribute_list_of}
+use Rattle.edit_model.specs.Confined.{is_editable_for, is_made}
+use Rattle.edit_model.specs.Action as action
+use Rattle.edit_model.specs.Action.{made, element_content, acted, extracted}
+use Rattle.edit_model.specs.History.{begun}
+use Rattle.edit_model.specs.Laws.{LeavesStates}
+use Rattle.edit_model.specs.Moves.{insert_after}
+use Rattle.edit_model.specs.Run.{◌>>=◌, ◌>>◌, final, value, answer, done, given}
+use Rattle.edit_model.specs.Valid.{IsValid}
+use Rattle.edit_model.proofs.Hollow.{editable_below}
+use Rattle.edit_model.proofs.OwnRoots.{holder_inside}
+use Rattle.edit_model.proofs.Points.{Placed}
+use Rattle.edit_model.proofs.Steps.{final-bind, value-bind, final-look, value-look, final-answer, value-answer, final-perform, final-make_element, value-make_element, next_along}
+use Rattle.edit_model.proofs.Tests.{label_is, parent_there}
+use Rattle.edit_model.proofs.Trees.{within_trans}
+use Rattle.edit_model.proofs.ValidRuns.{final_valid}
 use Rattle.command_laws.proofs.NewWraps.{new_wrap}
 use Rattle.command_laws.proofs.NoStates.{editable_unstated, unstated_without_id}
-use Rattle.edit_commands.specs.WrapSplit.declared.rule.Criterion.TheVariants.{Never}
-use Rattle.edit_commands.specs.WrapSplit.declared.rule.Recipe.TheVariants.{Make}
-use Rattle.edit_commands.specs.WrapSplit.Wrap.{wrap}
-use Rattle.edit_commands.specs.TextInsertion.Containers.{plain_container, contents_from, insert_container, takes_container, add_container, wrap_line, first_content, make_line, is_own_container, container_of, own_container}
-use Rattle.edit_commands.specs.TextInsertion.Entries.{is_empty_entry, leave_list}
-use Rattle.edit_commands.specs.TextInsertion.Halves.{parting_point, second_name, make_second, close_both, part_at, part_container}
-use Rattle.edit_commands.specs.TextInsertion.Paragraph.{split_text, holds_lines, break_line, part_line, part_line_if, part_paragraph, insert_paragraph_inside}
-use Rattle.edit_commands.specs.TextInsertion.Start.{active_start, start_inside}
+use Rattle.inline_value.specs.WrapSplit.declared.rule.Criterion.TheVariants.{Never}
+use Rattle.inline_value.specs.WrapSplit.declared.rule.Recipe.TheVariants.{Make}
+use Rattle.inline_value.specs.WrapSplit.Wrap.{wrap}
+use Rattle.text_insertion.specs.Containers.{plain_container, contents_from, insert_container, takes_container, add_container, wrap_line, first_content, make_line, is_own_container, container_of, own_container}
+use Rattle.text_insertion.specs.Entries.{is_empty_entry, leave_list}
+use Rattle.text_insertion.specs.Halves.{parting_point, second_name, make_second, close_both, part_at, part_container}
+use Rattle.text_insertion.specs.Paragraph.{split_text, holds_lines, break_line, part_line, part_line_if, part_paragraph, insert_paragraph_inside}
+use Rattle.text_insertion.specs.Start.{active_start, start_inside}
 use Rattle.caret_laws.specs.SingleEdits.{extracted_singly}
 use Rattle.caret_laws.specs.SingleParagraph.{second_put, parted_at, container_parted, line_parted, line_parted_if, paragraph_parted, inside_parted}
 use Rattle.caret_laws.proofs.InsideRuns.{Began, Underway, open_near, near_editable, valid_way, host_way, start_way}

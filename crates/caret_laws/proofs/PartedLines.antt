@@ -4,45 +4,45 @@ use Rattle.std.specs.Prelude.{codes, unwrap_or}
 use Rattle.std.specs.Option.{option_map, option_map_or, option_and_then}
 use Rattle.std.proofs.lemmas.Bool.{and_parts, or_cases, cases_Bool}
 use Rattle.std.proofs.lemmas.Slice.Eq.{bytes_eq-Decides}
-use Rattle.edit_commands.specs.DomModel.declared.Content.{Content}
-use Rattle.edit_commands.specs.DomModel.declared.Content.TheVariants.{Document, Element, Words, Remark}
-use Rattle.edit_commands.specs.DomModel.Contents.{is_parent_at, has_chars, has_chars_at, length_of, name_in}
-use Rattle.edit_commands.specs.DomModel.Editing.{is_true_state, is_host}
-use Rattle.edit_commands.specs.DomModel.Forest.{is_label, tree_of, parent_of, content_of, IsWithin}
-use Rattle.edit_commands.specs.DomModel.Places.{index_of}
-use Rattle.edit_commands.proofs.DomModel.Totals.{total-without}
-use Rattle.edit_commands.proofs.DomModel.Within.{within_child}
-use Rattle.edit_commands.specs.HtmlNames.ElementNames.{is_non_list_single_line_container, is_single_line_container, non_list_container_names, list_container_names}
-use Rattle.edit_commands.specs.LiveRange.declared.places.Point.{Point}
-use Rattle.edit_commands.specs.NodeStyles.NameClasses.{is_single_line}
-use Rattle.edit_commands.specs.NodeTests.CollapsedWhitespace.{is_words_content, is_words}
-use Rattle.edit_commands.specs.EditModel.State.{State}
-use Rattle.edit_commands.specs.EditModel.Compositions.{split_words}
-use Rattle.edit_commands.specs.EditModel.Confined.{is_editable_for, is_inside, may_select}
-use Rattle.edit_commands.specs.EditModel.Edit.{changed}
-use Rattle.edit_commands.specs.EditModel.Kept.{is_thing}
-use Rattle.edit_commands.specs.EditModel.Action as action
-use Rattle.edit_commands.specs.EditModel.Action.{with_selection, selected, acted}
-use Rattle.edit_commands.specs.EditModel.History.{begun}
-use Rattle.edit_commands.specs.EditModel.Run.{here, ◌>>=◌, ◌>>◌, final, value, answer, done, given, collapse}
-use Rattle.edit_commands.specs.EditModel.Valid.{IsValid}
-use Rattle.edit_commands.proofs.EditModel.OutsideRuns.{trees-selected}
-use Rattle.edit_commands.proofs.EditModel.OwnRoots.{holder_inside}
-use Rattle.edit_commands.proofs.EditModel.Steps.{final-bind, value-bind, final-look, value-look, final-answer, value-answer, final-perform}
-use Rattle.edit_commands.proofs.EditModel.Tests.{label_is}
-use Rattle.edit_commands.proofs.EditModel.ValidRuns.{final_valid}
-use Rattle.command_laws.specs.EditLaws.Order.{KeepsOrder}
-use Rattle.command_laws.proofs.EditLaws.QuietActions.{same_trees}
-use Rattle.command_laws.proofs.EditLaws.Subsequences.{keeps_refl, keeps_trans}
+use Rattle.edit_model.specs.DomModel.declared.Content.{Content}
+use Rattle.edit_model.specs.DomModel.declared.Content.TheVariants.{Document, Element, Words, Remark}
+use Rattle.edit_model.specs.DomModel.Contents.{is_parent_at, has_chars, has_chars_at, length_of, name_in}
+use Rattle.edit_model.specs.DomModel.Editing.{is_true_state, is_host}
+use Rattle.edit_model.specs.DomModel.Forest.{is_label, tree_of, parent_of, content_of, IsWithin}
+use Rattle.edit_model.specs.DomModel.Places.{index_of}
+use Rattle.edit_model.proofs.DomModel.Totals.{total-without}
+use Rattle.edit_model.proofs.DomModel.Within.{within_child}
+use Rattle.edit_model.specs.HtmlNames.ElementNames.{is_non_list_single_line_container, is_single_line_container, non_list_container_names, list_container_names}
+use Rattle.edit_model.specs.LiveRange.declared.places.Point.{Point}
+use Rattle.inline_value.specs.NodeStyles.NameClasses.{is_single_line}
+use Rattle.inline_value.specs.NodeTests.CollapsedWhitespace.{is_words_content, is_words}
+use Rattle.edit_model.specs.State.{State}
+use Rattle.edit_model.specs.Compositions.{split_words}
+use Rattle.edit_model.specs.Confined.{is_editable_for, is_inside, may_select}
+use Rattle.edit_model.specs.Edit.{changed}
+use Rattle.edit_model.specs.Kept.{is_thing}
+use Rattle.edit_model.specs.Action as action
+use Rattle.edit_model.specs.Action.{with_selection, selected, acted}
+use Rattle.edit_model.specs.History.{begun}
+use Rattle.edit_model.specs.Run.{here, ◌>>=◌, ◌>>◌, final, value, answer, done, given, collapse}
+use Rattle.edit_model.specs.Valid.{IsValid}
+use Rattle.edit_model.proofs.OutsideRuns.{trees-selected}
+use Rattle.edit_model.proofs.OwnRoots.{holder_inside}
+use Rattle.edit_model.proofs.Steps.{final-bind, value-bind, final-look, value-look, final-answer, value-answer, final-perform}
+use Rattle.edit_model.proofs.Tests.{label_is}
+use Rattle.edit_model.proofs.ValidRuns.{final_valid}
+use Rattle.edit_laws.specs.Order.{KeepsOrder}
+use Rattle.edit_laws.proofs.QuietActions.{same_trees}
+use Rattle.edit_laws.proofs.Subsequences.{keeps_refl, keeps_trans}
 use Rattle.command_laws.proofs.DeleteRuns.{steady_erase}
-use Rattle.edit_commands.specs.DeleteCore.declared.deletion.TheConstants.Manner.{DEFAULT}
-use Rattle.edit_commands.specs.DeleteCore.Places.{at, before_node, after_node}
-use Rattle.edit_commands.specs.InlineValue.Ancestors.{is_description}
-use Rattle.edit_commands.specs.TextInsertion.Containers.{container_of, is_own_container, own_container, make_line}
-use Rattle.edit_commands.specs.TextInsertion.Entries.{is_entry, has_sole_break, is_empty_entry, leave_list}
-use Rattle.edit_commands.specs.TextInsertion.Halves.{parting_point, part_at, part_container}
-use Rattle.edit_commands.specs.TextInsertion.Paragraph.{out_of_text, left_text, leave_text, split_text, holds_lines, break_line, part_line, part_line_if, part_paragraph, insert_paragraph_inside, insert_paragraph}
-use Rattle.edit_commands.specs.TextInsertion.Start.{active_start, if_point_inside, start_inside, erase, cuts_text}
+use Rattle.delete_core.specs.declared.deletion.TheConstants.Manner.{DEFAULT}
+use Rattle.delete_core.specs.Places.{at, before_node, after_node}
+use Rattle.inline_value.specs.Ancestors.{is_description}
+use Rattle.text_insertion.specs.Containers.{container_of, is_own_container, own_container, make_line}
+use Rattle.text_insertion.specs.Entries.{is_entry, has_sole_break, is_empty_entry, leave_list}
+use Rattle.text_insertion.specs.Halves.{parting_point, part_at, part_container}
+use Rattle.text_insertion.specs.Paragraph.{out_of_text, left_text, leave_text, split_text, holds_lines, break_line, part_line, part_line_if, part_paragraph, insert_paragraph_inside, insert_paragraph}
+use Rattle.text_insertion.specs.Start.{active_start, if_point_inside, start_inside, erase, cuts_text}
 use Rattle.caret_laws.specs.ParagraphOrder.{StandsInNoThing, HasOwnLine, StandsInNoEmptyEntry}
 use Rattle.caret_laws.specs.SolidOrder.{KeepsOrderUpToBlanks, StandsAt, HasRoom}
 use Rattle.caret_laws.specs.TailLaws.{is_thing_at, AmidNoThing}

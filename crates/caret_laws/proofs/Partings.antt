@@ -5,51 +5,51 @@ use Rattle.std.specs.Prelude.{codes, unwrap_or}
 use Rattle.std.specs.Option.{option_map_or, option_and_then}
 use Rattle.std.proofs.lemmas.Bool.{cases_Bool, ne_eqb}
 use Rattle.std.proofs.lemmas.Bool.Decides.{eqb_tells}
-use Rattle.edit_commands.specs.DomModel.AttributeList.{unset_in}
-use Rattle.edit_commands.specs.DomModel.declared.Content.{Content}
-use Rattle.edit_commands.specs.DomModel.declared.attributes.Attribute.{Attribute}
-use Rattle.edit_commands.specs.DomModel.Contents.{is_parent_at, has_name, name_in, name_of}
-use Rattle.edit_commands.specs.DomModel.Forest.{Forest, Seen, is_label, times, first_in, after_in, prior_from, prior_in, count_of, tree_of, parent_of, children_of, next_of, content_of, link, IsDistinct, IsWithin, CanPut}
-use Rattle.edit_commands.specs.DomModel.Forest.Forest.{Nil, Tree}
-use Rattle.edit_commands.proofs.DomModel.Kept.{content_of-link, content_of-with_leaf_other}
-use Rattle.edit_commands.proofs.DomModel.Links.{seen, eqb_refl_true, parent_count, child_of_parent, times-children_of, next_of-link}
-use Rattle.edit_commands.proofs.DomModel.Lists.{is_label_after}
-use Rattle.edit_commands.proofs.DomModel.Move.{parent_apart}
-use Rattle.edit_commands.proofs.DomModel.Totals.{total-without}
-use Rattle.edit_commands.proofs.DomModel.Within.{within_self}
-use Rattle.edit_commands.specs.LiveRange.declared.places.Point.{Point}
-use Rattle.edit_commands.specs.EditModel.State.{State}
-use Rattle.edit_commands.specs.EditModel.Compositions.{tag_of, attribute_list_of}
-use Rattle.edit_commands.specs.EditModel.Edit.{Insert, is_made_edit, trees_after, edited}
-use Rattle.edit_commands.specs.EditModel.Kept.{leaves, is_thing}
-use Rattle.edit_commands.specs.EditModel.Action as action
-use Rattle.edit_commands.specs.EditModel.Action.{made, element_content, selected, stepped_all, tail_of, may_extract, extracted, acted}
-use Rattle.edit_commands.specs.EditModel.Moves.{make_break, insert_after}
-use Rattle.edit_commands.specs.EditModel.Run.{◌>>=◌, ◌>>◌, final, value, done, make_element, insert, collapse}
-use Rattle.edit_commands.specs.EditModel.Valid.{IsValid}
-use Rattle.edit_commands.proofs.EditModel.Forests.{fresh}
-use Rattle.edit_commands.proofs.EditModel.IslandRuns.{trees_made, trees_left}
-use Rattle.edit_commands.proofs.EditModel.Islands.{link_elsewhere}
-use Rattle.edit_commands.proofs.EditModel.OutsideRuns.{trees-selected}
-use Rattle.edit_commands.proofs.EditModel.Points.{Placed}
-use Rattle.edit_commands.proofs.EditModel.Steps.{final-bind, final-look, value-look, final-answer, final-edit, final-perform, final-make_element, value-make_element}
-use Rattle.edit_commands.proofs.EditModel.TailSteps.{either_extracted, extract_tests}
-use Rattle.edit_commands.proofs.EditModel.Tests.{inserts, parent_there}
-use Rattle.edit_commands.proofs.EditModel.Trees.{none_or_some, within_trans, tree_of-with_leaf_other}
-use Rattle.edit_commands.proofs.EditModel.ValidRuns.{valid_acted, final_valid}
-use Rattle.command_laws.specs.EditLaws.Order.{KeepsOrder}
-use Rattle.command_laws.proofs.EditLaws.NewElements.{new_bare}
-use Rattle.command_laws.proofs.EditLaws.QuietActions.{same_trees}
-use Rattle.command_laws.proofs.EditLaws.Renaming.{new_loose}
-use Rattle.command_laws.proofs.EditLaws.Subsequences.{keeps_same, keeps_refl, keeps_trans}
-use Rattle.edit_commands.specs.WrapSplit.Breaks.{last_below}
-use Rattle.edit_commands.specs.WrapSplit.Wrap.{append_break}
-use Rattle.edit_commands.specs.DeleteCore.Erasing.{shows_child}
-use Rattle.edit_commands.specs.DeleteCore.Places.{at, start_in}
-use Rattle.edit_commands.specs.EditQuery.Rows.{container_name}
-use Rattle.edit_commands.specs.TextInsertion.Halves.{parting_point, ends_line, is_heading_at, name_after, second_name, make_second, deepest_last, fill_hidden, close_both, part_at}
-use Rattle.edit_commands.specs.TextInsertion.Paragraph.{break_line}
-use Rattle.edit_commands.specs.TextInsertion.Start.{insert_at_start}
+use Rattle.edit_model.specs.DomModel.AttributeList.{unset_in}
+use Rattle.edit_model.specs.DomModel.declared.Content.{Content}
+use Rattle.edit_model.specs.DomModel.declared.attributes.Attribute.{Attribute}
+use Rattle.edit_model.specs.DomModel.Contents.{is_parent_at, has_name, name_in, name_of}
+use Rattle.edit_model.specs.DomModel.Forest.{Forest, Seen, is_label, times, first_in, after_in, prior_from, prior_in, count_of, tree_of, parent_of, children_of, next_of, content_of, link, IsDistinct, IsWithin, CanPut}
+use Rattle.edit_model.specs.DomModel.Forest.Forest.{Nil, Tree}
+use Rattle.edit_model.proofs.DomModel.Kept.{content_of-link, content_of-with_leaf_other}
+use Rattle.edit_model.proofs.DomModel.Links.{seen, eqb_refl_true, parent_count, child_of_parent, times-children_of, next_of-link}
+use Rattle.edit_model.proofs.DomModel.Lists.{is_label_after}
+use Rattle.edit_model.proofs.DomModel.Move.{parent_apart}
+use Rattle.edit_model.proofs.DomModel.Totals.{total-without}
+use Rattle.edit_model.proofs.DomModel.Within.{within_self}
+use Rattle.edit_model.specs.LiveRange.declared.places.Point.{Point}
+use Rattle.edit_model.specs.State.{State}
+use Rattle.edit_model.specs.Compositions.{tag_of, attribute_list_of}
+use Rattle.edit_model.specs.Edit.{Insert, is_made_edit, trees_after, edited}
+use Rattle.edit_model.specs.Kept.{leaves, is_thing}
+use Rattle.edit_model.specs.Action as action
+use Rattle.edit_model.specs.Action.{made, element_content, selected, stepped_all, tail_of, may_extract, extracted, acted}
+use Rattle.edit_model.specs.Moves.{make_break, insert_after}
+use Rattle.edit_model.specs.Run.{◌>>=◌, ◌>>◌, final, value, done, make_element, insert, collapse}
+use Rattle.edit_model.specs.Valid.{IsValid}
+use Rattle.edit_model.proofs.Forests.{fresh}
+use Rattle.edit_model.proofs.IslandRuns.{trees_made, trees_left}
+use Rattle.edit_model.proofs.Islands.{link_elsewhere}
+use Rattle.edit_model.proofs.OutsideRuns.{trees-selected}
+use Rattle.edit_model.proofs.Points.{Placed}
+use Rattle.edit_model.proofs.Steps.{final-bind, final-look, value-look, final-answer, final-edit, final-perform, final-make_element, value-make_element}
+use Rattle.edit_model.proofs.TailSteps.{either_extracted, extract_tests}
+use Rattle.edit_model.proofs.Tests.{inserts, parent_there}
+use Rattle.edit_model.proofs.Trees.{none_or_some, within_trans, tree_of-with_leaf_other}
+use Rattle.edit_model.proofs.ValidRuns.{valid_acted, final_valid}
+use Rattle.edit_laws.specs.Order.{KeepsOrder}
+use Rattle.edit_laws.proofs.NewElements.{new_bare}
+use Rattle.edit_laws.proofs.QuietActions.{same_trees}
+use Rattle.edit_laws.proofs.Renaming.{new_loose}
+use Rattle.edit_laws.proofs.Subsequences.{keeps_same, keeps_refl, keeps_trans}
+use Rattle.inline_value.specs.WrapSplit.Breaks.{last_below}
+use Rattle.inline_value.specs.WrapSplit.Wrap.{append_break}
+use Rattle.delete_core.specs.Erasing.{shows_child}
+use Rattle.delete_core.specs.Places.{at, start_in}
+use Rattle.inline_value.specs.EditQuery.Rows.{container_name}
+use Rattle.text_insertion.specs.Halves.{parting_point, ends_line, is_heading_at, name_after, second_name, make_second, deepest_last, fill_hidden, close_both, part_at}
+use Rattle.text_insertion.specs.Paragraph.{break_line}
+use Rattle.text_insertion.specs.Start.{insert_at_start}
 use Rattle.caret_laws.specs.TailLaws.{is_thing_at, AmidNoThing}
 use Rattle.caret_laws.proofs.BlindRuns.{kept}
 use Rattle.caret_laws.proofs.Canonical.{Ends, ends_answer, ends_look, ends_bind}

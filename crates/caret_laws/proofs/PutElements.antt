@@ -3,50 +3,50 @@
 use Rattle.std.proofs.Common.{◌≡◌, ◌≢◌, ℕ, ◌+◌, ◌-◌, ◌<◌, Bool, true, false, ◌&&◌, ◌||◌, not, if◌then◌else◌, List, [], length, drop, Option, Some, None, refl, sym, ap, subst, ◌∙◌, inl, inr, arith, cond, eqb, true≢false}
 use Rattle.std.specs.Option.{option_map, option_map_or}
 use Rattle.std.proofs.lemmas.Bool.{and_parts, or_cases, cases_Bool, eq-eqb, ne_eqb}
-use Rattle.edit_commands.specs.DomModel.declared.Content.{Content}
-use Rattle.edit_commands.specs.DomModel.declared.Content.TheVariants.{Document, Element, Words, Remark}
-use Rattle.edit_commands.specs.DomModel.Contents.{has_chars_at, length_of}
-use Rattle.edit_commands.specs.DomModel.Editing.{is_host, is_true_state}
-use Rattle.edit_commands.specs.DomModel.Forest.{Forest, is_label, tree_of, parent_of, next_of, content_of, count_of}
-use Rattle.edit_commands.specs.DomModel.Forest.Forest.{Nil, Tree}
-use Rattle.edit_commands.specs.DomModel.Places.{index_of}
-use Rattle.edit_commands.proofs.DomModel.Kept.{content_of-with_leaf_other}
-use Rattle.edit_commands.proofs.DomModel.Links.{parent_count, total-link, total-with_leaf}
-use Rattle.edit_commands.proofs.DomModel.Revising.{total-revised}
-use Rattle.edit_commands.proofs.DomModel.Totals.{total-without}
-use Rattle.edit_commands.proofs.DomModel.Within.{within_self, within_child}
-use Rattle.edit_commands.specs.LiveRange.declared.places.Point.{Point}
-use Rattle.edit_commands.specs.LiveRange.declared.places.Pair.{Pair}
-use Rattle.edit_commands.specs.PointOrder.PointOrder.{is_before}
-use Rattle.edit_commands.specs.NodeTests.CollapsedWhitespace.{is_words_content, is_words}
-use Rattle.edit_commands.specs.EditModel.State.{State}
-use Rattle.edit_commands.specs.EditModel.Compositions.{characters_of, points_sent, split_under, split_words}
-use Rattle.edit_commands.specs.EditModel.Confined.{is_editable_for, is_inside}
-use Rattle.edit_commands.specs.EditModel.Edit.{Edit, Insert, Remove, Move, Replace, Set, Unset, is_made_edit, trees_after, changed, with_replaced}
-use Rattle.edit_commands.specs.EditModel.Action as action
-use Rattle.edit_commands.specs.EditModel.Action.{Action, made, words_content, extended, acted}
-use Rattle.edit_commands.specs.EditModel.Run.{Reaches, here, onward, Run, ◌>>◌, final, value, answer, done, given, send, grow, collapse}
-use Rattle.edit_commands.specs.EditModel.Valid.{IsValid}
-use Rattle.edit_commands.proofs.EditModel.Documents.{document-with_leaf}
-use Rattle.edit_commands.proofs.EditModel.Each.{Each, EachOn, each_bind, each_answer, each_if, each_edit, each_make_words, each_perform}
-use Rattle.edit_commands.proofs.EditModel.Forests.{fresh}
-use Rattle.edit_commands.proofs.EditModel.IslandRuns.{trees_made, trees_left}
-use Rattle.edit_commands.proofs.EditModel.Islands.{link_elsewhere}
-use Rattle.edit_commands.proofs.EditModel.OutsideRuns.{trees-extended, trees-selected, trees-grown, trees-sent, trees-scratched}
-use Rattle.edit_commands.proofs.EditModel.Points.{Placed}
-use Rattle.edit_commands.proofs.EditModel.Steps.{final-bind, final-answer, final-look, final-perform}
-use Rattle.edit_commands.proofs.EditModel.Tests.{inserts, label_is}
-use Rattle.edit_commands.proofs.EditModel.Trees.{tree_of-with_leaf_other, tree_of-revised_other}
-use Rattle.edit_commands.proofs.EditModel.ValidRuns.{valid_along}
-use Rattle.command_laws.specs.EditLaws.Order.{KeepsOrder, IsKeeping}
-use Rattle.command_laws.proofs.EditLaws.Hosts.{host_from-join}
-use Rattle.command_laws.proofs.EditLaws.QuietActions.{same_trees, same_document}
-use Rattle.command_laws.proofs.EditLaws.Renaming.{new_tree}
-use Rattle.command_laws.proofs.EditLaws.Subsequences.{keeps_trans}
-use Rattle.edit_commands.specs.EditActions.ActiveRange.{start_of}
-use Rattle.edit_commands.specs.DeleteCore.Places.{before_node, after_node}
-use Rattle.edit_commands.specs.TextInsertion.Start.{active_start, cuts_text}
-use Rattle.edit_commands.specs.InsertObjects.Putting.{collapse_before, collapse_after, leave_text, put}
+use Rattle.edit_model.specs.DomModel.declared.Content.{Content}
+use Rattle.edit_model.specs.DomModel.declared.Content.TheVariants.{Document, Element, Words, Remark}
+use Rattle.edit_model.specs.DomModel.Contents.{has_chars_at, length_of}
+use Rattle.edit_model.specs.DomModel.Editing.{is_host, is_true_state}
+use Rattle.edit_model.specs.DomModel.Forest.{Forest, is_label, tree_of, parent_of, next_of, content_of, count_of}
+use Rattle.edit_model.specs.DomModel.Forest.Forest.{Nil, Tree}
+use Rattle.edit_model.specs.DomModel.Places.{index_of}
+use Rattle.edit_model.proofs.DomModel.Kept.{content_of-with_leaf_other}
+use Rattle.edit_model.proofs.DomModel.Links.{parent_count, total-link, total-with_leaf}
+use Rattle.edit_model.proofs.DomModel.Revising.{total-revised}
+use Rattle.edit_model.proofs.DomModel.Totals.{total-without}
+use Rattle.edit_model.proofs.DomModel.Within.{within_self, within_child}
+use Rattle.edit_model.specs.LiveRange.declared.places.Point.{Point}
+use Rattle.edit_model.specs.LiveRange.declared.places.Pair.{Pair}
+use Rattle.edit_model.specs.PointOrder.PointOrder.{is_before}
+use Rattle.inline_value.specs.NodeTests.CollapsedWhitespace.{is_words_content, is_words}
+use Rattle.edit_model.specs.State.{State}
+use Rattle.edit_model.specs.Compositions.{characters_of, points_sent, split_under, split_words}
+use Rattle.edit_model.specs.Confined.{is_editable_for, is_inside}
+use Rattle.edit_model.specs.Edit.{Edit, Insert, Remove, Move, Replace, Set, Unset, is_made_edit, trees_after, changed, with_replaced}
+use Rattle.edit_model.specs.Action as action
+use Rattle.edit_model.specs.Action.{Action, made, words_content, extended, acted}
+use Rattle.edit_model.specs.Run.{Reaches, here, onward, Run, ◌>>◌, final, value, answer, done, given, send, grow, collapse}
+use Rattle.edit_model.specs.Valid.{IsValid}
+use Rattle.edit_model.proofs.Documents.{document-with_leaf}
+use Rattle.edit_model.proofs.Each.{Each, EachOn, each_bind, each_answer, each_if, each_edit, each_make_words, each_perform}
+use Rattle.edit_model.proofs.Forests.{fresh}
+use Rattle.edit_model.proofs.IslandRuns.{trees_made, trees_left}
+use Rattle.edit_model.proofs.Islands.{link_elsewhere}
+use Rattle.edit_model.proofs.OutsideRuns.{trees-extended, trees-selected, trees-grown, trees-sent, trees-scratched}
+use Rattle.edit_model.proofs.Points.{Placed}
+use Rattle.edit_model.proofs.Steps.{final-bind, final-answer, final-look, final-perform}
+use Rattle.edit_model.proofs.Tests.{inserts, label_is}
+use Rattle.edit_model.proofs.Trees.{tree_of-with_leaf_other, tree_of-revised_other}
+use Rattle.edit_model.proofs.ValidRuns.{valid_along}
+use Rattle.edit_laws.specs.Order.{KeepsOrder, IsKeeping}
+use Rattle.edit_laws.proofs.Hosts.{host_from-join}
+use Rattle.edit_laws.proofs.QuietActions.{same_trees, same_document}
+use Rattle.edit_laws.proofs.Renaming.{new_tree}
+use Rattle.edit_laws.proofs.Subsequences.{keeps_trans}
+use Rattle.inline_value.specs.EditActions.ActiveRange.{start_of}
+use Rattle.delete_core.specs.Places.{before_node, after_node}
+use Rattle.text_insertion.specs.Start.{active_start, cuts_text}
+use Rattle.insert_objects.specs.Putting.{collapse_before, collapse_after, leave_text, put}
 use Rattle.caret_laws.proofs.BlindRuns.{kept, kept_valid, split_ordered}
 use Rattle.caret_laws.proofs.SplitTexts.{start_placed}
 

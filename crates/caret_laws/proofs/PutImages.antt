@@ -5,43 +5,43 @@ use Rattle.std.specs.List.{filter}
 use Rattle.std.specs.Option.{option_map, option_map_or, option_and_then}
 use Rattle.std.proofs.lemmas.Bool.{and_parts, cases_Bool, le-ltb}
 use Rattle.std.proofs.lemmas.Slice.Eq.{bytes_eq-Decides}
-use Rattle.edit_commands.specs.DomModel.declared.Content.{Content}
-use Rattle.edit_commands.specs.DomModel.declared.Content.TheVariants.{Document, Element, Words, Remark}
-use Rattle.edit_commands.specs.DomModel.Contents.{name_in, is_break}
-use Rattle.edit_commands.specs.DomModel.Forest.{Forest, tops, count_of, tree_of, parent_of, children_of, first_of, next_of, content_of, unlink, preorder, IsWithin}
-use Rattle.edit_commands.specs.DomModel.Forest.Forest.{Nil, Tree}
-use Rattle.edit_commands.specs.DomModel.Places.{index_of}
-use Rattle.edit_commands.proofs.DomModel.Links.{tree_is, parent_count}
-use Rattle.edit_commands.proofs.DomModel.Move.{parent_apart}
-use Rattle.edit_commands.proofs.DomModel.Neighbours.{parent_of-first}
-use Rattle.edit_commands.specs.LiveRange.declared.places.Point.{Point}
-use Rattle.edit_commands.specs.LiveRange.PointsEdit as range
-use Rattle.edit_commands.specs.LiveRange.PointsEdit.{adjusted, adjusted_pair, with_offset, after_removal, has_label}
-use Rattle.edit_commands.specs.NodeStyles.Blocks.{is_block}
-use Rattle.edit_commands.specs.EditModel.State.{State}
-use Rattle.edit_commands.specs.EditModel.Confined.{is_editable_for, is_inside, is_made, is_open, is_own, may_leave, may_remove}
-use Rattle.edit_commands.specs.EditModel.Edit.{Remove, is_made_edit, trees_after, points_after, parent_or_0, edited}
-use Rattle.edit_commands.specs.EditModel.History.{begun}
-use Rattle.edit_commands.specs.EditModel.Kept.{Thing, borne_by, leaves, is_kept, kept_leaves, is_empty, has_no_kept_leaves}
-use Rattle.edit_commands.specs.EditModel.Action.{made}
-use Rattle.edit_commands.specs.EditModel.Run.{here, ◌>>=◌, ◌>>◌, final, value, answer, done, given, remove, make_element}
-use Rattle.edit_commands.specs.EditModel.Valid.{IsValid}
-use Rattle.edit_commands.proofs.EditModel.Documents.{within-unlink}
-use Rattle.edit_commands.proofs.EditModel.IslandRuns.{trees_made, trees_left}
-use Rattle.edit_commands.proofs.EditModel.Points.{has_label-preorder}
-use Rattle.edit_commands.proofs.EditModel.Steps.{final-bind, final-answer, final-look, final-edit, final-make_element}
-use Rattle.edit_commands.proofs.EditModel.Trees.{none_or_some}
-use Rattle.command_laws.specs.EditLaws.Order.{KeepsLeaves, KeepsOrder}
-use Rattle.command_laws.specs.EditLaws.Steady.{Steady}
-use Rattle.command_laws.proofs.EditLaws.Leaves.{leaves-Nil, leaves-Tree}
-use Rattle.command_laws.proofs.EditLaws.QuietActions.{remove_keeps}
-use Rattle.command_laws.proofs.EditLaws.Renaming.{plain_borne}
-use Rattle.command_laws.proofs.EditLaws.SteadyRuns.{steady_parts, steady_make_element}
+use Rattle.edit_model.specs.DomModel.declared.Content.{Content}
+use Rattle.edit_model.specs.DomModel.declared.Content.TheVariants.{Document, Element, Words, Remark}
+use Rattle.edit_model.specs.DomModel.Contents.{name_in, is_break}
+use Rattle.edit_model.specs.DomModel.Forest.{Forest, tops, count_of, tree_of, parent_of, children_of, first_of, next_of, content_of, unlink, preorder, IsWithin}
+use Rattle.edit_model.specs.DomModel.Forest.Forest.{Nil, Tree}
+use Rattle.edit_model.specs.DomModel.Places.{index_of}
+use Rattle.edit_model.proofs.DomModel.Links.{tree_is, parent_count}
+use Rattle.edit_model.proofs.DomModel.Move.{parent_apart}
+use Rattle.edit_model.proofs.DomModel.Neighbours.{parent_of-first}
+use Rattle.edit_model.specs.LiveRange.declared.places.Point.{Point}
+use Rattle.edit_model.specs.LiveRange.PointsEdit as range
+use Rattle.edit_model.specs.LiveRange.PointsEdit.{adjusted, adjusted_pair, with_offset, after_removal, has_label}
+use Rattle.inline_value.specs.NodeStyles.Blocks.{is_block}
+use Rattle.edit_model.specs.State.{State}
+use Rattle.edit_model.specs.Confined.{is_editable_for, is_inside, is_made, is_open, is_own, may_leave, may_remove}
+use Rattle.edit_model.specs.Edit.{Remove, is_made_edit, trees_after, points_after, parent_or_0, edited}
+use Rattle.edit_model.specs.History.{begun}
+use Rattle.edit_model.specs.Kept.{Thing, borne_by, leaves, is_kept, kept_leaves, is_empty, has_no_kept_leaves}
+use Rattle.edit_model.specs.Action.{made}
+use Rattle.edit_model.specs.Run.{here, ◌>>=◌, ◌>>◌, final, value, answer, done, given, remove, make_element}
+use Rattle.edit_model.specs.Valid.{IsValid}
+use Rattle.edit_model.proofs.Documents.{within-unlink}
+use Rattle.edit_model.proofs.IslandRuns.{trees_made, trees_left}
+use Rattle.edit_model.proofs.Points.{has_label-preorder}
+use Rattle.edit_model.proofs.Steps.{final-bind, final-answer, final-look, final-edit, final-make_element}
+use Rattle.edit_model.proofs.Trees.{none_or_some}
+use Rattle.edit_laws.specs.Order.{KeepsLeaves, KeepsOrder}
+use Rattle.edit_laws.specs.Steady.{Steady}
+use Rattle.edit_laws.proofs.Leaves.{leaves-Nil, leaves-Tree}
+use Rattle.edit_laws.proofs.QuietActions.{remove_keeps}
+use Rattle.edit_laws.proofs.Renaming.{plain_borne}
+use Rattle.edit_laws.proofs.SteadyRuns.{steady_parts, steady_make_element}
 use Rattle.command_laws.proofs.DeleteRuns.{steady_erase}
-use Rattle.edit_commands.specs.DeleteCore.declared.deletion.TheConstants.Manner.{KEEP_WRAPPERS}
-use Rattle.edit_commands.specs.TextInsertion.Start.{if_point_inside, start_inside, erase}
-use Rattle.edit_commands.specs.InsertObjects.Image.{drop_lone_break, source, put_image, show_image, insert_source, insert_image}
-use Rattle.edit_commands.specs.InsertObjects.Putting.{from_start_inside, collapse_after, put}
+use Rattle.delete_core.specs.declared.deletion.TheConstants.Manner.{KEEP_WRAPPERS}
+use Rattle.text_insertion.specs.Start.{if_point_inside, start_inside, erase}
+use Rattle.insert_objects.specs.Image.{drop_lone_break, source, put_image, show_image, insert_source, insert_image}
+use Rattle.insert_objects.specs.Putting.{from_start_inside, collapse_after, put}
 use Rattle.caret_laws.specs.SolidOrder.{solid_leaves, AddsThing, KeepsOrderUpToBlanks, StandsAt, HasRoom, BreaksAreEmpty}
 use Rattle.caret_laws.proofs.BlindRuns.{kept}
 use Rattle.caret_laws.proofs.Blanks.{caret_then, points_made, edit_left}

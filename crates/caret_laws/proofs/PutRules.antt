@@ -2,34 +2,34 @@
 use Rattle.std.proofs.Common.{◌≡◌, ◌⊎◌, ℕ, ◌<◌, Bool, true, false, if◌then◌else◌, [], ◌∷◌, Option, Some, None, refl, sym, ap, subst, ◌∙◌}
 use Rattle.std.specs.Prelude.{codes}
 use Rattle.std.specs.Option.{option_map, option_and_then}
-use Rattle.edit_commands.specs.DomModel.declared.Content.{Content}
-use Rattle.edit_commands.specs.DomModel.declared.Content.TheVariants as content
-use Rattle.edit_commands.specs.DomModel.declared.Content.TheVariants.{Element}
-use Rattle.edit_commands.specs.DomModel.Contents.{name_in, name_of}
-use Rattle.edit_commands.specs.DomModel.Forest.{tree_of, content_of, IsWithin}
-use Rattle.edit_commands.specs.LiveRange.declared.places.Point.{Point}
-use Rattle.edit_commands.specs.EditModel.State.{State}
-use Rattle.edit_commands.specs.EditModel.Action.{made}
-use Rattle.edit_commands.specs.EditModel.Confined.{is_inside}
-use Rattle.edit_commands.specs.EditModel.History.{begun}
-use Rattle.edit_commands.specs.EditModel.Kept.{Thing, borne_by}
-use Rattle.edit_commands.specs.EditModel.Run.{Run, here, ◌>>=◌, ◌>>◌, final, value, answer, given, make_element}
-use Rattle.edit_commands.specs.EditModel.Valid.{IsValid}
-use Rattle.edit_commands.proofs.EditModel.Steps.{final-bind, final-answer, final-look, final-make_element}
-use Rattle.edit_commands.proofs.EditModel.ValidRuns.{valid_along}
-use Rattle.command_laws.specs.EditLaws.Kinds.{Kind, kind_in, kind_of}
-use Rattle.command_laws.specs.EditLaws.Kinds as kinds
-use Rattle.command_laws.specs.EditLaws.Order.{KeepsOrder}
-use Rattle.command_laws.specs.EditLaws.Steady.{Steady}
-use Rattle.command_laws.proofs.EditLaws.StayingKinds.{kind_there, kind_along}
-use Rattle.command_laws.proofs.EditLaws.SteadyRuns.{steady_make_element}
-use Rattle.edit_commands.specs.InlineValue.Ancestors.{fix_ancestors}
+use Rattle.edit_model.specs.DomModel.declared.Content.{Content}
+use Rattle.edit_model.specs.DomModel.declared.Content.TheVariants as content
+use Rattle.edit_model.specs.DomModel.declared.Content.TheVariants.{Element}
+use Rattle.edit_model.specs.DomModel.Contents.{name_in, name_of}
+use Rattle.edit_model.specs.DomModel.Forest.{tree_of, content_of, IsWithin}
+use Rattle.edit_model.specs.LiveRange.declared.places.Point.{Point}
+use Rattle.edit_model.specs.State.{State}
+use Rattle.edit_model.specs.Action.{made}
+use Rattle.edit_model.specs.Confined.{is_inside}
+use Rattle.edit_model.specs.History.{begun}
+use Rattle.edit_model.specs.Kept.{Thing, borne_by}
+use Rattle.edit_model.specs.Run.{Run, here, ◌>>=◌, ◌>>◌, final, value, answer, given, make_element}
+use Rattle.edit_model.specs.Valid.{IsValid}
+use Rattle.edit_model.proofs.Steps.{final-bind, final-answer, final-look, final-make_element}
+use Rattle.edit_model.proofs.ValidRuns.{valid_along}
+use Rattle.edit_laws.specs.Kinds.{Kind, kind_in, kind_of}
+use Rattle.edit_laws.specs.Kinds as kinds
+use Rattle.edit_laws.specs.Order.{KeepsOrder}
+use Rattle.edit_laws.specs.Steady.{Steady}
+use Rattle.edit_laws.proofs.StayingKinds.{kind_there, kind_along}
+use Rattle.edit_laws.proofs.SteadyRuns.{steady_make_element}
+use Rattle.inline_value.specs.Ancestors.{fix_ancestors}
 use Rattle.command_laws.proofs.AncestorRuns.{order_preserving_fix_ancestors}
 use Rattle.command_laws.proofs.DeleteRuns.{steady_erase}
-use Rattle.edit_commands.specs.DeleteCore.declared.deletion.TheConstants.Manner.{KEEP_BLOCKS}
-use Rattle.edit_commands.specs.TextInsertion.Start.{if_point_inside, start_inside, erase}
-use Rattle.edit_commands.specs.InsertObjects.Putting.{from_start_inside, collapse_after, put}
-use Rattle.edit_commands.specs.InsertObjects.Rule.{widen_range, put_rule, insert_horizontal_rule}
+use Rattle.delete_core.specs.declared.deletion.TheConstants.Manner.{KEEP_BLOCKS}
+use Rattle.text_insertion.specs.Start.{if_point_inside, start_inside, erase}
+use Rattle.insert_objects.specs.Putting.{from_start_inside, collapse_after, put}
+use Rattle.insert_objects.specs.Rule.{widen_range, put_rule, insert_horizontal_rule}
 use Rattle.caret_laws.specs.ParagraphOrder.{StandsInNoThing}
 use Rattle.caret_laws.specs.RuleLaws.{StaysWhenWidened, IsFilled, PuttingSpares}
 use Rattle.caret_laws.specs.SolidOrder.{solid_leaves, AddsThing, KeepsOrderUpToBlanks, StandsAt, HasRoom}

@@ -2,47 +2,47 @@
 use Rattle.std.proofs.Common.{◌≡◌, ◌≢◌, ℕ, ◌+◌, ◌-◌, ◌<◌, ◌≤◌, Bool, true, false, ◌&&◌, not, if◌then◌else◌, cond, eqb, nat_lt, List, [], ◌∷◌, length, drop, Option, Some, None, IfSome, refl, sym, ap, subst, ◌∙◌, inl, inr, arith, true≢false}
 use Rattle.std.specs.Option.{option_map_or, option_and_then}
 use Rattle.std.proofs.lemmas.Bool.{and_parts, cases_Bool, lt-ltb, ne_eqb, eq-eqb}
-use Rattle.edit_commands.specs.DomModel.declared.Content.{Content}
-use Rattle.edit_commands.specs.DomModel.declared.Content.TheVariants.{Words}
-use Rattle.edit_commands.specs.DomModel.declared.attributes.Attribute.{Attribute}
-use Rattle.edit_commands.specs.DomModel.Contents.{has_chars_at, length_of}
-use Rattle.edit_commands.specs.DomModel.Editing.{is_host}
-use Rattle.edit_commands.specs.DomModel.Forest.{Forest, Seen, count_of, tree_of, parent_of, next_of, content_of, link, put_under, CanPut, IsWithin}
-use Rattle.edit_commands.specs.DomModel.Forest.Forest.{Nil, Tree}
-use Rattle.edit_commands.specs.DomModel.Places.{index_of}
-use Rattle.edit_commands.proofs.DomModel.Kept.{content_of-link}
-use Rattle.edit_commands.proofs.DomModel.Links.{parent_of-with_leaf}
-use Rattle.edit_commands.proofs.DomModel.Revising.{parent_of-revised}
-use Rattle.edit_commands.proofs.DomModel.Stands.{seek_absent}
-use Rattle.edit_commands.proofs.DomModel.Totals.{total-without}
-use Rattle.edit_commands.proofs.DomModel.Within.{within_root}
-use Rattle.edit_commands.specs.LiveRange.declared.places.Point.{Point}
-use Rattle.edit_commands.specs.NodeTests.BlockPoints.{child_at}
-use Rattle.edit_commands.specs.NodeTests.CollapsedWhitespace.{is_words_content, is_words}
-use Rattle.edit_commands.specs.EditModel.State.{State}
-use Rattle.edit_commands.specs.EditModel.Compositions.{characters_of, points_sent, split_under, split_words}
-use Rattle.edit_commands.specs.EditModel.Confined.{is_inside, is_open, is_place, may_insert, may_select}
-use Rattle.edit_commands.specs.EditModel.Edit.{Insert, Replace, is_made_edit, trees_after, with_replaced, changed, edited}
-use Rattle.edit_commands.specs.EditModel.Kept.{Leaf, Thing, borne_by, leaves}
-use Rattle.edit_commands.specs.EditModel.Action as action
-use Rattle.edit_commands.specs.EditModel.Action.{Action, made, words_content, with_selection, selected, grown, sent, acted}
-use Rattle.edit_commands.specs.EditModel.Run.{◌>>=◌, ◌>>◌, final, value, answer, done, given, insert, replace, make_element, make_words, send, grow, collapse}
-use Rattle.edit_commands.specs.EditModel.Valid.{IsValid, IsPlacedPair}
-use Rattle.edit_commands.proofs.EditModel.Documents.{document-link}
-use Rattle.edit_commands.proofs.EditModel.Forests.{fresh}
-use Rattle.edit_commands.proofs.EditModel.IslandRuns.{trees_made, trees_left}
-use Rattle.edit_commands.proofs.EditModel.OutsideRuns.{trees-grown, trees-sent}
-use Rattle.edit_commands.proofs.EditModel.Points.{placed_is}
-use Rattle.edit_commands.proofs.EditModel.Steps.{final-bind, value-bind, final-answer, value-answer, final-look, final-edit, value-make_element, final-perform}
-use Rattle.edit_commands.proofs.EditModel.Tests.{inserts}
-use Rattle.edit_commands.proofs.EditModel.ValidRuns.{valid_acted}
-use Rattle.command_laws.specs.EditLaws.Steady.{Steady}
-use Rattle.command_laws.proofs.EditLaws.StayingKinds.{kind_along}
-use Rattle.command_laws.proofs.EditLaws.SteadyRuns.{steady_perform, steady_split}
-use Rattle.command_laws.proofs.EditLaws.Leaves.{leaves-Nil, leaves-Tree}
-use Rattle.edit_commands.specs.DeleteCore.Places.{at, before_node, after_node, before_in, after_in}
-use Rattle.edit_commands.specs.TextInsertion.Start.{insert_at, insert_at_start, cuts_text}
-use Rattle.edit_commands.specs.InsertObjects.Putting.{collapse_before, collapse_after, leave_text, put}
+use Rattle.edit_model.specs.DomModel.declared.Content.{Content}
+use Rattle.edit_model.specs.DomModel.declared.Content.TheVariants.{Words}
+use Rattle.edit_model.specs.DomModel.declared.attributes.Attribute.{Attribute}
+use Rattle.edit_model.specs.DomModel.Contents.{has_chars_at, length_of}
+use Rattle.edit_model.specs.DomModel.Editing.{is_host}
+use Rattle.edit_model.specs.DomModel.Forest.{Forest, Seen, count_of, tree_of, parent_of, next_of, content_of, link, put_under, CanPut, IsWithin}
+use Rattle.edit_model.specs.DomModel.Forest.Forest.{Nil, Tree}
+use Rattle.edit_model.specs.DomModel.Places.{index_of}
+use Rattle.edit_model.proofs.DomModel.Kept.{content_of-link}
+use Rattle.edit_model.proofs.DomModel.Links.{parent_of-with_leaf}
+use Rattle.edit_model.proofs.DomModel.Revising.{parent_of-revised}
+use Rattle.edit_model.proofs.DomModel.Stands.{seek_absent}
+use Rattle.edit_model.proofs.DomModel.Totals.{total-without}
+use Rattle.edit_model.proofs.DomModel.Within.{within_root}
+use Rattle.edit_model.specs.LiveRange.declared.places.Point.{Point}
+use Rattle.inline_value.specs.NodeTests.BlockPoints.{child_at}
+use Rattle.inline_value.specs.NodeTests.CollapsedWhitespace.{is_words_content, is_words}
+use Rattle.edit_model.specs.State.{State}
+use Rattle.edit_model.specs.Compositions.{characters_of, points_sent, split_under, split_words}
+use Rattle.edit_model.specs.Confined.{is_inside, is_open, is_place, may_insert, may_select}
+use Rattle.edit_model.specs.Edit.{Insert, Replace, is_made_edit, trees_after, with_replaced, changed, edited}
+use Rattle.edit_model.specs.Kept.{Leaf, Thing, borne_by, leaves}
+use Rattle.edit_model.specs.Action as action
+use Rattle.edit_model.specs.Action.{Action, made, words_content, with_selection, selected, grown, sent, acted}
+use Rattle.edit_model.specs.Run.{◌>>=◌, ◌>>◌, final, value, answer, done, given, insert, replace, make_element, make_words, send, grow, collapse}
+use Rattle.edit_model.specs.Valid.{IsValid, IsPlacedPair}
+use Rattle.edit_model.proofs.Documents.{document-link}
+use Rattle.edit_model.proofs.Forests.{fresh}
+use Rattle.edit_model.proofs.IslandRuns.{trees_made, trees_left}
+use Rattle.edit_model.proofs.OutsideRuns.{trees-grown, trees-sent}
+use Rattle.edit_model.proofs.Points.{placed_is}
+use Rattle.edit_model.proofs.Steps.{final-bind, value-bind, final-answer, value-answer, final-look, final-edit, value-make_element, final-perform}
+use Rattle.edit_model.proofs.Tests.{inserts}
+use Rattle.edit_model.proofs.ValidRuns.{valid_acted}
+use Rattle.edit_laws.specs.Steady.{Steady}
+use Rattle.edit_laws.proofs.StayingKinds.{kind_along}
+use Rattle.edit_laws.proofs.SteadyRuns.{steady_perform, steady_split}
+use Rattle.edit_laws.proofs.Leaves.{leaves-Nil, leaves-Tree}
+use Rattle.delete_core.specs.Places.{at, before_node, after_node, before_in, after_in}
+use Rattle.text_insertion.specs.Start.{insert_at, insert_at_start, cuts_text}
+use Rattle.insert_objects.specs.Putting.{collapse_before, collapse_after, leave_text, put}
 use Rattle.caret_laws.specs.SolidOrder.{solid_leaves, OneMore, AddsThing, KeepsOrderUpToBlanks, StandsAt}
 use Rattle.caret_laws.proofs.Canonical.{Ends, ends_answer, ends_look, ends_bind, ends_edit, ends_perform, ends_words}
 use Rattle.caret_laws.proofs.Fronts.{Newly, text_under}

@@ -1,20 +1,20 @@
 -- A tail is extracted by a run of edits with their own tests, where each node that goes may be removed by itself.
 use Rattle.std.proofs.Common.{◌≡◌, ℕ, zero, suc, Bool, true, false, if◌then◌else◌, eqb, List, [], ◌∷◌, drop, Option, Some, None, refl, sym, ap, ◌∙◌}
 use Rattle.std.specs.Option.{option_map_or}
-use Rattle.edit_commands.specs.DomModel.Forest.{children_of}
-use Rattle.edit_commands.specs.LiveRange.declared.places.Point.{Point}
-use Rattle.edit_commands.specs.PointOrder.PointOrder.{child_toward}
-use Rattle.edit_commands.specs.EditModel.State.{State}
-use Rattle.edit_commands.specs.EditModel.Confined.{may_remove}
-use Rattle.edit_commands.specs.EditModel.Edit.{Insert, Remove, is_made_edit, edited}
-use Rattle.edit_commands.specs.EditModel.Action.{made, applied, tail_of, may_extract, extracted}
-use Rattle.edit_commands.specs.EditModel.Run.{Run, ◌>>=◌, final, value, done, given}
-use Rattle.edit_commands.specs.EditModel.Tail.{later, copy_of, document_size}
-use Rattle.edit_commands.specs.EditModel.Valid.{IsValid}
-use Rattle.edit_commands.proofs.EditModel.Giving.{final_distinct_element}
-use Rattle.edit_commands.proofs.EditModel.Steps.{final-bind, final-answer, final-look, value-look, final-edit, value-make_element, for_each-cons, for_each-nil}
-use Rattle.edit_commands.proofs.EditModel.TailPlan.{is_copy}
-use Rattle.edit_commands.proofs.EditModel.ValidParts.{valid_copied}
+use Rattle.edit_model.specs.DomModel.Forest.{children_of}
+use Rattle.edit_model.specs.LiveRange.declared.places.Point.{Point}
+use Rattle.edit_model.specs.PointOrder.PointOrder.{child_toward}
+use Rattle.edit_model.specs.State.{State}
+use Rattle.edit_model.specs.Confined.{may_remove}
+use Rattle.edit_model.specs.Edit.{Insert, Remove, is_made_edit, edited}
+use Rattle.edit_model.specs.Action.{made, applied, tail_of, may_extract, extracted}
+use Rattle.edit_model.specs.Run.{Run, ◌>>=◌, final, value, done, given}
+use Rattle.edit_model.specs.Tail.{later, copy_of, document_size}
+use Rattle.edit_model.specs.Valid.{IsValid}
+use Rattle.edit_model.proofs.Giving.{final_distinct_element}
+use Rattle.edit_model.proofs.Steps.{final-bind, final-answer, final-look, value-look, final-edit, value-make_element, for_each-cons, for_each-nil}
+use Rattle.edit_model.proofs.TailPlan.{is_copy}
+use Rattle.edit_model.proofs.ValidParts.{valid_copied}
 use Rattle.caret_laws.specs.SingleEdits.{taken_out, brought, brought_all, later_brought, tail_brought}
 use Rattle.caret_laws.specs.TailRun.{bring, bring_all, copy_node, bring_later, bring_rest, bring_tail, extract_by_edits, GoesAlone, Leave}
 use Rattle.caret_laws.proofs.SingleTails.{made_alone, extracted_is}

@@ -5,28 +5,28 @@ use Rattle.std.specs.Prelude.{codes}
 use Rattle.std.specs.Option.{option_map_or, option_and_then}
 use Rattle.std.proofs.lemmas.Bool.{and_parts, cases_Bool}
 use Rattle.std.proofs.lemmas.Bool.Decides.{eqb_tells}
-use Rattle.edit_commands.specs.DomModel.declared.Content.{Content}
-use Rattle.edit_commands.specs.DomModel.declared.Content.TheVariants.{Document, Element, Words, Remark}
-use Rattle.edit_commands.specs.DomModel.Contents.{has_chars, has_chars_at, has_name, name_in, name_of, is_break}
-use Rattle.edit_commands.specs.DomModel.Forest.{Forest, Seen, is_label, times, first_in, after_in, total, count_of, tree_of, parent_of, children_of, first_of, next_of, content_of, IsWithin, depth_of}
-use Rattle.edit_commands.proofs.DomModel.Links.{eqb_refl_true, child_of_parent, parent_count, times-children_of}
-use Rattle.edit_commands.proofs.DomModel.Lists.{after_not_self}
-use Rattle.edit_commands.proofs.DomModel.Neighbours.{parent_of-first, parent_of-next}
-use Rattle.edit_commands.proofs.DomModel.Totals.{total-without}
-use Rattle.edit_commands.proofs.DomModel.Within.{within_self, within_parent, within_child, depth_of-parent}
-use Rattle.edit_commands.specs.HtmlNames.ElementNames as names
-use Rattle.edit_commands.specs.NodeStyles.NameClasses.{is_single_line}
-use Rattle.edit_commands.specs.EditModel.State.{State}
-use Rattle.edit_commands.specs.EditModel.Confined.{is_editable_for}
-use Rattle.edit_commands.specs.EditModel.Valid.{IsForest, IsValid}
-use Rattle.edit_commands.proofs.EditModel.Documents.{within_above, within_below}
-use Rattle.edit_commands.proofs.EditModel.OwnRoots.{holder_inside}
-use Rattle.edit_commands.proofs.EditModel.TailEnds.{size_at, size_child}
-use Rattle.edit_commands.proofs.EditModel.Trees.{tree_of-inside, within_trans}
-use Rattle.edit_commands.specs.WrapSplit.Walks.{followed, walk, turn_bound}
-use Rattle.edit_commands.specs.InlineValue.Ancestors.{is_description}
-use Rattle.edit_commands.specs.TextInsertion.Containers.{if_editable, up_to_container, nearest_container, up_to_entry, nearest_entry, is_plain_block, entry_over, container_of, is_own_container}
-use Rattle.edit_commands.specs.TextInsertion.Entries.{is_entry, has_sole_break, is_empty_entry}
+use Rattle.edit_model.specs.DomModel.declared.Content.{Content}
+use Rattle.edit_model.specs.DomModel.declared.Content.TheVariants.{Document, Element, Words, Remark}
+use Rattle.edit_model.specs.DomModel.Contents.{has_chars, has_chars_at, has_name, name_in, name_of, is_break}
+use Rattle.edit_model.specs.DomModel.Forest.{Forest, Seen, is_label, times, first_in, after_in, total, count_of, tree_of, parent_of, children_of, first_of, next_of, content_of, IsWithin, depth_of}
+use Rattle.edit_model.proofs.DomModel.Links.{eqb_refl_true, child_of_parent, parent_count, times-children_of}
+use Rattle.edit_model.proofs.DomModel.Lists.{after_not_self}
+use Rattle.edit_model.proofs.DomModel.Neighbours.{parent_of-first, parent_of-next}
+use Rattle.edit_model.proofs.DomModel.Totals.{total-without}
+use Rattle.edit_model.proofs.DomModel.Within.{within_self, within_parent, within_child, depth_of-parent}
+use Rattle.edit_model.specs.HtmlNames.ElementNames as names
+use Rattle.inline_value.specs.NodeStyles.NameClasses.{is_single_line}
+use Rattle.edit_model.specs.State.{State}
+use Rattle.edit_model.specs.Confined.{is_editable_for}
+use Rattle.edit_model.specs.Valid.{IsForest, IsValid}
+use Rattle.edit_model.proofs.Documents.{within_above, within_below}
+use Rattle.edit_model.proofs.OwnRoots.{holder_inside}
+use Rattle.edit_model.proofs.TailEnds.{size_at, size_child}
+use Rattle.edit_model.proofs.Trees.{tree_of-inside, within_trans}
+use Rattle.inline_value.specs.WrapSplit.Walks.{followed, walk, turn_bound}
+use Rattle.inline_value.specs.Ancestors.{is_description}
+use Rattle.text_insertion.specs.Containers.{if_editable, up_to_container, nearest_container, up_to_entry, nearest_entry, is_plain_block, entry_over, container_of, is_own_container}
+use Rattle.text_insertion.specs.Entries.{is_entry, has_sole_break, is_empty_entry}
 use Rattle.caret_laws.specs.ParagraphOrder.{HasOwnLine}
 use Rattle.caret_laws.proofs.InsideRuns.{top_known}
 

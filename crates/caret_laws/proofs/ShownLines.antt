@@ -1,31 +1,31 @@
 -- Inserting a paragraph at a caret keeps the order of what the document bears, where the host hides nothing.
 use Rattle.std.proofs.Common.{◌≡◌, ℕ, ◌+◌, ◌-◌, ◌<◌, Bool, true, false, ◌||◌, if◌then◌else◌, cond, eqb, [], length, drop, Option, Some, None, refl, sym, subst, ◌∙◌, arith}
-use Rattle.edit_commands.specs.DomModel.Contents.{is_parent_at, is_break}
-use Rattle.edit_commands.specs.DomModel.Forest.{times, tree_of, parent_of, children_of, next_of, content_of}
-use Rattle.edit_commands.specs.DomModel.Places.{index_of}
-use Rattle.edit_commands.proofs.DomModel.Links.{parent_count}
-use Rattle.edit_commands.proofs.DomModel.Totals.{total-without}
-use Rattle.edit_commands.specs.LiveRange.declared.places.Point.{Point}
-use Rattle.edit_commands.specs.NodeStyles.Blocks.{is_block, is_hidden}
-use Rattle.edit_commands.specs.NodeStyles.Resolved.{display}
-use Rattle.edit_commands.specs.NodeTests.Visible.{is_boxless}
-use Rattle.edit_commands.specs.EditModel.State.{State}
-use Rattle.edit_commands.specs.EditModel.Action as action
-use Rattle.edit_commands.specs.EditModel.Compositions.{characters_of, points_sent, split_under, split_words}
-use Rattle.edit_commands.specs.EditModel.Confined.{is_inside}
-use Rattle.edit_commands.specs.EditModel.Edit.{Insert, Replace}
-use Rattle.edit_commands.specs.EditModel.History.{begun}
-use Rattle.edit_commands.specs.EditModel.Run.{Run, ◌>>=◌, ◌>>◌, final, value, answer, done, given, send, grow}
-use Rattle.edit_commands.specs.EditModel.Valid.{IsValid}
-use Rattle.edit_commands.proofs.EditModel.Steps.{final-bind, final-look, final-answer}
-use Rattle.command_laws.specs.EditLaws.Order.{KeepsOrder}
-use Rattle.command_laws.proofs.EditLaws.Nearness.{holds_near}
-use Rattle.command_laws.proofs.EditLaws.Subsequences.{keeps_refl, keeps_trans}
-use Rattle.edit_commands.specs.TextInsertion.Containers.{container_of, own_container, wrap_line, contents_from}
-use Rattle.edit_commands.specs.TextInsertion.Entries.{is_empty_entry, leave_list}
-use Rattle.edit_commands.specs.TextInsertion.Halves.{part_container}
-use Rattle.edit_commands.specs.TextInsertion.Paragraph.{holds_lines, break_line, part_line, part_line_if, part_paragraph, insert_paragraph_inside, insert_paragraph}
-use Rattle.edit_commands.specs.TextInsertion.Start.{active_start, cuts_text}
+use Rattle.edit_model.specs.DomModel.Contents.{is_parent_at, is_break}
+use Rattle.edit_model.specs.DomModel.Forest.{times, tree_of, parent_of, children_of, next_of, content_of}
+use Rattle.edit_model.specs.DomModel.Places.{index_of}
+use Rattle.edit_model.proofs.DomModel.Links.{parent_count}
+use Rattle.edit_model.proofs.DomModel.Totals.{total-without}
+use Rattle.edit_model.specs.LiveRange.declared.places.Point.{Point}
+use Rattle.inline_value.specs.NodeStyles.Blocks.{is_block, is_hidden}
+use Rattle.inline_value.specs.NodeStyles.Resolved.{display}
+use Rattle.inline_value.specs.NodeTests.Visible.{is_boxless}
+use Rattle.edit_model.specs.State.{State}
+use Rattle.edit_model.specs.Action as action
+use Rattle.edit_model.specs.Compositions.{characters_of, points_sent, split_under, split_words}
+use Rattle.edit_model.specs.Confined.{is_inside}
+use Rattle.edit_model.specs.Edit.{Insert, Replace}
+use Rattle.edit_model.specs.History.{begun}
+use Rattle.edit_model.specs.Run.{Run, ◌>>=◌, ◌>>◌, final, value, answer, done, given, send, grow}
+use Rattle.edit_model.specs.Valid.{IsValid}
+use Rattle.edit_model.proofs.Steps.{final-bind, final-look, final-answer}
+use Rattle.edit_laws.specs.Order.{KeepsOrder}
+use Rattle.edit_laws.proofs.Nearness.{holds_near}
+use Rattle.edit_laws.proofs.Subsequences.{keeps_refl, keeps_trans}
+use Rattle.text_insertion.specs.Containers.{container_of, own_container, wrap_line, contents_from}
+use Rattle.text_insertion.specs.Entries.{is_empty_entry, leave_list}
+use Rattle.text_insertion.specs.Halves.{part_container}
+use Rattle.text_insertion.specs.Paragraph.{holds_lines, break_line, part_line, part_line_if, part_paragraph, insert_paragraph_inside, insert_paragraph}
+use Rattle.text_insertion.specs.Start.{active_start, cuts_text}
 use Rattle.caret_laws.specs.ParagraphOrder.{StandsInNoThing, StandsIn, StandsInNoEmptyEntry, HidesNothing}
 use Rattle.caret_laws.specs.SolidOrder.{KeepsOrderUpToBlanks, StandsAt, HasRoom}
 use Rattle.caret_laws.specs.Sparing.{SparesOn}

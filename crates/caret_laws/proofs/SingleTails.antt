@@ -6,40 +6,40 @@ use Rattle.std.specs.List.{find}
 use Rattle.std.specs.Prelude.{nat_lt, nat_le, unwrap_or, bytes_eq, codes}
 use Rattle.std.proofs.lemmas.Bool.Decides.{eqb_tells}
 use Rattle.std.proofs.lemmas.Bool.{and_parts, cases_Bool, eq-eqb, ne_eqb, eqb-true, ltb-true, lt-ltb, le-leb, le-ltb}
-use Rattle.edit_commands.specs.DomModel.declared.Content.{Content}
-use Rattle.edit_commands.specs.DomModel.declared.Content.TheVariants.{Element}
-use Rattle.edit_commands.specs.DomModel.AttributeList.{unset_in}
-use Rattle.edit_commands.specs.DomModel.Contents.{name_in, attributes_in, is_break}
-use Rattle.edit_commands.specs.DomModel.Editing.{editing_host, is_editable}
-use Rattle.edit_commands.specs.DomModel.Forest.{Forest, Seen, times, count_of, tree_of, parent_of, children_of, content_of, link, unlink, IsDistinct, IsWithin, CanPut, depth_of}
-use Rattle.edit_commands.specs.DomModel.Places.{place_in}
-use Rattle.edit_commands.proofs.DomModel.Kept.{content_of-link, content_of-unlink, content_of-with_leaf_other}
-use Rattle.edit_commands.proofs.DomModel.Links.{child_of_parent, parent_count, times-children_of, children_of-link, children_of-unlink, children_of-with_leaf, IsDistinct-link, IsDistinct-unlink, tree_of_absent}
-use Rattle.edit_commands.proofs.DomModel.Move.{parent_apart}
-use Rattle.edit_commands.proofs.DomModel.Stands.{seek_absent}
-use Rattle.edit_commands.proofs.DomModel.Totals.{total-without}
-use Rattle.edit_commands.proofs.DomModel.Within.{within_self, within_child, within_step}
-use Rattle.edit_commands.specs.LiveRange.declared.places.Point.{Point}
-use Rattle.edit_commands.specs.PointOrder.PointOrder.{is_within, child_toward}
-use Rattle.edit_commands.specs.EditModel.State.{State}
-use Rattle.edit_commands.specs.EditModel.Confined.{is_editable_for, is_inside, is_made, is_open, is_own, may_remove}
-use Rattle.edit_commands.specs.EditModel.Edit.{Insert, Remove, Move, Replace, Set, Unset, is_made_edit, trees_after, changed, with_change, edited}
-use Rattle.edit_commands.specs.EditModel.Tail.{Step, Copy, Do, carried, later, copy_of, tail_steps, document_size}
-use Rattle.edit_commands.specs.EditModel.Action.{made, applied, stepped, stepped_all, tail_of, may_extract, extracted}
-use Rattle.edit_commands.specs.EditModel.Possible.{freed, are_possible}
-use Rattle.edit_commands.specs.EditModel.Valid.{IsValid}
-use Rattle.edit_commands.proofs.EditModel.CommandParts.{SameCommand, same_command, command_steps}
-use Rattle.edit_commands.proofs.EditModel.Forests.{fresh}
-use Rattle.edit_commands.proofs.EditModel.TailForests.{away-unlink, away-link, away-with_leaf}
-use Rattle.edit_commands.proofs.EditModel.TailPlan.{AllOf, Fits, IsCopy, is_copy, tail_fits, parent_among, find_some}
-use Rattle.edit_commands.proofs.EditModel.TailPossible.{tail_possible}
-use Rattle.edit_commands.proofs.EditModel.TailRuns.{fit_steps}
-use Rattle.edit_commands.proofs.EditModel.TailSteps.{Extracts, extract_tests, either_extracted}
-use Rattle.edit_commands.proofs.EditModel.Tests.{inserts, label_is}
-use Rattle.edit_commands.proofs.EditModel.Hollow.{editable_below}
-use Rattle.edit_commands.proofs.EditModel.Trees.{none_or_some, within_trans, tree_of-with_leaf_other}
-use Rattle.edit_commands.proofs.EditModel.ValidParts.{valid_applied, valid_copied, valid_steps}
-use Rattle.command_laws.proofs.EditLaws.Hosts.{host_from-join}
+use Rattle.edit_model.specs.DomModel.declared.Content.{Content}
+use Rattle.edit_model.specs.DomModel.declared.Content.TheVariants.{Element}
+use Rattle.edit_model.specs.DomModel.AttributeList.{unset_in}
+use Rattle.edit_model.specs.DomModel.Contents.{name_in, attributes_in, is_break}
+use Rattle.edit_model.specs.DomModel.Editing.{editing_host, is_editable}
+use Rattle.edit_model.specs.DomModel.Forest.{Forest, Seen, times, count_of, tree_of, parent_of, children_of, content_of, link, unlink, IsDistinct, IsWithin, CanPut, depth_of}
+use Rattle.edit_model.specs.DomModel.Places.{place_in}
+use Rattle.edit_model.proofs.DomModel.Kept.{content_of-link, content_of-unlink, content_of-with_leaf_other}
+use Rattle.edit_model.proofs.DomModel.Links.{child_of_parent, parent_count, times-children_of, children_of-link, children_of-unlink, children_of-with_leaf, IsDistinct-link, IsDistinct-unlink, tree_of_absent}
+use Rattle.edit_model.proofs.DomModel.Move.{parent_apart}
+use Rattle.edit_model.proofs.DomModel.Stands.{seek_absent}
+use Rattle.edit_model.proofs.DomModel.Totals.{total-without}
+use Rattle.edit_model.proofs.DomModel.Within.{within_self, within_child, within_step}
+use Rattle.edit_model.specs.LiveRange.declared.places.Point.{Point}
+use Rattle.edit_model.specs.PointOrder.PointOrder.{is_within, child_toward}
+use Rattle.edit_model.specs.State.{State}
+use Rattle.edit_model.specs.Confined.{is_editable_for, is_inside, is_made, is_open, is_own, may_remove}
+use Rattle.edit_model.specs.Edit.{Insert, Remove, Move, Replace, Set, Unset, is_made_edit, trees_after, changed, with_change, edited}
+use Rattle.edit_model.specs.Tail.{Step, Copy, Do, carried, later, copy_of, tail_steps, document_size}
+use Rattle.edit_model.specs.Action.{made, applied, stepped, stepped_all, tail_of, may_extract, extracted}
+use Rattle.edit_model.specs.Possible.{freed, are_possible}
+use Rattle.edit_model.specs.Valid.{IsValid}
+use Rattle.edit_model.proofs.CommandParts.{SameCommand, same_command, command_steps}
+use Rattle.edit_model.proofs.Forests.{fresh}
+use Rattle.edit_model.proofs.TailForests.{away-unlink, away-link, away-with_leaf}
+use Rattle.edit_model.proofs.TailPlan.{AllOf, Fits, IsCopy, is_copy, tail_fits, parent_among, find_some}
+use Rattle.edit_model.proofs.TailPossible.{tail_possible}
+use Rattle.edit_model.proofs.TailRuns.{fit_steps}
+use Rattle.edit_model.proofs.TailSteps.{Extracts, extract_tests, either_extracted}
+use Rattle.edit_model.proofs.Tests.{inserts, label_is}
+use Rattle.edit_model.proofs.Hollow.{editable_below}
+use Rattle.edit_model.proofs.Trees.{none_or_some, within_trans, tree_of-with_leaf_other}
+use Rattle.edit_model.proofs.ValidParts.{valid_applied, valid_copied, valid_steps}
+use Rattle.edit_laws.proofs.Hosts.{host_from-join}
 use Rattle.command_laws.proofs.Openness.{host_same}
 use Rattle.caret_laws.specs.SingleEdits.{may_be_taken, brought_all, later_brought, tail_brought, extracted_singly}
 use Rattle.caret_laws.specs.TailRun.{GoesAlone, Leave}

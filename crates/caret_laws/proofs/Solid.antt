@@ -5,24 +5,24 @@ use Rattle.std.specs.List.{filter}
 use Rattle.std.proofs.lemmas.Bool.{cases_Bool, eq-eqb, ne_eqb, or_cases}
 use Rattle.std.proofs.lemmas.Bool.Decides.{eqb_tells}
 use Rattle.std.proofs.lemmas.List.Elements.{filter-append}
-use Rattle.edit_commands.specs.DomModel.declared.Content.{Content}
-use Rattle.edit_commands.specs.DomModel.declared.Content.TheVariants.{Words}
-use Rattle.edit_commands.specs.DomModel.Forest.{Forest, Seen, seek, tops, count_of, tree_of, content_of, IsDistinct}
-use Rattle.edit_commands.specs.DomModel.Forest.Forest.{Nil, Tree}
-use Rattle.edit_commands.specs.DomModel.Revised.{revised}
-use Rattle.edit_commands.proofs.DomModel.Stands.{seek_absent}
+use Rattle.edit_model.specs.DomModel.declared.Content.{Content}
+use Rattle.edit_model.specs.DomModel.declared.Content.TheVariants.{Words}
+use Rattle.edit_model.specs.DomModel.Forest.{Forest, Seen, seek, tops, count_of, tree_of, content_of, IsDistinct}
+use Rattle.edit_model.specs.DomModel.Forest.Forest.{Nil, Tree}
+use Rattle.edit_model.specs.DomModel.Revised.{revised}
+use Rattle.edit_model.proofs.DomModel.Stands.{seek_absent}
 use Rattle.std.specs.Option.{option_map}
-use Rattle.edit_commands.specs.EditModel.Kept.{Leaf, Letter, Thing, borne_by, leaves, is_blank, is_kept, kept_leaves}
-use Rattle.edit_commands.specs.EditModel.Edit.{with_replaced}
-use Rattle.edit_commands.specs.EditModel.Confined.{spliced}
-use Rattle.edit_commands.specs.EditModel.State.{State}
-use Rattle.edit_commands.specs.EditModel.Valid.{IsForest}
-use Rattle.edit_commands.proofs.EditModel.Documents.{document-revised}
-use Rattle.edit_commands.proofs.EditModel.Resting.{seek_document, forest-document}
-use Rattle.edit_commands.proofs.EditModel.Trees.{none_or_some}
-use Rattle.command_laws.specs.EditLaws.Order.{KeepsOrder}
-use Rattle.command_laws.proofs.EditLaws.Splitting.{revised_none}
-use Rattle.edit_commands.specs.DeleteCore.Spaces as spaces
+use Rattle.edit_model.specs.Kept.{Leaf, Letter, Thing, borne_by, leaves, is_blank, is_kept, kept_leaves}
+use Rattle.edit_model.specs.Edit.{with_replaced}
+use Rattle.edit_model.specs.Confined.{spliced}
+use Rattle.edit_model.specs.State.{State}
+use Rattle.edit_model.specs.Valid.{IsForest}
+use Rattle.edit_model.proofs.Documents.{document-revised}
+use Rattle.edit_model.proofs.Resting.{seek_document, forest-document}
+use Rattle.edit_model.proofs.Trees.{none_or_some}
+use Rattle.edit_laws.specs.Order.{KeepsOrder}
+use Rattle.edit_laws.proofs.Splitting.{revised_none}
+use Rattle.delete_core.specs.Spaces as spaces
 use Rattle.caret_laws.specs.SolidOrder.{is_solid, solid_leaves, KeepsOrderUpToBlanks}
 
 -- ---- what keeps the order keeps it up to blanks

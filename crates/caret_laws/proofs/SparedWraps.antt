@@ -5,47 +5,47 @@ use Rattle.std.specs.Prelude.{codes}
 use Rattle.std.specs.List.{filter}
 use Rattle.std.specs.Option.{option_map_or, option_and_then}
 use Rattle.std.proofs.lemmas.Bool.{and_parts}
-use Rattle.edit_commands.specs.DomModel.declared.Content.{Content}
-use Rattle.edit_commands.specs.DomModel.declared.Content.TheVariants.{Document, Element, Words, Remark}
-use Rattle.edit_commands.specs.DomModel.Contents.{is_break, is_parent_at, may_have_children, name_in}
-use Rattle.edit_commands.specs.DomModel.Forest.{Forest, tops, first_in, last_in, count_of, parent_of, children_of, prev_of, next_of, first_of, IsDistinct}
-use Rattle.edit_commands.specs.DomModel.Forest.Forest.{Nil, Tree}
-use Rattle.edit_commands.specs.DomModel.Places.{index_of}
-use Rattle.edit_commands.proofs.DomModel.Links.{parent_count, tree_is}
-use Rattle.edit_commands.proofs.DomModel.Neighbours.{parent_of-first}
-use Rattle.edit_commands.specs.CssValue.Values.{display_of}
-use Rattle.edit_commands.specs.NodeStyles.Blocks.{is_block_content, own_or_inline, is_hidden}
-use Rattle.edit_commands.specs.NodeStyles.OwnStyles.{attribute, declared, defaulted, own_display}
-use Rattle.edit_commands.specs.StyleTable.DefaultStyles.{default_of, default_display, value_of, display_rows}
-use Rattle.edit_commands.specs.NodeTests.SolidNeighbours.{is_extraneous_break}
-use Rattle.edit_commands.specs.NodeTests.Visible.{is_visible}
-use Rattle.edit_commands.specs.EditModel.State.{State}
-use Rattle.edit_commands.specs.EditModel.Action as action
-use Rattle.edit_commands.specs.EditModel.Action.{Action, made, element_content, acted}
-use Rattle.edit_commands.specs.EditModel.Confined.{is_editable_for, may_remove}
-use Rattle.edit_commands.specs.EditModel.Edit.{Insert, Remove, Move, Replace, Set, Unset}
-use Rattle.edit_commands.specs.EditModel.Kept.{is_empty, is_kept, is_thing, borne_by, leaves, kept_leaves, has_no_kept_leaves}
-use Rattle.edit_commands.specs.EditModel.Moves.{insert_before, move_first, move_all_first, move_each_last, make_break}
-use Rattle.edit_commands.specs.EditModel.Run.{Reaches, here, onward, Run, ◌>>=◌, ◌>>◌, act, answer, done, look, given, final, value, edit, insert, remove, make_element, grow}
-use Rattle.edit_commands.specs.EditModel.Valid.{IsValid}
-use Rattle.edit_commands.proofs.EditModel.Bearing.{bears-Tree}
-use Rattle.edit_commands.proofs.EditModel.Documents.{has_children}
-use Rattle.edit_commands.proofs.EditModel.Each.{EachOn}
-use Rattle.edit_commands.proofs.EditModel.Forests.{fresh}
-use Rattle.edit_commands.proofs.EditModel.OutsideRuns.{trees-grown}
-use Rattle.edit_commands.proofs.EditModel.Steps.{final-make_element}
-use Rattle.edit_commands.proofs.EditModel.Tests.{none_is, removes}
-use Rattle.edit_commands.proofs.EditModel.ValidRuns.{final_valid}
-use Rattle.command_laws.proofs.EditLaws.StayingKinds.{kind_along}
-use Rattle.edit_commands.specs.EditActions.Siblings.{first_parent, members}
-use Rattle.edit_commands.specs.EditQuery.Rows.{container_name}
-use Rattle.edit_commands.specs.WrapSplit.declared.rule.Criterion.TheVariants.{Never}
-use Rattle.edit_commands.specs.WrapSplit.declared.rule.Recipe.{Recipe}
-use Rattle.edit_commands.specs.WrapSplit.declared.rule.Recipe.TheVariants.{Make}
-use Rattle.edit_commands.specs.WrapSplit.Breaks.{if_hidden_own, up_step, top_hidden, last_break_before, break_at_end, breaks_before, breaks_at_end, breaks_from}
-use Rattle.edit_commands.specs.WrapSplit.Target.{beside, blank_of, made_of, made_by, target}
-use Rattle.edit_commands.specs.WrapSplit.Walks.{turn_bound, followed, walk, is_invisible}
-use Rattle.edit_commands.specs.WrapSplit.Wrap.{append_break, prepend_break, separate_with_br, append_all, parted_front, prepend_all, moved_in, grow_at, insert_if_loose, drop_empty, drop_parent, merged, merge_next, filled_from, filled, into_target, wrap_ends, wrap_list, all_hidden, widened, wrap_members, wrap}
+use Rattle.edit_model.specs.DomModel.declared.Content.{Content}
+use Rattle.edit_model.specs.DomModel.declared.Content.TheVariants.{Document, Element, Words, Remark}
+use Rattle.edit_model.specs.DomModel.Contents.{is_break, is_parent_at, may_have_children, name_in}
+use Rattle.edit_model.specs.DomModel.Forest.{Forest, tops, first_in, last_in, count_of, parent_of, children_of, prev_of, next_of, first_of, IsDistinct}
+use Rattle.edit_model.specs.DomModel.Forest.Forest.{Nil, Tree}
+use Rattle.edit_model.specs.DomModel.Places.{index_of}
+use Rattle.edit_model.proofs.DomModel.Links.{parent_count, tree_is}
+use Rattle.edit_model.proofs.DomModel.Neighbours.{parent_of-first}
+use Rattle.inline_value.specs.CssValue.Values.{display_of}
+use Rattle.inline_value.specs.NodeStyles.Blocks.{is_block_content, own_or_inline, is_hidden}
+use Rattle.inline_value.specs.NodeStyles.OwnStyles.{attribute, declared, defaulted, own_display}
+use Rattle.inline_value.specs.StyleTable.DefaultStyles.{default_of, default_display, value_of, display_rows}
+use Rattle.inline_value.specs.NodeTests.SolidNeighbours.{is_extraneous_break}
+use Rattle.inline_value.specs.NodeTests.Visible.{is_visible}
+use Rattle.edit_model.specs.State.{State}
+use Rattle.edit_model.specs.Action as action
+use Rattle.edit_model.specs.Action.{Action, made, element_content, acted}
+use Rattle.edit_model.specs.Confined.{is_editable_for, may_remove}
+use Rattle.edit_model.specs.Edit.{Insert, Remove, Move, Replace, Set, Unset}
+use Rattle.edit_model.specs.Kept.{is_empty, is_kept, is_thing, borne_by, leaves, kept_leaves, has_no_kept_leaves}
+use Rattle.edit_model.specs.Moves.{insert_before, move_first, move_all_first, move_each_last, make_break}
+use Rattle.edit_model.specs.Run.{Reaches, here, onward, Run, ◌>>=◌, ◌>>◌, act, answer, done, look, given, final, value, edit, insert, remove, make_element, grow}
+use Rattle.edit_model.specs.Valid.{IsValid}
+use Rattle.edit_model.proofs.Bearing.{bears-Tree}
+use Rattle.edit_model.proofs.Documents.{has_children}
+use Rattle.edit_model.proofs.Each.{EachOn}
+use Rattle.edit_model.proofs.Forests.{fresh}
+use Rattle.edit_model.proofs.OutsideRuns.{trees-grown}
+use Rattle.edit_model.proofs.Steps.{final-make_element}
+use Rattle.edit_model.proofs.Tests.{none_is, removes}
+use Rattle.edit_model.proofs.ValidRuns.{final_valid}
+use Rattle.edit_laws.proofs.StayingKinds.{kind_along}
+use Rattle.inline_value.specs.EditActions.Siblings.{first_parent, members}
+use Rattle.inline_value.specs.EditQuery.Rows.{container_name}
+use Rattle.inline_value.specs.WrapSplit.declared.rule.Criterion.TheVariants.{Never}
+use Rattle.inline_value.specs.WrapSplit.declared.rule.Recipe.{Recipe}
+use Rattle.inline_value.specs.WrapSplit.declared.rule.Recipe.TheVariants.{Make}
+use Rattle.inline_value.specs.WrapSplit.Breaks.{if_hidden_own, up_step, top_hidden, last_break_before, break_at_end, breaks_before, breaks_at_end, breaks_from}
+use Rattle.inline_value.specs.WrapSplit.Target.{beside, blank_of, made_of, made_by, target}
+use Rattle.inline_value.specs.WrapSplit.Walks.{turn_bound, followed, walk, is_invisible}
+use Rattle.inline_value.specs.WrapSplit.Wrap.{append_break, prepend_break, separate_with_br, append_all, parted_front, prepend_all, moved_in, grow_at, insert_if_loose, drop_empty, drop_parent, merged, merge_next, filled_from, filled, into_target, wrap_ends, wrap_list, all_hidden, widened, wrap_members, wrap}
 use Rattle.caret_laws.specs.Sparing.{Spares, SparesOn}
 use Rattle.caret_laws.specs.TailLaws.{is_thing_at}
 use Rattle.caret_laws.proofs.Canonical.{Ends, ends_answer, ends_look, ends_bind, ends_perform}

@@ -2,23 +2,23 @@
 -- their room: the certificate of an algorithm by its parts. What keeps the order while a command keeps contents keeps it then in any
 -- command.
 use Rattle.std.proofs.Common.{◌≡◌, ◌+◌, ◌<◌, ◌^◌, length, ℕ, zero, suc, Bool, true, false, ◌||◌, ◌&&◌, not, if◌then◌else◌, List, [], ◌∷◌, Option, Some, None, refl, ap, subst, ◌∙◌}
-use Rattle.edit_commands.specs.DomModel.declared.attributes.Attribute.{Attribute}
-use Rattle.edit_commands.specs.DomModel.Contents.{is_break}
-use Rattle.edit_commands.specs.DomModel.Forest.{parent_of, tree_of}
-use Rattle.edit_commands.specs.LiveRange.declared.places.Pair.{Pair}
-use Rattle.edit_commands.specs.LiveRange.LivePoints.{mapped}
-use Rattle.edit_commands.specs.LiveRange.PointsEdit as range
-use Rattle.edit_commands.specs.EditModel.State.{State}
-use Rattle.edit_commands.specs.EditModel.Action as action
-use Rattle.edit_commands.specs.EditModel.Action.{Action, Change, MakeElement, MakeWords, made, words_content, with_selection, with_scratch, selected, extended_from, extended, grown, sent, scratched, acted}
-use Rattle.edit_commands.specs.EditModel.Confined.{is_editable_for, is_inside, is_made, is_open, is_own, may_insert, may_leave, may_remove, may_move, may_replace, may_set, may_unset, may_select, may_grow, may_send}
-use Rattle.edit_commands.specs.EditModel.Edit.{Edit, Insert, Remove, Move, Replace, Set, Unset, is_made_edit, trees_after, points_after, overrides_after, changed, change_of, with_change, edited}
-use Rattle.edit_commands.specs.EditModel.Kept.{has_no_kept_leaves}
-use Rattle.edit_commands.specs.EditModel.Run.{Reaches, here, onward, reaches_trans, Run, final, value, ◌>>=◌, act, answer, look, given, for_each, while_at_most, edit, make_element, make_words, perform}
-use Rattle.edit_commands.specs.EditModel.Valid.{IsValid}
-use Rattle.command_laws.specs.EditLaws.Order.{KeepsOrder}
-use Rattle.command_laws.specs.EditLaws.OrderPreserving.{OrderPreserving}
-use Rattle.edit_commands.proofs.EditModel.ValidRuns.{valid_acted, valid_along}
+use Rattle.edit_model.specs.DomModel.declared.attributes.Attribute.{Attribute}
+use Rattle.edit_model.specs.DomModel.Contents.{is_break}
+use Rattle.edit_model.specs.DomModel.Forest.{parent_of, tree_of}
+use Rattle.edit_model.specs.LiveRange.declared.places.Pair.{Pair}
+use Rattle.edit_model.specs.LiveRange.LivePoints.{mapped}
+use Rattle.edit_model.specs.LiveRange.PointsEdit as range
+use Rattle.edit_model.specs.State.{State}
+use Rattle.edit_model.specs.Action as action
+use Rattle.edit_model.specs.Action.{Action, Change, MakeElement, MakeWords, made, words_content, with_selection, with_scratch, selected, extended_from, extended, grown, sent, scratched, acted}
+use Rattle.edit_model.specs.Confined.{is_editable_for, is_inside, is_made, is_open, is_own, may_insert, may_leave, may_remove, may_move, may_replace, may_set, may_unset, may_select, may_grow, may_send}
+use Rattle.edit_model.specs.Edit.{Edit, Insert, Remove, Move, Replace, Set, Unset, is_made_edit, trees_after, points_after, overrides_after, changed, change_of, with_change, edited}
+use Rattle.edit_model.specs.Kept.{has_no_kept_leaves}
+use Rattle.edit_model.specs.Run.{Reaches, here, onward, reaches_trans, Run, final, value, ◌>>=◌, act, answer, look, given, for_each, while_at_most, edit, make_element, make_words, perform}
+use Rattle.edit_model.specs.Valid.{IsValid}
+use Rattle.edit_laws.specs.Order.{KeepsOrder}
+use Rattle.edit_laws.specs.OrderPreserving.{OrderPreserving}
+use Rattle.edit_model.proofs.ValidRuns.{valid_acted, valid_along}
 use Rattle.caret_laws.specs.SolidOrder.{HasRoomFor}
 use Rattle.caret_laws.specs.Sparing.{Spares, SparesOn}
 use Rattle.caret_laws.proofs.BlindRuns.{kept, kept_valid}

@@ -5,48 +5,48 @@ use Rattle.std.specs.Prelude.{unwrap_or}
 use Rattle.std.specs.Option.{option_map, option_map_or}
 use Rattle.std.proofs.lemmas.Bool.{and_parts, cases_Bool}
 use Rattle.std.proofs.lemmas.Bool.Decides.{eqb_tells}
-use Rattle.edit_commands.specs.DomModel.declared.Content.{Content}
-use Rattle.edit_commands.specs.DomModel.declared.Content.TheVariants.{Document, Element, Words, Remark}
-use Rattle.edit_commands.specs.DomModel.Contents.{may_have_children, has_chars, has_chars_at, length_of}
-use Rattle.edit_commands.specs.DomModel.Editing.{is_true_state, is_host}
-use Rattle.edit_commands.specs.DomModel.Forest.{Forest, Seen, count_of, parent_of, next_of, content_of, IsWithin}
-use Rattle.edit_commands.specs.DomModel.Places.{index_of}
-use Rattle.edit_commands.proofs.DomModel.Links.{seen}
-use Rattle.edit_commands.proofs.DomModel.Totals.{total-without}
-use Rattle.edit_commands.proofs.DomModel.Within.{within_root}
-use Rattle.edit_commands.specs.LiveRange.declared.places.Point.{Point}
-use Rattle.edit_commands.specs.LiveRange.declared.places.Pair.{Pair}
-use Rattle.edit_commands.specs.NodeTests.CollapsedWhitespace.{is_words_content, is_words}
-use Rattle.edit_commands.specs.PointOrder.PointOrder.{is_before, is_placed}
-use Rattle.edit_commands.specs.EditModel.State.{State}
-use Rattle.edit_commands.specs.EditModel.Compositions.{characters_of, points_sent, split_under, split_words}
-use Rattle.edit_commands.specs.EditModel.Confined.{is_inside, may_select}
-use Rattle.edit_commands.specs.EditModel.Edit.{Edit, Insert, Remove, Move, Replace, Set, Unset, is_made_edit, trees_after, with_replaced, with_set, with_unset, changed}
-use Rattle.edit_commands.specs.EditModel.Action as action
-use Rattle.edit_commands.specs.EditModel.Action.{Action, made, words_content, with_selection, selected, extended, acted, element_content}
-use Rattle.edit_commands.specs.EditModel.Run.{Reaches, here, onward, reaches_trans, Run, ◌>>◌, final, answer, done, look, send, grow}
-use Rattle.edit_commands.specs.EditModel.Valid.{IsValid, IsPlacedPair}
-use Rattle.edit_commands.proofs.EditModel.Documents.{within-link, within-with_leaf, within-revised, within-move, within_above, has_children, index_below}
-use Rattle.edit_commands.proofs.EditModel.Each.{Each, EachOn, each_bind, each_answer, each_look, each_if, each_given, each_edit, each_make_words, each_perform}
-use Rattle.edit_commands.proofs.EditModel.Forests.{can_go}
-use Rattle.edit_commands.proofs.EditModel.IslandRuns.{trees_made, trees_left}
-use Rattle.edit_commands.proofs.EditModel.Made.{inside_goes}
-use Rattle.edit_commands.proofs.EditModel.OutsideRuns.{trees-extended, trees-selected, trees-grown, trees-sent, trees-scratched}
-use Rattle.edit_commands.proofs.EditModel.Points.{Placed, placed_is, placed_from}
-use Rattle.edit_commands.proofs.EditModel.Steps.{final-bind, final-look, final-answer, final-perform}
-use Rattle.edit_commands.proofs.EditModel.TailDocument.{document_extracted}
-use Rattle.edit_commands.proofs.EditModel.Tests.{inserts, goes, parent_there}
-use Rattle.edit_commands.proofs.EditModel.ValidRuns.{valid_along}
-use Rattle.command_laws.proofs.EditLaws.Hosts.{parent_inside}
-use Rattle.command_laws.proofs.EditLaws.StayingKinds.{kind_along}
-use Rattle.command_laws.proofs.EditLaws.SteadyRuns.{steady_parts, states_on}
-use Rattle.command_laws.specs.EditLaws.Kinds as kind
-use Rattle.command_laws.specs.EditLaws.Kinds.{Kind, kind_in, kind_of}
-use Rattle.command_laws.specs.EditLaws.Steady.{Steady}
-use Rattle.edit_commands.specs.EditActions.ActiveRange.{start_of}
-use Rattle.edit_commands.specs.DeleteCore.Places.{at, before_node, after_node}
-use Rattle.edit_commands.specs.TextInsertion.Paragraph.{out_of_text, left_text, leave_text, split_text}
-use Rattle.edit_commands.specs.TextInsertion.Start.{active_start, if_point_inside, start_inside, cuts_text}
+use Rattle.edit_model.specs.DomModel.declared.Content.{Content}
+use Rattle.edit_model.specs.DomModel.declared.Content.TheVariants.{Document, Element, Words, Remark}
+use Rattle.edit_model.specs.DomModel.Contents.{may_have_children, has_chars, has_chars_at, length_of}
+use Rattle.edit_model.specs.DomModel.Editing.{is_true_state, is_host}
+use Rattle.edit_model.specs.DomModel.Forest.{Forest, Seen, count_of, parent_of, next_of, content_of, IsWithin}
+use Rattle.edit_model.specs.DomModel.Places.{index_of}
+use Rattle.edit_model.proofs.DomModel.Links.{seen}
+use Rattle.edit_model.proofs.DomModel.Totals.{total-without}
+use Rattle.edit_model.proofs.DomModel.Within.{within_root}
+use Rattle.edit_model.specs.LiveRange.declared.places.Point.{Point}
+use Rattle.edit_model.specs.LiveRange.declared.places.Pair.{Pair}
+use Rattle.inline_value.specs.NodeTests.CollapsedWhitespace.{is_words_content, is_words}
+use Rattle.edit_model.specs.PointOrder.PointOrder.{is_before, is_placed}
+use Rattle.edit_model.specs.State.{State}
+use Rattle.edit_model.specs.Compositions.{characters_of, points_sent, split_under, split_words}
+use Rattle.edit_model.specs.Confined.{is_inside, may_select}
+use Rattle.edit_model.specs.Edit.{Edit, Insert, Remove, Move, Replace, Set, Unset, is_made_edit, trees_after, with_replaced, with_set, with_unset, changed}
+use Rattle.edit_model.specs.Action as action
+use Rattle.edit_model.specs.Action.{Action, made, words_content, with_selection, selected, extended, acted, element_content}
+use Rattle.edit_model.specs.Run.{Reaches, here, onward, reaches_trans, Run, ◌>>◌, final, answer, done, look, send, grow}
+use Rattle.edit_model.specs.Valid.{IsValid, IsPlacedPair}
+use Rattle.edit_model.proofs.Documents.{within-link, within-with_leaf, within-revised, within-move, within_above, has_children, index_below}
+use Rattle.edit_model.proofs.Each.{Each, EachOn, each_bind, each_answer, each_look, each_if, each_given, each_edit, each_make_words, each_perform}
+use Rattle.edit_model.proofs.Forests.{can_go}
+use Rattle.edit_model.proofs.IslandRuns.{trees_made, trees_left}
+use Rattle.edit_model.proofs.Made.{inside_goes}
+use Rattle.edit_model.proofs.OutsideRuns.{trees-extended, trees-selected, trees-grown, trees-sent, trees-scratched}
+use Rattle.edit_model.proofs.Points.{Placed, placed_is, placed_from}
+use Rattle.edit_model.proofs.Steps.{final-bind, final-look, final-answer, final-perform}
+use Rattle.edit_model.proofs.TailDocument.{document_extracted}
+use Rattle.edit_model.proofs.Tests.{inserts, goes, parent_there}
+use Rattle.edit_model.proofs.ValidRuns.{valid_along}
+use Rattle.edit_laws.proofs.Hosts.{parent_inside}
+use Rattle.edit_laws.proofs.StayingKinds.{kind_along}
+use Rattle.edit_laws.proofs.SteadyRuns.{steady_parts, states_on}
+use Rattle.edit_laws.specs.Kinds as kind
+use Rattle.edit_laws.specs.Kinds.{Kind, kind_in, kind_of}
+use Rattle.edit_laws.specs.Steady.{Steady}
+use Rattle.inline_value.specs.EditActions.ActiveRange.{start_of}
+use Rattle.delete_core.specs.Places.{at, before_node, after_node}
+use Rattle.text_insertion.specs.Paragraph.{out_of_text, left_text, leave_text, split_text}
+use Rattle.text_insertion.specs.Start.{active_start, if_point_inside, start_inside, cuts_text}
 use Rattle.caret_laws.proofs.InsideRuns.{Began, Underway, Near, leaves_trans, open_near, near_editable, valid_way, hosted_way}
 use Rattle.caret_laws.proofs.StillRuns.{Good, Selects, Stays}
 use Rattle.caret_laws.proofs.Trees.{inside_open}

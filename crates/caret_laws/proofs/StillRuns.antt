@@ -3,32 +3,32 @@
 use Rattle.std.proofs.Common.{◌≡◌, ℕ, ◌+◌, Bool, true, false, ◌&&◌, if◌then◌else◌, eqb, List, length, Option, Some, None, IfSome, refl, sym, ap, subst, ◌∙◌, inl, inr, true≢false}
 use Rattle.std.specs.Option.{option_map, option_map_or}
 use Rattle.std.proofs.lemmas.Bool.{cases_Bool}
-use Rattle.edit_commands.specs.DomModel.declared.Content.{Content}
-use Rattle.edit_commands.specs.DomModel.declared.Content.TheVariants.{Document, Element, Words, Remark}
-use Rattle.edit_commands.specs.DomModel.declared.attributes.Attribute.{Attribute}
-use Rattle.edit_commands.specs.DomModel.Contents.{is_parent_at, may_have_children}
-use Rattle.edit_commands.specs.DomModel.Forest.{Forest, preorder, tree_of, content_of, unlink}
-use Rattle.edit_commands.specs.DomModel.Places.{index_of}
-use Rattle.edit_commands.specs.LiveRange.declared.places.Point.{Point}
-use Rattle.edit_commands.specs.LiveRange.declared.places.Pair.{Pair}
-use Rattle.edit_commands.specs.LiveRange.LivePoints.{LivePoints}
-use Rattle.edit_commands.specs.LiveRange.PointsEdit as range
-use Rattle.edit_commands.specs.LiveRange.PointsEdit.{adjusted, adjusted_pair, with_offset, after_insert, after_removal, after_replacement, after_loss, has_label}
-use Rattle.edit_commands.specs.EditModel.State.{State}
-use Rattle.edit_commands.specs.EditModel.Confined.{is_open, may_grow, may_select}
-use Rattle.edit_commands.specs.EditModel.Edit.{Edit, Insert, Remove, Move, Replace, Set, Unset, is_made_edit, points_after, index_before, parent_or_0, changed, with_change, edited}
-use Rattle.edit_commands.specs.EditModel.Action as action
-use Rattle.edit_commands.specs.EditModel.Action.{Action, made, words_content, grown, scratched, acted, element_content}
-use Rattle.edit_commands.specs.EditModel.Laws.{LeavesStates}
-use Rattle.edit_commands.specs.EditModel.Run.{Reaches, here, onward, Run, ◌>>=◌, answer, look, given, for_each, final, edit, make_element, perform}
-use Rattle.edit_commands.proofs.EditModel.Documents.{has_children}
-use Rattle.edit_commands.proofs.EditModel.Each.{Each, EachOn, each_bind, each_answer, each_look, each_if, each_given, each_for_each, each_edit, each_make_element, each_perform}
-use Rattle.edit_commands.proofs.EditModel.Made.{parent_is}
-use Rattle.edit_commands.proofs.EditModel.Tests.{removes, goes, parent_there}
-use Rattle.edit_commands.proofs.EditModel.Steps.{either_way}
-use Rattle.command_laws.specs.EditLaws.Kinds as kind
-use Rattle.command_laws.specs.EditLaws.Kinds.{Kind, kind_in, kind_of}
-use Rattle.command_laws.proofs.EditLaws.StayingKinds.{kind_along}
+use Rattle.edit_model.specs.DomModel.declared.Content.{Content}
+use Rattle.edit_model.specs.DomModel.declared.Content.TheVariants.{Document, Element, Words, Remark}
+use Rattle.edit_model.specs.DomModel.declared.attributes.Attribute.{Attribute}
+use Rattle.edit_model.specs.DomModel.Contents.{is_parent_at, may_have_children}
+use Rattle.edit_model.specs.DomModel.Forest.{Forest, preorder, tree_of, content_of, unlink}
+use Rattle.edit_model.specs.DomModel.Places.{index_of}
+use Rattle.edit_model.specs.LiveRange.declared.places.Point.{Point}
+use Rattle.edit_model.specs.LiveRange.declared.places.Pair.{Pair}
+use Rattle.edit_model.specs.LiveRange.LivePoints.{LivePoints}
+use Rattle.edit_model.specs.LiveRange.PointsEdit as range
+use Rattle.edit_model.specs.LiveRange.PointsEdit.{adjusted, adjusted_pair, with_offset, after_insert, after_removal, after_replacement, after_loss, has_label}
+use Rattle.edit_model.specs.State.{State}
+use Rattle.edit_model.specs.Confined.{is_open, may_grow, may_select}
+use Rattle.edit_model.specs.Edit.{Edit, Insert, Remove, Move, Replace, Set, Unset, is_made_edit, points_after, index_before, parent_or_0, changed, with_change, edited}
+use Rattle.edit_model.specs.Action as action
+use Rattle.edit_model.specs.Action.{Action, made, words_content, grown, scratched, acted, element_content}
+use Rattle.edit_model.specs.Laws.{LeavesStates}
+use Rattle.edit_model.specs.Run.{Reaches, here, onward, Run, ◌>>=◌, answer, look, given, for_each, final, edit, make_element, perform}
+use Rattle.edit_model.proofs.Documents.{has_children}
+use Rattle.edit_model.proofs.Each.{Each, EachOn, each_bind, each_answer, each_look, each_if, each_given, each_for_each, each_edit, each_make_element, each_perform}
+use Rattle.edit_model.proofs.Made.{parent_is}
+use Rattle.edit_model.proofs.Tests.{removes, goes, parent_there}
+use Rattle.edit_model.proofs.Steps.{either_way}
+use Rattle.edit_laws.specs.Kinds as kind
+use Rattle.edit_laws.specs.Kinds.{Kind, kind_in, kind_of}
+use Rattle.edit_laws.proofs.StayingKinds.{kind_along}
 use Rattle.caret_laws.proofs.InsideRuns.{Began, Underway, Near, open_near, valid_way}
 
 -- ---- actions that select nothing and send no points, and change no state of contenteditable

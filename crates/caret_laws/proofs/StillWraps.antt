@@ -1,14 +1,14 @@
 -- Wrapping a list selects nothing, where what is made has no state of contenteditable.
 use Rattle.std.proofs.Common.{ℕ, List, Option, refl}
-use Rattle.edit_commands.specs.EditModel.Action.{MakeElement}
-use Rattle.edit_commands.specs.EditModel.Laws.{LeavesStates}
-use Rattle.edit_commands.specs.EditModel.Moves.{insert_before, insert_after, move_before, move_after, move_first, move_all_before, move_all_after, move_all_first, move_each_last, make_break}
-use Rattle.edit_commands.specs.WrapSplit.declared.rule.Criterion.{Criterion}
-use Rattle.edit_commands.specs.WrapSplit.declared.rule.Blank.{Blank}
-use Rattle.edit_commands.specs.WrapSplit.declared.rule.Recipe.TheVariants.{Make}
-use Rattle.edit_commands.specs.WrapSplit.Breaks.{breaks_before, breaks_at_end, breaks_from}
-use Rattle.edit_commands.specs.WrapSplit.Target.{blank_of, made_of, made_by, target}
-use Rattle.edit_commands.specs.WrapSplit.Wrap.{append_break, prepend_break, separate_with_br, append_all, parted_front, prepend_all, moved_in, grow_at, insert_if_loose, drop_empty, drop_parent, move_children, merged, merge_next, filled_from, filled, into_target, wrap_ends, wrap_list, wrap_members, wrap}
+use Rattle.edit_model.specs.Action.{MakeElement}
+use Rattle.edit_model.specs.Laws.{LeavesStates}
+use Rattle.edit_model.specs.Moves.{insert_before, insert_after, move_before, move_after, move_first, move_all_before, move_all_after, move_all_first, move_each_last, make_break}
+use Rattle.inline_value.specs.WrapSplit.declared.rule.Criterion.{Criterion}
+use Rattle.inline_value.specs.WrapSplit.declared.rule.Blank.{Blank}
+use Rattle.inline_value.specs.WrapSplit.declared.rule.Recipe.TheVariants.{Make}
+use Rattle.inline_value.specs.WrapSplit.Breaks.{breaks_before, breaks_at_end, breaks_from}
+use Rattle.inline_value.specs.WrapSplit.Target.{blank_of, made_of, made_by, target}
+use Rattle.inline_value.specs.WrapSplit.Wrap.{append_break, prepend_break, separate_with_br, append_all, parted_front, prepend_all, moved_in, grow_at, insert_if_loose, drop_empty, drop_parent, move_children, merged, merge_next, filled_from, filled, into_target, wrap_ends, wrap_list, wrap_members, wrap}
 use Rattle.caret_laws.proofs.StillRuns.{Still, still_parts, still_answer, still_bind, still_make_element}
 
 still_insert_before : (o n : ℕ) → Still (insert_before o n)

@@ -1,26 +1,26 @@
 -- Inserting one character at a caret, with the overrides that are set: restoring them keeps the order with the character in it.
 use Rattle.std.proofs.Common.{◌≡◌, ◌≢◌, ℕ, true, false, if◌then◌else◌, List, [], ◌∷◌, ◌++◌, ◌+◌, ◌&&◌, is_none, Some, append_assoc, refl, sym, subst, ◌∙◌, arith}
 use Rattle.std.proofs.lemmas.Bool.{ne_eqb}
-use Rattle.edit_commands.specs.DomModel.Forest.{next_of}
-use Rattle.edit_commands.specs.LiveRange.declared.places.Point.{Point}
-use Rattle.edit_commands.specs.NodeTests.CollapsedWhitespace.{is_words}
-use Rattle.edit_commands.specs.NodeTests.SolidNeighbours.{is_collapsed_break}
-use Rattle.edit_commands.specs.EditModel.State.{State}
-use Rattle.edit_commands.specs.EditModel.Confined.{is_inside}
-use Rattle.edit_commands.specs.EditModel.History.{begun}
-use Rattle.edit_commands.specs.EditModel.Edit.{is_made_edit}
-use Rattle.edit_commands.specs.EditModel.Run.{Run, ◌>>=◌, look, act, edit, remove, replace, select, make_words, ◌>>◌, final, done, given, collapse}
-use Rattle.edit_commands.proofs.EditModel.Steps.{final-bind, final-answer}
-use Rattle.edit_commands.proofs.EditModel.ValidRuns.{final_valid}
-use Rattle.edit_commands.specs.InlineValue.declared.overrides.Override.{Override}
-use Rattle.edit_commands.specs.InlineValue.Overrides.{overrides_of}
-use Rattle.edit_commands.specs.InlineCommands.RestoringStates.{restore_states}
-use Rattle.edit_commands.specs.DeleteCore.declared.deletion.TheConstants.Manner.{KEEP_WRAPPERS}
-use Rattle.edit_commands.specs.DeleteCore.Places.{at, start_in, end_in}
-use Rattle.edit_commands.specs.DeleteCore.Whitespace.{canonicalize}
-use Rattle.edit_commands.specs.TextInsertion.Paragraph.{insert_paragraph}
-use Rattle.edit_commands.specs.TextInsertion.Start.{active_start, insert_at_start, erase}
-use Rattle.edit_commands.specs.TextInsertion.Typing.{drop_sole_break, put_at, into_text, put_char, close_text, type_char, insert_char_at, insert_char_inside, insert_chars, insert_text}
+use Rattle.edit_model.specs.DomModel.Forest.{next_of}
+use Rattle.edit_model.specs.LiveRange.declared.places.Point.{Point}
+use Rattle.inline_value.specs.NodeTests.CollapsedWhitespace.{is_words}
+use Rattle.inline_value.specs.NodeTests.SolidNeighbours.{is_collapsed_break}
+use Rattle.edit_model.specs.State.{State}
+use Rattle.edit_model.specs.Confined.{is_inside}
+use Rattle.edit_model.specs.History.{begun}
+use Rattle.edit_model.specs.Edit.{is_made_edit}
+use Rattle.edit_model.specs.Run.{Run, ◌>>=◌, look, act, edit, remove, replace, select, make_words, ◌>>◌, final, done, given, collapse}
+use Rattle.edit_model.proofs.Steps.{final-bind, final-answer}
+use Rattle.edit_model.proofs.ValidRuns.{final_valid}
+use Rattle.inline_value.specs.declared.overrides.Override.{Override}
+use Rattle.inline_value.specs.Overrides.{overrides_of}
+use Rattle.inline_commands.specs.RestoringStates.{restore_states}
+use Rattle.delete_core.specs.declared.deletion.TheConstants.Manner.{KEEP_WRAPPERS}
+use Rattle.delete_core.specs.Places.{at, start_in, end_in}
+use Rattle.delete_core.specs.Whitespace.{canonicalize}
+use Rattle.text_insertion.specs.Paragraph.{insert_paragraph}
+use Rattle.text_insertion.specs.Start.{active_start, insert_at_start, erase}
+use Rattle.text_insertion.specs.Typing.{drop_sole_break, put_at, into_text, put_char, close_text, type_char, insert_char_at, insert_char_inside, insert_chars, insert_text}
 use Rattle.caret_laws.specs.SolidOrder.{StandsAt, HasRoomFor}
 use Rattle.caret_laws.specs.TypingLaws.{IsNoComment}
 use Rattle.caret_laws.proofs.Canonical.{ends_look, ends_bind}

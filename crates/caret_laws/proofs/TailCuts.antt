@@ -4,33 +4,33 @@ use Rattle.std.proofs.Common.{◌≡◌, ◌≢◌, ℕ, zero, suc, ◌+◌, ◌
 use Rattle.std.specs.Option.{option_map_or}
 use Rattle.std.proofs.lemmas.Bool.{and_parts, cases_Bool, ne_eqb, ltb-true}
 use Rattle.std.proofs.lemmas.List.{append-nil, take-append-drop}
-use Rattle.edit_commands.specs.DomModel.declared.Content.{Content}
-use Rattle.edit_commands.specs.DomModel.Forest.{Forest, join, tops, times, count_of, tree_of, parent_of, children_of, put_under, with_leaf, IsDistinct, IsWithin, CanPut}
-use Rattle.edit_commands.specs.DomModel.Forest.Forest.{Nil, Tree}
-use Rattle.edit_commands.specs.DomModel.Places.{place_in}
-use Rattle.edit_commands.proofs.DomModel.Totals.{total-without}
-use Rattle.edit_commands.proofs.DomModel.Links.{join-Nil, eqb_refl_true}
-use Rattle.edit_commands.proofs.DomModel.NodesKept.{AreNodes}
-use Rattle.edit_commands.proofs.DomModel.Within.{within_step}
-use Rattle.edit_commands.specs.LiveRange.declared.places.Point.{Point}
-use Rattle.edit_commands.specs.PointOrder.PointOrder.{is_within, child_toward}
-use Rattle.edit_commands.specs.EditModel.State.{State}
-use Rattle.edit_commands.specs.EditModel.Edit.{Insert, is_made_edit, trees_after, changed, with_change}
-use Rattle.edit_commands.specs.EditModel.Kept.{Leaf, borne_by, leaves}
-use Rattle.edit_commands.specs.EditModel.Tail.{Step, Copy, Do, carried, later, copy_of, tail_steps}
-use Rattle.edit_commands.specs.EditModel.Action.{made, applied, stepped, stepped_all}
-use Rattle.edit_commands.specs.EditModel.Possible.{freed, are_possible}
-use Rattle.edit_commands.specs.EditModel.Valid.{IsValid}
-use Rattle.edit_commands.proofs.EditModel.Forests.{fresh}
-use Rattle.edit_commands.proofs.EditModel.Tests.{inserts}
-use Rattle.edit_commands.proofs.EditModel.Trees.{tree_of-inside, tree_of-with_leaf_other}
-use Rattle.edit_commands.proofs.EditModel.TailPlan.{AllOf, Fits, IsCopy, is_copy, tail_fits, parent_among, find_some}
-use Rattle.edit_commands.proofs.EditModel.TailOutside.{root_there}
-use Rattle.edit_commands.proofs.EditModel.ValidParts.{valid_applied, valid_copied, valid_steps}
-use Rattle.command_laws.proofs.EditLaws.Around.{off_by, self_one}
-use Rattle.command_laws.proofs.EditLaws.Leaves.{leaves-Nil, leaves-Tree, leaves-join}
-use Rattle.command_laws.proofs.EditLaws.Patterns.{count-join, join-assoc, tree_of-join, put_last, take_one}
-use Rattle.command_laws.proofs.EditLaws.Seats.{split_top, Parts, parts_of}
+use Rattle.edit_model.specs.DomModel.declared.Content.{Content}
+use Rattle.edit_model.specs.DomModel.Forest.{Forest, join, tops, times, count_of, tree_of, parent_of, children_of, put_under, with_leaf, IsDistinct, IsWithin, CanPut}
+use Rattle.edit_model.specs.DomModel.Forest.Forest.{Nil, Tree}
+use Rattle.edit_model.specs.DomModel.Places.{place_in}
+use Rattle.edit_model.proofs.DomModel.Totals.{total-without}
+use Rattle.edit_model.proofs.DomModel.Links.{join-Nil, eqb_refl_true}
+use Rattle.edit_model.proofs.DomModel.NodesKept.{AreNodes}
+use Rattle.edit_model.proofs.DomModel.Within.{within_step}
+use Rattle.edit_model.specs.LiveRange.declared.places.Point.{Point}
+use Rattle.edit_model.specs.PointOrder.PointOrder.{is_within, child_toward}
+use Rattle.edit_model.specs.State.{State}
+use Rattle.edit_model.specs.Edit.{Insert, is_made_edit, trees_after, changed, with_change}
+use Rattle.edit_model.specs.Kept.{Leaf, borne_by, leaves}
+use Rattle.edit_model.specs.Tail.{Step, Copy, Do, carried, later, copy_of, tail_steps}
+use Rattle.edit_model.specs.Action.{made, applied, stepped, stepped_all}
+use Rattle.edit_model.specs.Possible.{freed, are_possible}
+use Rattle.edit_model.specs.Valid.{IsValid}
+use Rattle.edit_model.proofs.Forests.{fresh}
+use Rattle.edit_model.proofs.Tests.{inserts}
+use Rattle.edit_model.proofs.Trees.{tree_of-inside, tree_of-with_leaf_other}
+use Rattle.edit_model.proofs.TailPlan.{AllOf, Fits, IsCopy, is_copy, tail_fits, parent_among, find_some}
+use Rattle.edit_model.proofs.TailOutside.{root_there}
+use Rattle.edit_model.proofs.ValidParts.{valid_applied, valid_copied, valid_steps}
+use Rattle.edit_laws.proofs.Around.{off_by, self_one}
+use Rattle.edit_laws.proofs.Leaves.{leaves-Nil, leaves-Tree, leaves-join}
+use Rattle.edit_laws.proofs.Patterns.{count-join, join-assoc, tree_of-join, put_last, take_one}
+use Rattle.edit_laws.proofs.Seats.{split_top, Parts, parts_of}
 use Rattle.caret_laws.proofs.Trees.{root_seen}
 use Rattle.caret_laws.proofs.OtherChildren.{with_children, children_here, children_past, children_absent, children_put, children_inner, children_swap, children_none, children_only, children_at, children_join}
 use Rattle.caret_laws.proofs.TreesBeside.{tree_of-linked}

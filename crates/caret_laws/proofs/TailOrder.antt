@@ -4,36 +4,36 @@ use Rattle.std.specs.Option.{option_map_or, option_and_then}
 use Rattle.std.specs.Prelude.{unwrap_or, codes}
 use Rattle.std.proofs.lemmas.Bool.{eqb-false}
 use Rattle.std.proofs.lemmas.List.{append-nil}
-use Rattle.edit_commands.specs.DomModel.declared.Content.{Content}
-use Rattle.edit_commands.specs.DomModel.declared.Content.TheVariants.{Element}
-use Rattle.edit_commands.specs.DomModel.AttributeList.{unset_in}
-use Rattle.edit_commands.specs.DomModel.Contents.{name_of, attributes_of}
-use Rattle.edit_commands.specs.DomModel.Forest.{Forest, Seen, join, tops, first_in, after_in, count_of, tree_of, parent_of, children_of, next_of, IsDistinct, IsWithin}
-use Rattle.edit_commands.specs.DomModel.Forest.Forest.{Nil, Tree}
-use Rattle.edit_commands.specs.DomModel.Places.{rest_in}
-use Rattle.edit_commands.proofs.DomModel.Totals.{total-without}
-use Rattle.edit_commands.proofs.DomModel.Links.{parent_count, eqb_refl_true}
-use Rattle.edit_commands.proofs.DomModel.Move.{parent_apart}
-use Rattle.edit_commands.proofs.DomModel.Within.{within_self, within_child, within_root}
-use Rattle.edit_commands.specs.LiveRange.declared.places.Point.{Point}
-use Rattle.edit_commands.specs.EditModel.State.{State}
-use Rattle.edit_commands.specs.EditModel.Kept.{borne_by, leaves, is_thing}
-use Rattle.edit_commands.specs.EditModel.Tail.{copy_of, document_size}
-use Rattle.edit_commands.specs.EditModel.Action.{stepped_all, tail_of, may_extract, extracted}
-use Rattle.edit_commands.specs.EditModel.History.{document_of}
-use Rattle.edit_commands.specs.EditModel.Valid.{IsValid}
-use Rattle.edit_commands.proofs.EditModel.Documents.{within_above}
-use Rattle.edit_commands.proofs.EditModel.TailPossible.{tail_possible}
-use Rattle.edit_commands.proofs.EditModel.TailSteps.{Extracts, extract_tests, either_extracted}
-use Rattle.edit_commands.proofs.EditModel.Trees.{none_or_some, tree_of-inside}
-use Rattle.command_laws.proofs.EditLaws.Around.{Spot, fill, off_by, self_one, spot_as, spot_count, spot_distinct, spot_tree, spot_leaves}
-use Rattle.command_laws.proofs.EditLaws.Leaves.{leaves-Nil, leaves-Tree, leaves-join}
-use Rattle.command_laws.proofs.EditLaws.Lifting.{node_found}
-use Rattle.command_laws.proofs.EditLaws.MoveLaws.{headed_first}
-use Rattle.command_laws.proofs.EditLaws.Patterns.{count-join, join-assoc, take_one}
-use Rattle.command_laws.proofs.EditLaws.ReversedBefore.{next_is}
-use Rattle.command_laws.proofs.EditLaws.Seats.{Headed, Seat, seat}
-use Rattle.command_laws.proofs.EditLaws.Slides.{document_distinct}
+use Rattle.edit_model.specs.DomModel.declared.Content.{Content}
+use Rattle.edit_model.specs.DomModel.declared.Content.TheVariants.{Element}
+use Rattle.edit_model.specs.DomModel.AttributeList.{unset_in}
+use Rattle.edit_model.specs.DomModel.Contents.{name_of, attributes_of}
+use Rattle.edit_model.specs.DomModel.Forest.{Forest, Seen, join, tops, first_in, after_in, count_of, tree_of, parent_of, children_of, next_of, IsDistinct, IsWithin}
+use Rattle.edit_model.specs.DomModel.Forest.Forest.{Nil, Tree}
+use Rattle.edit_model.specs.DomModel.Places.{rest_in}
+use Rattle.edit_model.proofs.DomModel.Totals.{total-without}
+use Rattle.edit_model.proofs.DomModel.Links.{parent_count, eqb_refl_true}
+use Rattle.edit_model.proofs.DomModel.Move.{parent_apart}
+use Rattle.edit_model.proofs.DomModel.Within.{within_self, within_child, within_root}
+use Rattle.edit_model.specs.LiveRange.declared.places.Point.{Point}
+use Rattle.edit_model.specs.State.{State}
+use Rattle.edit_model.specs.Kept.{borne_by, leaves, is_thing}
+use Rattle.edit_model.specs.Tail.{copy_of, document_size}
+use Rattle.edit_model.specs.Action.{stepped_all, tail_of, may_extract, extracted}
+use Rattle.edit_model.specs.History.{document_of}
+use Rattle.edit_model.specs.Valid.{IsValid}
+use Rattle.edit_model.proofs.Documents.{within_above}
+use Rattle.edit_model.proofs.TailPossible.{tail_possible}
+use Rattle.edit_model.proofs.TailSteps.{Extracts, extract_tests, either_extracted}
+use Rattle.edit_model.proofs.Trees.{none_or_some, tree_of-inside}
+use Rattle.edit_laws.proofs.Around.{Spot, fill, off_by, self_one, spot_as, spot_count, spot_distinct, spot_tree, spot_leaves}
+use Rattle.edit_laws.proofs.Leaves.{leaves-Nil, leaves-Tree, leaves-join}
+use Rattle.edit_laws.proofs.Lifting.{node_found}
+use Rattle.edit_laws.proofs.MoveLaws.{headed_first}
+use Rattle.edit_laws.proofs.Patterns.{count-join, join-assoc, take_one}
+use Rattle.edit_laws.proofs.ReversedBefore.{next_is}
+use Rattle.edit_laws.proofs.Seats.{Headed, Seat, seat}
+use Rattle.edit_laws.proofs.Slides.{document_distinct}
 use Rattle.caret_laws.specs.TailLaws.{is_thing_at, AmidNoThing}
 use Rattle.caret_laws.proofs.OtherChildren.{with_children, children_here, children_past, children_absent, children_join, children_fill}
 use Rattle.caret_laws.proofs.TailCuts.{Begins, Cut, cut_off}

@@ -4,23 +4,23 @@ use Rattle.std.specs.Option.{option_map, option_map_or}
 use Rattle.std.proofs.lemmas.Bool.{cases_Bool}
 use Rattle.std.proofs.lemmas.Bool.Decides.{eqb_tells}
 use Rattle.std.proofs.lemmas.List.{length-append, length-drop, length-take}
-use Rattle.edit_commands.specs.DomModel.declared.Content.{Content}
-use Rattle.edit_commands.specs.DomModel.declared.Content.TheVariants.{Document, Element, Words, Remark}
-use Rattle.edit_commands.specs.DomModel.Forest.{Forest, parent_of, content_of, link, unlink, CanPut}
-use Rattle.edit_commands.specs.DomModel.Revised.{revised}
-use Rattle.edit_commands.proofs.DomModel.Kept.{content_of-link, content_of-unlink, content_of-with_leaf_new, content_of-with_leaf_other}
-use Rattle.edit_commands.proofs.DomModel.Revising.{content_of-revised}
-use Rattle.edit_commands.specs.NodeTests.CollapsedWhitespace.{is_words_content}
-use Rattle.edit_commands.specs.EditModel.State.{State}
-use Rattle.edit_commands.specs.EditModel.Confined.{spliced}
-use Rattle.edit_commands.specs.EditModel.Edit.{Edit, Insert, Remove, Move, Replace, Set, Unset, is_made_edit, trees_after, with_replaced, with_set, with_unset, changed}
-use Rattle.edit_commands.specs.EditModel.Action as action
-use Rattle.edit_commands.specs.EditModel.Action.{Action, made, element_content, words_content, extended, acted}
-use Rattle.edit_commands.specs.EditModel.Valid.{IsForest, IsValid}
-use Rattle.edit_commands.proofs.EditModel.Forests.{forest-unlink, can_go, fresh}
-use Rattle.edit_commands.proofs.EditModel.IslandRuns.{trees_made, trees_left}
-use Rattle.edit_commands.proofs.EditModel.OutsideRuns.{trees-extended, trees-selected, trees-grown, trees-sent, trees-scratched}
-use Rattle.edit_commands.proofs.EditModel.Tests.{inserts, removes, goes, parent_there}
+use Rattle.edit_model.specs.DomModel.declared.Content.{Content}
+use Rattle.edit_model.specs.DomModel.declared.Content.TheVariants.{Document, Element, Words, Remark}
+use Rattle.edit_model.specs.DomModel.Forest.{Forest, parent_of, content_of, link, unlink, CanPut}
+use Rattle.edit_model.specs.DomModel.Revised.{revised}
+use Rattle.edit_model.proofs.DomModel.Kept.{content_of-link, content_of-unlink, content_of-with_leaf_new, content_of-with_leaf_other}
+use Rattle.edit_model.proofs.DomModel.Revising.{content_of-revised}
+use Rattle.inline_value.specs.NodeTests.CollapsedWhitespace.{is_words_content}
+use Rattle.edit_model.specs.State.{State}
+use Rattle.edit_model.specs.Confined.{spliced}
+use Rattle.edit_model.specs.Edit.{Edit, Insert, Remove, Move, Replace, Set, Unset, is_made_edit, trees_after, with_replaced, with_set, with_unset, changed}
+use Rattle.edit_model.specs.Action as action
+use Rattle.edit_model.specs.Action.{Action, made, element_content, words_content, extended, acted}
+use Rattle.edit_model.specs.Valid.{IsForest, IsValid}
+use Rattle.edit_model.proofs.Forests.{forest-unlink, can_go, fresh}
+use Rattle.edit_model.proofs.IslandRuns.{trees_made, trees_left}
+use Rattle.edit_model.proofs.OutsideRuns.{trees-extended, trees-selected, trees-grown, trees-sent, trees-scratched}
+use Rattle.edit_model.proofs.Tests.{inserts, removes, goes, parent_there}
 use Rattle.caret_laws.specs.SolidOrder.{HasRoomFor}
 use Rattle.caret_laws.proofs.Blanks.{words_same}
 

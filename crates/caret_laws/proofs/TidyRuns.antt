@@ -5,32 +5,32 @@ use Rattle.std.specs.Prelude.{codes}
 use Rattle.std.specs.Option.{option_map, option_map_or, option_and_then}
 use Rattle.std.proofs.lemmas.Bool.{cases_Bool}
 use Rattle.std.proofs.lemmas.Bool.Decides.{eqb_tells}
-use Rattle.edit_commands.specs.DomModel.declared.Content.{Content}
-use Rattle.edit_commands.specs.DomModel.declared.Content.TheVariants.{Document, Element, Words, Remark}
-use Rattle.edit_commands.specs.DomModel.declared.attributes.Attribute.{Attribute}
-use Rattle.edit_commands.specs.DomModel.Contents.{name_in, name_of, with_chars, is_break}
-use Rattle.edit_commands.specs.DomModel.Forest.{Forest, count_of, parent_of, content_of, with_leaf, link, unlink, IsDistinct, CanPut}
-use Rattle.edit_commands.specs.DomModel.Revised.{revised}
-use Rattle.edit_commands.proofs.DomModel.Kept.{content_of-link, content_of-unlink, content_of-with_leaf_new, content_of-with_leaf_other}
-use Rattle.edit_commands.proofs.DomModel.Links.{seen, parent_count, parent_of-link, parent_of-unlink, parent_of-with_leaf, eqb_refl_true, IsDistinct-unlink}
-use Rattle.edit_commands.proofs.DomModel.Revising.{parent_of-revised, content_of-revised}
-use Rattle.edit_commands.specs.NodeStyles.Blocks.{is_block_content}
-use Rattle.edit_commands.specs.NodeStyles.OwnStyles.{attribute, declared, defaulted, own_display}
-use Rattle.edit_commands.specs.EditModel.State.{State}
-use Rattle.edit_commands.specs.EditModel.Edit.{Edit, Insert, Remove, Move, Replace, Set, Unset, is_made_edit, trees_after, with_replaced, changed}
-use Rattle.edit_commands.specs.EditModel.Kept.{is_thing}
-use Rattle.edit_commands.specs.EditModel.Action as action
-use Rattle.edit_commands.specs.EditModel.Action.{Action, made, words_content, element_content, extended, acted}
-use Rattle.edit_commands.specs.EditModel.Run.{Reaches, here, onward, Run, ◌>>=◌, final, answer, look, given, for_each, edit, make_element, make_words, perform}
-use Rattle.edit_commands.specs.EditModel.Valid.{IsValid}
-use Rattle.edit_commands.proofs.EditModel.Each.{Each, EachOn, each_bind, each_answer, each_look, each_if, each_given, each_for_each, each_edit, each_make_element, each_make_words, each_perform}
-use Rattle.edit_commands.proofs.EditModel.Forests.{fresh, can_go}
-use Rattle.edit_commands.proofs.EditModel.IslandRuns.{trees_made, trees_left}
-use Rattle.edit_commands.proofs.EditModel.OutsideRuns.{trees-extended, trees-selected, trees-grown, trees-sent, trees-scratched}
-use Rattle.edit_commands.proofs.EditModel.Steps.{next_along}
-use Rattle.edit_commands.proofs.EditModel.Tests.{inserts, removes, goes, parent_there}
-use Rattle.edit_commands.proofs.EditModel.ValidRuns.{valid_along}
-use Rattle.command_laws.proofs.EditLaws.StayingKinds.{kind_along}
+use Rattle.edit_model.specs.DomModel.declared.Content.{Content}
+use Rattle.edit_model.specs.DomModel.declared.Content.TheVariants.{Document, Element, Words, Remark}
+use Rattle.edit_model.specs.DomModel.declared.attributes.Attribute.{Attribute}
+use Rattle.edit_model.specs.DomModel.Contents.{name_in, name_of, with_chars, is_break}
+use Rattle.edit_model.specs.DomModel.Forest.{Forest, count_of, parent_of, content_of, with_leaf, link, unlink, IsDistinct, CanPut}
+use Rattle.edit_model.specs.DomModel.Revised.{revised}
+use Rattle.edit_model.proofs.DomModel.Kept.{content_of-link, content_of-unlink, content_of-with_leaf_new, content_of-with_leaf_other}
+use Rattle.edit_model.proofs.DomModel.Links.{seen, parent_count, parent_of-link, parent_of-unlink, parent_of-with_leaf, eqb_refl_true, IsDistinct-unlink}
+use Rattle.edit_model.proofs.DomModel.Revising.{parent_of-revised, content_of-revised}
+use Rattle.inline_value.specs.NodeStyles.Blocks.{is_block_content}
+use Rattle.inline_value.specs.NodeStyles.OwnStyles.{attribute, declared, defaulted, own_display}
+use Rattle.edit_model.specs.State.{State}
+use Rattle.edit_model.specs.Edit.{Edit, Insert, Remove, Move, Replace, Set, Unset, is_made_edit, trees_after, with_replaced, changed}
+use Rattle.edit_model.specs.Kept.{is_thing}
+use Rattle.edit_model.specs.Action as action
+use Rattle.edit_model.specs.Action.{Action, made, words_content, element_content, extended, acted}
+use Rattle.edit_model.specs.Run.{Reaches, here, onward, Run, ◌>>=◌, final, answer, look, given, for_each, edit, make_element, make_words, perform}
+use Rattle.edit_model.specs.Valid.{IsValid}
+use Rattle.edit_model.proofs.Each.{Each, EachOn, each_bind, each_answer, each_look, each_if, each_given, each_for_each, each_edit, each_make_element, each_make_words, each_perform}
+use Rattle.edit_model.proofs.Forests.{fresh, can_go}
+use Rattle.edit_model.proofs.IslandRuns.{trees_made, trees_left}
+use Rattle.edit_model.proofs.OutsideRuns.{trees-extended, trees-selected, trees-grown, trees-sent, trees-scratched}
+use Rattle.edit_model.proofs.Steps.{next_along}
+use Rattle.edit_model.proofs.Tests.{inserts, removes, goes, parent_there}
+use Rattle.edit_model.proofs.ValidRuns.{valid_along}
+use Rattle.edit_laws.proofs.StayingKinds.{kind_along}
 use Rattle.caret_laws.specs.TailLaws.{is_thing_at}
 use Rattle.caret_laws.proofs.OwnLines.{name_kinds}
 use Rattle.caret_laws.proofs.Trees.{parent-link_other, parent-unlink_other}

@@ -5,24 +5,24 @@ use Rattle.std.specs.Prelude.{slice_get}
 use Rattle.std.specs.Option.{option_map_or}
 use Rattle.std.proofs.lemmas.Bool.{cases_Bool, cases_lt, lt-ltb, le-ltb}
 use Rattle.std.proofs.lemmas.Bool.Decides.{eqb_tells}
-use Rattle.edit_commands.specs.DomModel.declared.Content.{Content}
-use Rattle.edit_commands.specs.DomModel.Contents.{length_of}
-use Rattle.edit_commands.specs.DomModel.Forest.{Forest, Seen, seek, times, count_of, tree_of, parent_of, children_of, IsDistinct, IsWithin, depth_of}
-use Rattle.edit_commands.specs.DomModel.Places.{place_in, index_of}
-use Rattle.edit_commands.proofs.DomModel.Links.{eqb_refl_true, found_stands, parent_of_child, child_of_parent, parent_count, times-children_of}
-use Rattle.edit_commands.proofs.DomModel.Totals.{total-without}
-use Rattle.edit_commands.proofs.DomModel.Within.{within_self, within_up, within_root, depth_of-parent}
-use Rattle.edit_commands.specs.LiveRange.declared.places.Point.{Point}
-use Rattle.edit_commands.specs.PointOrder.PointOrder.{is_before}
-use Rattle.edit_commands.specs.NodeTests.BlockPoints.{child_at}
-use Rattle.edit_commands.specs.NodeTests.Listing.{LiesAfter, LiesBefore, Follows, Precedes}
-use Rattle.edit_commands.proofs.NodeTests.Reaching.{after_it, before_it, child_with}
-use Rattle.edit_commands.specs.EditModel.Valid.{IsForest}
-use Rattle.edit_commands.proofs.EditModel.Documents.{within_above, within_below}
-use Rattle.edit_commands.proofs.EditModel.Trees.{none_or_some}
-use Rattle.edit_commands.specs.DeleteCore.Places.{at}
-use Rattle.edit_commands.specs.DeleteCore.Spaces.{is_blank}
-use Rattle.edit_commands.specs.DeleteCore.Whitespace.{char_at}
+use Rattle.edit_model.specs.DomModel.declared.Content.{Content}
+use Rattle.edit_model.specs.DomModel.Contents.{length_of}
+use Rattle.edit_model.specs.DomModel.Forest.{Forest, Seen, seek, times, count_of, tree_of, parent_of, children_of, IsDistinct, IsWithin, depth_of}
+use Rattle.edit_model.specs.DomModel.Places.{place_in, index_of}
+use Rattle.edit_model.proofs.DomModel.Links.{eqb_refl_true, found_stands, parent_of_child, child_of_parent, parent_count, times-children_of}
+use Rattle.edit_model.proofs.DomModel.Totals.{total-without}
+use Rattle.edit_model.proofs.DomModel.Within.{within_self, within_up, within_root, depth_of-parent}
+use Rattle.edit_model.specs.LiveRange.declared.places.Point.{Point}
+use Rattle.edit_model.specs.PointOrder.PointOrder.{is_before}
+use Rattle.inline_value.specs.NodeTests.BlockPoints.{child_at}
+use Rattle.inline_value.specs.NodeTests.Listing.{LiesAfter, LiesBefore, Follows, Precedes}
+use Rattle.inline_value.proofs.NodeTests.Reaching.{after_it, before_it, child_with}
+use Rattle.edit_model.specs.Valid.{IsForest}
+use Rattle.edit_model.proofs.Documents.{within_above, within_below}
+use Rattle.edit_model.proofs.Trees.{none_or_some}
+use Rattle.delete_core.specs.Places.{at}
+use Rattle.delete_core.specs.Spaces.{is_blank}
+use Rattle.delete_core.specs.Whitespace.{char_at}
 
 -- ---- the place of a label in a list
 

@@ -3,20 +3,20 @@ use Rattle.std.proofs.Common.{◌≡◌, ◌≢◌, ℕ, zero, suc, ◌<◌, Boo
 use Rattle.std.specs.Option.{option_map, option_map_or, option_and_then}
 use Rattle.std.proofs.lemmas.Bool.{or_cases, ne_eqb}
 use Rattle.std.proofs.lemmas.Bool.Decides.{eqb_tells}
-use Rattle.edit_commands.specs.DomModel.declared.Content.{Content}
-use Rattle.edit_commands.specs.DomModel.Forest.{Forest, Seen, seek, is_label, tops, count_of, tree_of, parent_of, children_of, content_of, relinked, unlinked, link, unlink, IsDistinct, IsWithin, CanPut, depth_of}
-use Rattle.edit_commands.specs.DomModel.Forest.Forest.{Nil, Tree}
-use Rattle.edit_commands.proofs.DomModel.Links.{seek-link, seek-unlink, tree_is}
-use Rattle.edit_commands.proofs.DomModel.Stands.{Stands, Stands-tree_of, seek_Stands}
-use Rattle.edit_commands.proofs.DomModel.Within.{within_parent, depth_of-parent}
-use Rattle.edit_commands.proofs.DomModel.Move.{parent_apart}
-use Rattle.edit_commands.proofs.DomModel.Totals.{total-without}
-use Rattle.edit_commands.specs.EditModel.State.{State}
-use Rattle.edit_commands.specs.EditModel.Confined.{is_editable_for, is_inside, is_made, is_open}
-use Rattle.edit_commands.specs.EditModel.Valid.{IsValid}
-use Rattle.edit_commands.proofs.EditModel.Tests.{label_is}
-use Rattle.edit_commands.proofs.EditModel.Trees.{tree_of-inside, within_trans}
-use Rattle.command_laws.proofs.EditLaws.Hosts.{parent_inside}
+use Rattle.edit_model.specs.DomModel.declared.Content.{Content}
+use Rattle.edit_model.specs.DomModel.Forest.{Forest, Seen, seek, is_label, tops, count_of, tree_of, parent_of, children_of, content_of, relinked, unlinked, link, unlink, IsDistinct, IsWithin, CanPut, depth_of}
+use Rattle.edit_model.specs.DomModel.Forest.Forest.{Nil, Tree}
+use Rattle.edit_model.proofs.DomModel.Links.{seek-link, seek-unlink, tree_is}
+use Rattle.edit_model.proofs.DomModel.Stands.{Stands, Stands-tree_of, seek_Stands}
+use Rattle.edit_model.proofs.DomModel.Within.{within_parent, depth_of-parent}
+use Rattle.edit_model.proofs.DomModel.Move.{parent_apart}
+use Rattle.edit_model.proofs.DomModel.Totals.{total-without}
+use Rattle.edit_model.specs.State.{State}
+use Rattle.edit_model.specs.Confined.{is_editable_for, is_inside, is_made, is_open}
+use Rattle.edit_model.specs.Valid.{IsValid}
+use Rattle.edit_model.proofs.Tests.{label_is}
+use Rattle.edit_model.proofs.Trees.{tree_of-inside, within_trans}
+use Rattle.edit_laws.proofs.Hosts.{parent_inside}
 
 pub either_true : (a b : Bool) → b ≡ true → (a || b) ≡ true
 either_true true b h = refl

@@ -1,15 +1,15 @@
 -- The trees of a forest where another one goes out of them or comes into them.
 use Rattle.std.proofs.Common.{◌≡◌, ℕ, ◌+◌, ◌<◌, cond, eqb, Option, Some, refl, sym, ap, subst, ◌∙◌, inl, inr, arith}
 use Rattle.std.proofs.lemmas.Bool.Decides.{eqb_tells}
-use Rattle.edit_commands.specs.DomModel.declared.Content.{Content}
-use Rattle.edit_commands.specs.DomModel.Forest.{Forest, join, count_of, tree_of, parent_of, without, put_under, put_rising, link, unlink, IsDistinct, CanPut}
-use Rattle.edit_commands.specs.DomModel.Forest.Forest.{Nil, Tree}
-use Rattle.edit_commands.proofs.DomModel.Totals.{total-join, total-without, put_under_nowhere}
-use Rattle.edit_commands.proofs.DomModel.Links.{tree_of_absent, tree, tree_n}
-use Rattle.edit_commands.proofs.DomModel.DropTree.{without_absent}
-use Rattle.edit_commands.proofs.DomModel.Within.{within_self, within_root}
-use Rattle.edit_commands.proofs.EditModel.Trees.{none_or_some, tree_of-put_other, tree_of-rising_other, tree_of-without_other}
-use Rattle.command_laws.proofs.EditLaws.Patterns.{without-join, put_under-join}
+use Rattle.edit_model.specs.DomModel.declared.Content.{Content}
+use Rattle.edit_model.specs.DomModel.Forest.{Forest, join, count_of, tree_of, parent_of, without, put_under, put_rising, link, unlink, IsDistinct, CanPut}
+use Rattle.edit_model.specs.DomModel.Forest.Forest.{Nil, Tree}
+use Rattle.edit_model.proofs.DomModel.Totals.{total-join, total-without, put_under_nowhere}
+use Rattle.edit_model.proofs.DomModel.Links.{tree_of_absent, tree, tree_n}
+use Rattle.edit_model.proofs.DomModel.DropTree.{without_absent}
+use Rattle.edit_model.proofs.DomModel.Within.{within_self, within_root}
+use Rattle.edit_model.proofs.Trees.{none_or_some, tree_of-put_other, tree_of-rising_other, tree_of-without_other}
+use Rattle.edit_laws.proofs.Patterns.{without-join, put_under-join}
 
 -- ---- two lists of trees, of which one at most has a label
 

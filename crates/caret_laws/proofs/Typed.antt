@@ -5,52 +5,52 @@ use Rattle.std.specs.Option.{option_map, option_map_or}
 use Rattle.std.proofs.lemmas.Bool.{and_parts, cases_Bool, or_cases, eq-eqb, le-ltb, le-leb}
 use Rattle.std.proofs.lemmas.Bool.Decides.{eqb_tells}
 use Rattle.std.proofs.lemmas.List.Elements.{filter-append}
-use Rattle.edit_commands.specs.DomModel.declared.Content.{Content}
-use Rattle.edit_commands.specs.DomModel.declared.Content.TheVariants.{Words}
-use Rattle.edit_commands.specs.DomModel.Contents.{is_element, may_have_children, has_chars, has_chars_at, is_break, length_of}
-use Rattle.edit_commands.specs.DomModel.Editing.{is_true_state, is_false_state, editing_host, is_host, is_editable}
-use Rattle.edit_commands.specs.DomModel.Forest.{Forest, Seen, is_label, count_of, tree_of, parent_of, first_of, next_of, content_of, unlink, preorder, IsWithin}
-use Rattle.edit_commands.specs.DomModel.Forest.Forest.{Nil, Tree}
-use Rattle.edit_commands.specs.DomModel.Places.{index_of}
-use Rattle.edit_commands.specs.DomModel.Revised.{revised}
-use Rattle.edit_commands.proofs.DomModel.Hosts.{editing_host-child}
-use Rattle.edit_commands.proofs.DomModel.Kept.{content_of-unlink, content_of-with_leaf_other}
-use Rattle.edit_commands.proofs.DomModel.Links.{parent_count}
-use Rattle.edit_commands.proofs.DomModel.Move.{parent_apart}
-use Rattle.edit_commands.proofs.DomModel.Neighbours.{parent_of-first}
-use Rattle.edit_commands.proofs.DomModel.Totals.{total-without}
-use Rattle.edit_commands.specs.LiveRange.ActiveRange.{range_changed}
-use Rattle.edit_commands.specs.LiveRange.declared.places.Point.{Point}
-use Rattle.edit_commands.specs.LiveRange.PointsEdit as range
-use Rattle.edit_commands.specs.LiveRange.PointsEdit.{adjusted, adjusted_pair, with_offset, after_removal, has_label}
-use Rattle.edit_commands.specs.PointOrder.PointOrder.{is_before, is_placed}
-use Rattle.edit_commands.specs.NodeTests.CollapsedWhitespace.{is_words_content, is_words}
-use Rattle.edit_commands.specs.NodeTests.SolidNeighbours.{is_collapsed_break}
-use Rattle.edit_commands.specs.EditModel.State.{State}
-use Rattle.edit_commands.specs.EditModel.Confined.{spliced, is_editable_for, is_inside, is_made, is_own, may_select}
-use Rattle.edit_commands.specs.EditModel.Edit.{Edit, Remove, Replace, is_made_edit, trees_after, points_after, with_replaced, parent_or_0, overrides_after, changed, change_of, with_change, edited}
-use Rattle.edit_commands.specs.EditModel.History.{begun}
-use Rattle.edit_commands.specs.EditModel.Overrides.{no_overrides}
-use Rattle.edit_commands.specs.EditModel.Kept.{Leaf, Letter, borne_by, leaves, has_no_kept_leaves}
-use Rattle.edit_commands.specs.EditModel.Action as action
-use Rattle.edit_commands.specs.EditModel.Action.{made, words_content, with_selection, selected, acted}
-use Rattle.edit_commands.specs.EditModel.Run.{Run, ◌>>=◌, ◌>>◌, final, done, look, given, remove, replace, make_words, select}
-use Rattle.edit_commands.specs.EditModel.Valid.{IsValid, IsPlacedPair}
-use Rattle.edit_commands.proofs.EditModel.Documents.{document-revised, document-with_leaf, within-unlink, within-with_leaf}
-use Rattle.edit_commands.proofs.EditModel.Forests.{fresh}
-use Rattle.edit_commands.proofs.EditModel.IslandRuns.{Offers, host_offers, editable_offers, trees_made}
-use Rattle.edit_commands.proofs.EditModel.OutsideRuns.{trees-selected}
-use Rattle.edit_commands.proofs.EditModel.Points.{placed_is, placed_from, has_label-preorder}
-use Rattle.edit_commands.proofs.EditModel.Resting.{seek_document, forest-document}
-use Rattle.edit_commands.proofs.EditModel.Steps.{next_along, final-bind, final-answer, final-look, final-edit, final-make_words, value-make_words, final-perform}
-use Rattle.edit_commands.proofs.EditModel.Tests.{label_is}
-use Rattle.edit_commands.proofs.EditModel.Trees.{none_or_some}
-use Rattle.command_laws.specs.EditLaws.Steady.{Steady}
-use Rattle.command_laws.proofs.EditLaws.SteadyRuns.{steady_parts, steady_perform, steady_make_words}
+use Rattle.edit_model.specs.DomModel.declared.Content.{Content}
+use Rattle.edit_model.specs.DomModel.declared.Content.TheVariants.{Words}
+use Rattle.edit_model.specs.DomModel.Contents.{is_element, may_have_children, has_chars, has_chars_at, is_break, length_of}
+use Rattle.edit_model.specs.DomModel.Editing.{is_true_state, is_false_state, editing_host, is_host, is_editable}
+use Rattle.edit_model.specs.DomModel.Forest.{Forest, Seen, is_label, count_of, tree_of, parent_of, first_of, next_of, content_of, unlink, preorder, IsWithin}
+use Rattle.edit_model.specs.DomModel.Forest.Forest.{Nil, Tree}
+use Rattle.edit_model.specs.DomModel.Places.{index_of}
+use Rattle.edit_model.specs.DomModel.Revised.{revised}
+use Rattle.edit_model.proofs.DomModel.Hosts.{editing_host-child}
+use Rattle.edit_model.proofs.DomModel.Kept.{content_of-unlink, content_of-with_leaf_other}
+use Rattle.edit_model.proofs.DomModel.Links.{parent_count}
+use Rattle.edit_model.proofs.DomModel.Move.{parent_apart}
+use Rattle.edit_model.proofs.DomModel.Neighbours.{parent_of-first}
+use Rattle.edit_model.proofs.DomModel.Totals.{total-without}
+use Rattle.edit_model.specs.LiveRange.ActiveRange.{range_changed}
+use Rattle.edit_model.specs.LiveRange.declared.places.Point.{Point}
+use Rattle.edit_model.specs.LiveRange.PointsEdit as range
+use Rattle.edit_model.specs.LiveRange.PointsEdit.{adjusted, adjusted_pair, with_offset, after_removal, has_label}
+use Rattle.edit_model.specs.PointOrder.PointOrder.{is_before, is_placed}
+use Rattle.inline_value.specs.NodeTests.CollapsedWhitespace.{is_words_content, is_words}
+use Rattle.inline_value.specs.NodeTests.SolidNeighbours.{is_collapsed_break}
+use Rattle.edit_model.specs.State.{State}
+use Rattle.edit_model.specs.Confined.{spliced, is_editable_for, is_inside, is_made, is_own, may_select}
+use Rattle.edit_model.specs.Edit.{Edit, Remove, Replace, is_made_edit, trees_after, points_after, with_replaced, parent_or_0, overrides_after, changed, change_of, with_change, edited}
+use Rattle.edit_model.specs.History.{begun}
+use Rattle.edit_model.specs.Overrides.{no_overrides}
+use Rattle.edit_model.specs.Kept.{Leaf, Letter, borne_by, leaves, has_no_kept_leaves}
+use Rattle.edit_model.specs.Action as action
+use Rattle.edit_model.specs.Action.{made, words_content, with_selection, selected, acted}
+use Rattle.edit_model.specs.Run.{Run, ◌>>=◌, ◌>>◌, final, done, look, given, remove, replace, make_words, select}
+use Rattle.edit_model.specs.Valid.{IsValid, IsPlacedPair}
+use Rattle.edit_model.proofs.Documents.{document-revised, document-with_leaf, within-unlink, within-with_leaf}
+use Rattle.edit_model.proofs.Forests.{fresh}
+use Rattle.edit_model.proofs.IslandRuns.{Offers, host_offers, editable_offers, trees_made}
+use Rattle.edit_model.proofs.OutsideRuns.{trees-selected}
+use Rattle.edit_model.proofs.Points.{placed_is, placed_from, has_label-preorder}
+use Rattle.edit_model.proofs.Resting.{seek_document, forest-document}
+use Rattle.edit_model.proofs.Steps.{next_along, final-bind, final-answer, final-look, final-edit, final-make_words, value-make_words, final-perform}
+use Rattle.edit_model.proofs.Tests.{label_is}
+use Rattle.edit_model.proofs.Trees.{none_or_some}
+use Rattle.edit_laws.specs.Steady.{Steady}
+use Rattle.edit_laws.proofs.SteadyRuns.{steady_parts, steady_perform, steady_make_words}
 use Rattle.command_laws.proofs.TypingRuns.{steady_insert_at_start}
-use Rattle.edit_commands.specs.DeleteCore.Places.{at, start_in, end_in}
-use Rattle.edit_commands.specs.TextInsertion.Start.{insert_at_start}
-use Rattle.edit_commands.specs.TextInsertion.Typing.{drop_sole_break, put_at, put_char}
+use Rattle.delete_core.specs.Places.{at, start_in, end_in}
+use Rattle.text_insertion.specs.Start.{insert_at_start}
+use Rattle.text_insertion.specs.Typing.{drop_sole_break, put_at, put_char}
 use Rattle.caret_laws.specs.SolidOrder.{is_solid, solid_leaves, KeepsOrderUpToBlanks, StandsAt, HasRoomFor, BreaksAreEmpty}
 use Rattle.caret_laws.proofs.Blanks.{Rewritten, length_words, own_made, trees_t, rewritten, words_same, points_made, edit_left, settings_both}
 use Rattle.caret_laws.proofs.CaretErasing.{settings_selected, front_trees}

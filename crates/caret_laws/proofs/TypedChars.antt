@@ -5,47 +5,47 @@ use Rattle.std.proofs.lemmas.List.{append-nil}
 use Rattle.std.proofs.lemmas.List.Elements.{filter-append}
 use Rattle.std.specs.Option.{option_map, option_map_or}
 use Rattle.std.proofs.lemmas.Bool.{ne_eqb}
-use Rattle.edit_commands.specs.DomModel.declared.Content.{Content}
-use Rattle.edit_commands.specs.DomModel.declared.Content.TheVariants.{Document, Element, Words, Remark}
-use Rattle.edit_commands.specs.DomModel.Contents.{has_chars, has_chars_at, is_break, length_of}
-use Rattle.edit_commands.specs.DomModel.Forest.{either, count_of, tree_of, children_of, content_of, IsWithin}
-use Rattle.edit_commands.proofs.DomModel.Totals.{total-without}
-use Rattle.edit_commands.specs.HtmlNames.declared.commands.Command.{Command}
-use Rattle.edit_commands.specs.LiveRange.declared.places.Point.{Point}
-use Rattle.edit_commands.specs.PointOrder.PointOrder.{is_before, is_placed}
-use Rattle.edit_commands.specs.NodeTests.BlockPoints.{child_before, child_at}
-use Rattle.edit_commands.specs.NodeTests.CollapsedWhitespace.{is_words_content, is_words}
-use Rattle.edit_commands.specs.EditModel.declared.settings.Setting.{Setting}
-use Rattle.edit_commands.specs.EditModel.State.{State}
-use Rattle.edit_commands.specs.EditModel.Confined.{is_inside, may_select}
-use Rattle.edit_commands.specs.EditModel.Edit.{changed}
-use Rattle.edit_commands.specs.EditModel.History.{begun}
-use Rattle.edit_commands.specs.EditModel.Action as action
-use Rattle.edit_commands.specs.EditModel.Action.{with_selection, selected, acted}
-use Rattle.edit_commands.specs.EditModel.Kept.{Leaf, Letter}
-use Rattle.edit_commands.specs.EditModel.Overrides.{no_overrides, place_of, setting_of}
-use Rattle.edit_commands.specs.EditModel.Run.{here, Run, ◌>>◌, final, done, given, for_each, collapse}
-use Rattle.edit_commands.specs.EditModel.Valid.{IsValid, IsPlacedPair}
-use Rattle.edit_commands.proofs.EditModel.Documents.{within_below}
-use Rattle.edit_commands.proofs.EditModel.Points.{placed_is, placed_from}
-use Rattle.edit_commands.proofs.EditModel.Steps.{final-bind, final-answer, final-look, final-perform}
-use Rattle.command_laws.specs.EditLaws.Kinds as kind
-use Rattle.command_laws.specs.EditLaws.Kinds.{kind_in}
-use Rattle.command_laws.proofs.EditLaws.StayingKinds.{kind_along}
-use Rattle.command_laws.proofs.EditLaws.SteadyRuns.{steady_perform}
+use Rattle.edit_model.specs.DomModel.declared.Content.{Content}
+use Rattle.edit_model.specs.DomModel.declared.Content.TheVariants.{Document, Element, Words, Remark}
+use Rattle.edit_model.specs.DomModel.Contents.{has_chars, has_chars_at, is_break, length_of}
+use Rattle.edit_model.specs.DomModel.Forest.{either, count_of, tree_of, children_of, content_of, IsWithin}
+use Rattle.edit_model.proofs.DomModel.Totals.{total-without}
+use Rattle.edit_model.specs.HtmlNames.declared.commands.Command.{Command}
+use Rattle.edit_model.specs.LiveRange.declared.places.Point.{Point}
+use Rattle.edit_model.specs.PointOrder.PointOrder.{is_before, is_placed}
+use Rattle.inline_value.specs.NodeTests.BlockPoints.{child_before, child_at}
+use Rattle.inline_value.specs.NodeTests.CollapsedWhitespace.{is_words_content, is_words}
+use Rattle.edit_model.specs.declared.settings.Setting.{Setting}
+use Rattle.edit_model.specs.State.{State}
+use Rattle.edit_model.specs.Confined.{is_inside, may_select}
+use Rattle.edit_model.specs.Edit.{changed}
+use Rattle.edit_model.specs.History.{begun}
+use Rattle.edit_model.specs.Action as action
+use Rattle.edit_model.specs.Action.{with_selection, selected, acted}
+use Rattle.edit_model.specs.Kept.{Leaf, Letter}
+use Rattle.edit_model.specs.Overrides.{no_overrides, place_of, setting_of}
+use Rattle.edit_model.specs.Run.{here, Run, ◌>>◌, final, done, given, for_each, collapse}
+use Rattle.edit_model.specs.Valid.{IsValid, IsPlacedPair}
+use Rattle.edit_model.proofs.Documents.{within_below}
+use Rattle.edit_model.proofs.Points.{placed_is, placed_from}
+use Rattle.edit_model.proofs.Steps.{final-bind, final-answer, final-look, final-perform}
+use Rattle.edit_laws.specs.Kinds as kind
+use Rattle.edit_laws.specs.Kinds.{kind_in}
+use Rattle.edit_laws.proofs.StayingKinds.{kind_along}
+use Rattle.edit_laws.proofs.SteadyRuns.{steady_perform}
 use Rattle.command_laws.proofs.DeleteRuns.{steady_erase}
 use Rattle.command_laws.proofs.ErasingRuns.{steady_canonicalize, steady_canonicalize_start, steady_canonicalize_end}
-use Rattle.edit_commands.specs.EditActions.ActiveRange.{end_of}
-use Rattle.edit_commands.specs.InlineValue.declared.overrides.Override.{Override}
-use Rattle.edit_commands.specs.InlineValue.Overrides.{override, is_set, overriding_commands, overrides_among, overrides_of}
-use Rattle.edit_commands.specs.InlineCommands.RestoringStates.{restore_states}
-use Rattle.edit_commands.specs.DeleteCore.declared.deletion.TheConstants.Manner.{KEEP_WRAPPERS}
-use Rattle.edit_commands.specs.DeleteCore.Ends.{end_for, collapse_selection, canonicalize_start, canonicalize_end}
-use Rattle.edit_commands.specs.DeleteCore.Places.{start_in, end_in}
-use Rattle.edit_commands.specs.DeleteCore.Whitespace.{canonicalize}
-use Rattle.edit_commands.specs.TextInsertion.Paragraph.{insert_paragraph}
-use Rattle.edit_commands.specs.TextInsertion.Start.{if_point_inside, start_inside, erase}
-use Rattle.edit_commands.specs.TextInsertion.Typing.{if_words, end_before, start_after, into_text, put_char, close_text, type_char, insert_char_at, insert_char_inside, insert_char, insert_several, insert_chars, insert_text}
+use Rattle.inline_value.specs.EditActions.ActiveRange.{end_of}
+use Rattle.inline_value.specs.declared.overrides.Override.{Override}
+use Rattle.inline_value.specs.Overrides.{override, is_set, overriding_commands, overrides_among, overrides_of}
+use Rattle.inline_commands.specs.RestoringStates.{restore_states}
+use Rattle.delete_core.specs.declared.deletion.TheConstants.Manner.{KEEP_WRAPPERS}
+use Rattle.delete_core.specs.Ends.{end_for, collapse_selection, canonicalize_start, canonicalize_end}
+use Rattle.delete_core.specs.Places.{start_in, end_in}
+use Rattle.delete_core.specs.Whitespace.{canonicalize}
+use Rattle.text_insertion.specs.Paragraph.{insert_paragraph}
+use Rattle.text_insertion.specs.Start.{if_point_inside, start_inside, erase}
+use Rattle.text_insertion.specs.Typing.{if_words, end_before, start_after, into_text, put_char, close_text, type_char, insert_char_at, insert_char_inside, insert_char, insert_several, insert_chars, insert_text}
 use Rattle.caret_laws.specs.SolidOrder.{is_solid, solid_leaves, KeepsOrderUpToBlanks, StandsAt, HasRoomFor, BreaksAreEmpty}
 use Rattle.caret_laws.specs.TypingLaws.{IsNoComment, HasNoBreaks}
 use Rattle.caret_laws.proofs.Blanks.{Blanked, Moved, Caret, caret_then, room_kept, settings_both}

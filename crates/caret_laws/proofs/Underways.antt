@@ -1,9 +1,9 @@
 -- A command stays under way through a steady run.
 use Rattle.std.proofs.Common.{ℕ, false}
-use Rattle.edit_commands.specs.EditModel.State.{State}
-use Rattle.edit_commands.specs.EditModel.Run.{reaches_trans, Run, final}
-use Rattle.command_laws.specs.EditLaws.Steady.{Steady}
-use Rattle.command_laws.proofs.EditLaws.SteadyRuns.{states_on}
+use Rattle.edit_model.specs.State.{State}
+use Rattle.edit_model.specs.Run.{reaches_trans, Run, final}
+use Rattle.edit_laws.specs.Steady.{Steady}
+use Rattle.edit_laws.proofs.SteadyRuns.{states_on}
 use Rattle.caret_laws.proofs.InsideRuns.{Began, Underway, leaves_trans, valid_way}
 
 module _ (s : State) (h : ℕ) (b : Began s h) where

@@ -4,27 +4,27 @@ use Rattle.std.specs.Prelude.{codes}
 use Rattle.std.specs.List.{filter, list_all}
 use Rattle.std.specs.Option.{option_map_or, option_and_then, unwrap_or}
 use Rattle.std.proofs.lemmas.Bool.{and_parts, or_cases, cases_Bool}
-use Rattle.edit_commands.specs.CssValue.declared.values.Display.TheVariants as display_values
-use Rattle.edit_commands.specs.CssValue.declared.values.WhiteSpace.{WhiteSpace}
-use Rattle.edit_commands.specs.CssValue.declared.values.WhiteSpace.TheVariants as white_space_values
-use Rattle.edit_commands.specs.CssValue.StyleText as text
-use Rattle.edit_commands.specs.DomModel.declared.Content.{Content}
-use Rattle.edit_commands.specs.DomModel.declared.Content.TheVariants.{Document, Element, Words, Remark}
-use Rattle.edit_commands.specs.DomModel.Contents.{name_in, is_image}
-use Rattle.edit_commands.specs.DomModel.Forest.{Forest, join, count_of, tree_of, parent_of, content_of, IsDistinct}
-use Rattle.edit_commands.specs.DomModel.Forest.Forest.{Nil, Tree}
-use Rattle.edit_commands.proofs.DomModel.Links.{join-Nil, tree_of_absent, eqb_refl_true}
-use Rattle.edit_commands.proofs.DomModel.Totals.{total-without}
-use Rattle.edit_commands.specs.NodeStyles.Blocks.{is_no_box, is_block_content, is_block, is_hidden, collapses, is_whitespace_under, is_whitespace_in, is_whitespace}
-use Rattle.edit_commands.specs.NodeStyles.OwnStyles.{own_display}
-use Rattle.edit_commands.specs.NodeStyles.Resolved.{display, white_space}
-use Rattle.edit_commands.specs.NodeTests.CollapsedWhitespace.{is_words, is_words_content, is_collapsed_whitespace}
-use Rattle.edit_commands.specs.NodeTests.Visible.{shows, is_boxless, shows_in, is_visible}
-use Rattle.edit_commands.specs.EditModel.Kept as bears
-use Rattle.edit_commands.specs.EditModel.Kept.{Letter, borne_by, is_thing, is_kept, is_empty, leaves, kept_leaves, has_no_kept_leaves}
-use Rattle.edit_commands.proofs.EditModel.Bearing.{bears-Tree}
-use Rattle.edit_commands.proofs.EditModel.IslandRuns.{root_content}
-use Rattle.edit_commands.proofs.EditModel.Trees.{tree_of-inside}
+use Rattle.inline_value.specs.CssValue.declared.values.Display.TheVariants as display_values
+use Rattle.inline_value.specs.CssValue.declared.values.WhiteSpace.{WhiteSpace}
+use Rattle.inline_value.specs.CssValue.declared.values.WhiteSpace.TheVariants as white_space_values
+use Rattle.inline_value.specs.CssValue.StyleText as text
+use Rattle.edit_model.specs.DomModel.declared.Content.{Content}
+use Rattle.edit_model.specs.DomModel.declared.Content.TheVariants.{Document, Element, Words, Remark}
+use Rattle.edit_model.specs.DomModel.Contents.{name_in, is_image}
+use Rattle.edit_model.specs.DomModel.Forest.{Forest, join, count_of, tree_of, parent_of, content_of, IsDistinct}
+use Rattle.edit_model.specs.DomModel.Forest.Forest.{Nil, Tree}
+use Rattle.edit_model.proofs.DomModel.Links.{join-Nil, tree_of_absent, eqb_refl_true}
+use Rattle.edit_model.proofs.DomModel.Totals.{total-without}
+use Rattle.inline_value.specs.NodeStyles.Blocks.{is_no_box, is_block_content, is_block, is_hidden, collapses, is_whitespace_under, is_whitespace_in, is_whitespace}
+use Rattle.inline_value.specs.NodeStyles.OwnStyles.{own_display}
+use Rattle.inline_value.specs.NodeStyles.Resolved.{display, white_space}
+use Rattle.inline_value.specs.NodeTests.CollapsedWhitespace.{is_words, is_words_content, is_collapsed_whitespace}
+use Rattle.inline_value.specs.NodeTests.Visible.{shows, is_boxless, shows_in, is_visible}
+use Rattle.edit_model.specs.Kept as bears
+use Rattle.edit_model.specs.Kept.{Letter, borne_by, is_thing, is_kept, is_empty, leaves, kept_leaves, has_no_kept_leaves}
+use Rattle.edit_model.proofs.Bearing.{bears-Tree}
+use Rattle.edit_model.proofs.IslandRuns.{root_content}
+use Rattle.edit_model.proofs.Trees.{tree_of-inside}
 
 -- ---- what a content tells
 

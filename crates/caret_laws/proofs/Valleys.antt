@@ -4,28 +4,28 @@ use Rattle.std.proofs.Common.{◌≡◌, ◌≢◌, ℕ, zero, suc, ◌+◌, ◌
 use Rattle.std.specs.List.{filter, list_any}
 use Rattle.std.proofs.lemmas.Bool.{and_from, and_parts}
 use Rattle.std.proofs.lemmas.Bool.Decides.{eqb_tells}
-use Rattle.edit_commands.specs.DomModel.declared.Content.{Content}
-use Rattle.edit_commands.specs.DomModel.declared.Content.TheVariants.{Words}
-use Rattle.edit_commands.specs.DomModel.Contents.{length_of}
-use Rattle.edit_commands.specs.DomModel.Forest.{Forest, times, tree_of, preorder, parent_of, content_of, depth_of, IsWithin}
-use Rattle.edit_commands.specs.DomModel.Places.{index_of}
-use Rattle.edit_commands.proofs.DomModel.Within.{within_self, within_up, within_parent, depth_of-parent}
-use Rattle.edit_commands.specs.LiveRange.declared.places.Point.{Point}
-use Rattle.edit_commands.specs.PointOrder.PointOrder.{is_ancestor, is_before}
-use Rattle.edit_commands.specs.NodeTests.BlockPoints.{child_at}
-use Rattle.edit_commands.specs.NodeTests.CollapsedWhitespace.{is_words}
-use Rattle.edit_commands.specs.NodeTests.Ranges.{is_contained, contained_nodes}
-use Rattle.edit_commands.proofs.NodeTests.Reaching.{after_it, before_it, child_with}
-use Rattle.edit_commands.specs.EditModel.State.{State}
-use Rattle.edit_commands.specs.EditModel.Valid.{IsForest, IsValid}
-use Rattle.edit_commands.proofs.EditModel.Documents.{index_below}
-use Rattle.edit_commands.proofs.EditModel.Trees.{within_trans}
-use Rattle.edit_commands.specs.BlockExtend.Gather.{gather_on, gather, gathered}
-use Rattle.edit_commands.proofs.InlineCommands.Elsewhere.{contained_in}
-use Rattle.edit_commands.proofs.InlineCommands.Pairs.{head_in, listed}
-use Rattle.edit_commands.specs.DeleteCore.Ends.{out_of_start, out_of_end}
-use Rattle.edit_commands.specs.DeleteCore.Equivalent.{last_equivalent, first_equivalent}
-use Rattle.edit_commands.specs.DeleteCore.Places.{at, before_node, after_node}
+use Rattle.edit_model.specs.DomModel.declared.Content.{Content}
+use Rattle.edit_model.specs.DomModel.declared.Content.TheVariants.{Words}
+use Rattle.edit_model.specs.DomModel.Contents.{length_of}
+use Rattle.edit_model.specs.DomModel.Forest.{Forest, times, tree_of, preorder, parent_of, content_of, depth_of, IsWithin}
+use Rattle.edit_model.specs.DomModel.Places.{index_of}
+use Rattle.edit_model.proofs.DomModel.Within.{within_self, within_up, within_parent, depth_of-parent}
+use Rattle.edit_model.specs.LiveRange.declared.places.Point.{Point}
+use Rattle.edit_model.specs.PointOrder.PointOrder.{is_ancestor, is_before}
+use Rattle.inline_value.specs.NodeTests.BlockPoints.{child_at}
+use Rattle.inline_value.specs.NodeTests.CollapsedWhitespace.{is_words}
+use Rattle.inline_value.specs.NodeTests.Ranges.{is_contained, contained_nodes}
+use Rattle.inline_value.proofs.NodeTests.Reaching.{after_it, before_it, child_with}
+use Rattle.edit_model.specs.State.{State}
+use Rattle.edit_model.specs.Valid.{IsForest, IsValid}
+use Rattle.edit_model.proofs.Documents.{index_below}
+use Rattle.edit_model.proofs.Trees.{within_trans}
+use Rattle.inline_value.specs.BlockExtend.Gather.{gather_on, gather, gathered}
+use Rattle.inline_commands.proofs.Elsewhere.{contained_in}
+use Rattle.inline_commands.proofs.Pairs.{head_in, listed}
+use Rattle.delete_core.specs.Ends.{out_of_start, out_of_end}
+use Rattle.delete_core.specs.Equivalent.{last_equivalent, first_equivalent}
+use Rattle.delete_core.specs.Places.{at, before_node, after_node}
 use Rattle.caret_laws.proofs.BareTrees.{IsBarren, Chain, AllBarren, bare_plain, no_chars}
 use Rattle.caret_laws.proofs.Blanks.{length_words}
 use Rattle.caret_laws.proofs.CaretErasing.{to_last, from_first}

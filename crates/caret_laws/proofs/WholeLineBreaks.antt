@@ -1,16 +1,16 @@
 -- Inserting a line break at a caret, as a whole.
 use Rattle.std.proofs.Common.{◌≡◌, ℕ, true, Some, sym, subst, ◌∙◌}
-use Rattle.edit_commands.specs.DomModel.Editing.{is_host}
-use Rattle.edit_commands.specs.LiveRange.declared.places.Point.{Point}
-use Rattle.edit_commands.specs.EditModel.State.{State}
-use Rattle.edit_commands.specs.EditModel.Run.{final}
-use Rattle.edit_commands.specs.EditModel.Valid.{IsValid}
-use Rattle.edit_commands.proofs.EditModel.CommandParts.{final_command}
-use Rattle.edit_commands.proofs.EditModel.Steps.{final-bind}
-use Rattle.edit_commands.specs.DeleteCore.declared.deletion.TheConstants.Manner.{KEEP_WRAPPERS}
-use Rattle.edit_commands.specs.TextInsertion.Start.{erase}
-use Rattle.edit_commands.specs.InsertObjects.LineBreak.{break_line, insert_line_break}
-use Rattle.edit_commands.specs.InsertObjects.Putting.{from_start_inside}
+use Rattle.edit_model.specs.DomModel.Editing.{is_host}
+use Rattle.edit_model.specs.LiveRange.declared.places.Point.{Point}
+use Rattle.edit_model.specs.State.{State}
+use Rattle.edit_model.specs.Run.{final}
+use Rattle.edit_model.specs.Valid.{IsValid}
+use Rattle.edit_model.proofs.CommandParts.{final_command}
+use Rattle.edit_model.proofs.Steps.{final-bind}
+use Rattle.delete_core.specs.declared.deletion.TheConstants.Manner.{KEEP_WRAPPERS}
+use Rattle.text_insertion.specs.Start.{erase}
+use Rattle.insert_objects.specs.LineBreak.{break_line, insert_line_break}
+use Rattle.insert_objects.specs.Putting.{from_start_inside}
 use Rattle.caret_laws.specs.SolidOrder.{KeepsOrderUpToBlanks, StandsAt, HasRoom}
 use Rattle.caret_laws.proofs.Blanks.{caret_then}
 use Rattle.caret_laws.proofs.CaretErasing.{erased}

@@ -1,12 +1,12 @@
 -- Inserting a paragraph as a whole, from what is erased on.
 use Rattle.std.proofs.Common.{◌≡◌, ℕ, true, false, ◌∙◌}
-use Rattle.edit_commands.specs.EditModel.State.{State}
-use Rattle.edit_commands.specs.EditModel.Run.{◌>>=◌, final, answer}
-use Rattle.edit_commands.proofs.EditModel.Steps.{final-bind, final-answer}
+use Rattle.edit_model.specs.State.{State}
+use Rattle.edit_model.specs.Run.{◌>>=◌, final, answer}
+use Rattle.edit_model.proofs.Steps.{final-bind, final-answer}
 use Rattle.command_laws.proofs.DeleteRuns.{steady_erase}
-use Rattle.edit_commands.specs.DeleteCore.declared.deletion.TheConstants.Manner.{DEFAULT}
-use Rattle.edit_commands.specs.TextInsertion.Paragraph.{insert_paragraph_inside, insert_paragraph}
-use Rattle.edit_commands.specs.TextInsertion.Start.{erase}
+use Rattle.delete_core.specs.declared.deletion.TheConstants.Manner.{DEFAULT}
+use Rattle.text_insertion.specs.Paragraph.{insert_paragraph_inside, insert_paragraph}
+use Rattle.text_insertion.specs.Start.{erase}
 use Rattle.caret_laws.specs.SingleParagraph.{paragraph_inserted}
 use Rattle.caret_laws.proofs.InsideRuns.{Began, Underway}
 use Rattle.caret_laws.proofs.ParagraphRuns.{inside_singly}

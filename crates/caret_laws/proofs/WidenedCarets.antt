@@ -3,33 +3,33 @@
 use Rattle.std.proofs.Common.{◌≡◌, ◌≢◌, ◌⊎◌, ℕ, zero, suc, ◌+◌, Bool, true, false, ◌&&◌, not, eqb, Option, Some, None, refl, sym, ap, subst, ◌∙◌, inl, inr, true≢false}
 use Rattle.std.proofs.lemmas.Bool.{and_parts, eq-eqb, ne_eqb}
 use Rattle.std.proofs.lemmas.Bool.Decides.{eqb_tells}
-use Rattle.edit_commands.specs.DomModel.Contents.{length_of}
-use Rattle.edit_commands.specs.DomModel.Forest as forest
-use Rattle.edit_commands.specs.DomModel.Forest.{is_label, tree_of, parent_of, content_of, IsWithin}
-use Rattle.edit_commands.specs.DomModel.declared.Content.TheVariants.{Words}
-use Rattle.edit_commands.specs.DomModel.Places.{index_of}
-use Rattle.edit_commands.specs.LiveRange.declared.places.Pair.{Pair}
-use Rattle.edit_commands.specs.LiveRange.declared.places.Point.{Point}
-use Rattle.edit_commands.specs.NodeTests.BlockPoints.{child_at}
-use Rattle.edit_commands.specs.EditModel.Action as action
-use Rattle.edit_commands.specs.EditModel.Action.{selected, acted}
-use Rattle.edit_commands.specs.EditModel.Confined.{is_inside, may_select}
-use Rattle.edit_commands.specs.EditModel.Edit.{changed}
-use Rattle.edit_commands.specs.EditModel.Run.{final, done, given, select}
-use Rattle.edit_commands.specs.EditModel.State.{State}
-use Rattle.edit_commands.specs.EditModel.Valid.{IsValid}
-use Rattle.edit_commands.proofs.EditModel.Documents.{within_above}
-use Rattle.edit_commands.proofs.EditModel.OutsideRuns.{trees-selected}
-use Rattle.edit_commands.proofs.EditModel.Steps.{final-look, final-perform}
-use Rattle.edit_commands.proofs.EditModel.ValidRuns.{valid_acted}
-use Rattle.command_laws.proofs.EditLaws.Hosts.{parent_inside}
-use Rattle.command_laws.proofs.EditLaws.SteadyRuns.{steady_perform}
-use Rattle.edit_commands.specs.EditActions.ActiveRange.{end_of}
-use Rattle.edit_commands.specs.WrapSplit.Walks.{turn_bound}
-use Rattle.edit_commands.specs.DeleteCore.declared.deletion.Manner.{Manner}
-use Rattle.edit_commands.specs.DeleteCore.Places.{at, before_in, after_in, before_node, after_node, led_on, walk_points}
-use Rattle.edit_commands.specs.TextInsertion.Start.{erase}
-use Rattle.edit_commands.specs.InsertObjects.Rule.{out_of_start, out_of_end, outermost_start, outermost_end, select_widened, widen_range}
+use Rattle.edit_model.specs.DomModel.Contents.{length_of}
+use Rattle.edit_model.specs.DomModel.Forest as forest
+use Rattle.edit_model.specs.DomModel.Forest.{is_label, tree_of, parent_of, content_of, IsWithin}
+use Rattle.edit_model.specs.DomModel.declared.Content.TheVariants.{Words}
+use Rattle.edit_model.specs.DomModel.Places.{index_of}
+use Rattle.edit_model.specs.LiveRange.declared.places.Pair.{Pair}
+use Rattle.edit_model.specs.LiveRange.declared.places.Point.{Point}
+use Rattle.inline_value.specs.NodeTests.BlockPoints.{child_at}
+use Rattle.edit_model.specs.Action as action
+use Rattle.edit_model.specs.Action.{selected, acted}
+use Rattle.edit_model.specs.Confined.{is_inside, may_select}
+use Rattle.edit_model.specs.Edit.{changed}
+use Rattle.edit_model.specs.Run.{final, done, given, select}
+use Rattle.edit_model.specs.State.{State}
+use Rattle.edit_model.specs.Valid.{IsValid}
+use Rattle.edit_model.proofs.Documents.{within_above}
+use Rattle.edit_model.proofs.OutsideRuns.{trees-selected}
+use Rattle.edit_model.proofs.Steps.{final-look, final-perform}
+use Rattle.edit_model.proofs.ValidRuns.{valid_acted}
+use Rattle.edit_laws.proofs.Hosts.{parent_inside}
+use Rattle.edit_laws.proofs.SteadyRuns.{steady_perform}
+use Rattle.inline_value.specs.EditActions.ActiveRange.{end_of}
+use Rattle.inline_value.specs.WrapSplit.Walks.{turn_bound}
+use Rattle.delete_core.specs.declared.deletion.Manner.{Manner}
+use Rattle.delete_core.specs.Places.{at, before_in, after_in, before_node, after_node, led_on, walk_points}
+use Rattle.text_insertion.specs.Start.{erase}
+use Rattle.insert_objects.specs.Rule.{out_of_start, out_of_end, outermost_start, outermost_end, select_widened, widen_range}
 use Rattle.caret_laws.specs.RuleLaws.{StaysWhenWidened, IsFilled}
 use Rattle.caret_laws.specs.SolidOrder.{solid_leaves, KeepsOrderUpToBlanks, StandsAt, HasRoom}
 use Rattle.caret_laws.proofs.Blanks.{blanked_here, caret_then}

@@ -4,50 +4,50 @@ use Rattle.std.proofs.Common.{◌≡◌, ◌≢◌, ℕ, ◌+◌, ◌<◌, Bool,
 use Rattle.std.specs.Option.{option_map, option_map_or, option_and_then}
 use Rattle.std.specs.Prelude.{nat_lt}
 use Rattle.std.proofs.lemmas.Bool.{cases_Bool, ne_eqb, ltb-true}
-use Rattle.edit_commands.specs.DomModel.declared.Content.{Content}
-use Rattle.edit_commands.specs.DomModel.declared.attributes.Attribute.{Attribute}
-use Rattle.edit_commands.specs.DomModel.Contents.{name_in, name_of}
-use Rattle.edit_commands.specs.DomModel.Forest.{Forest, preorder, count_of, tree_of, parent_of, prev_of, next_of, first_in, last_in, content_of, link, unlink, IsDistinct, IsWithin, CanPut}
-use Rattle.edit_commands.specs.DomModel.Places.{index_of}
-use Rattle.edit_commands.proofs.DomModel.Kept.{content_of-link, content_of-unlink, content_of-with_leaf_new, content_of-with_leaf_other}
-use Rattle.edit_commands.proofs.DomModel.Links.{IsDistinct-unlink}
-use Rattle.edit_commands.proofs.DomModel.Move.{tree_of-unlink}
-use Rattle.edit_commands.proofs.DomModel.Totals.{total-without, put_under_nowhere}
-use Rattle.edit_commands.proofs.DomModel.Within.{within_child, within_root}
-use Rattle.edit_commands.specs.LiveRange.declared.places.Point.{Point}
-use Rattle.edit_commands.specs.LiveRange.declared.places.Pair.{Pair}
-use Rattle.edit_commands.specs.LiveRange.LivePoints.{mapped}
-use Rattle.edit_commands.specs.LiveRange.PointsEdit as range
-use Rattle.edit_commands.specs.LiveRange.PointsEdit.{adjusted, adjusted_pair, with_offset, after_insert, after_removal, after_loss, has_label}
-use Rattle.edit_commands.specs.EditModel.State.{State}
-use Rattle.edit_commands.specs.EditModel.Confined.{is_editable_for, may_grow}
-use Rattle.edit_commands.specs.EditModel.Edit.{Edit, Insert, Remove, Move, Replace, Set, Unset, is_made_edit, trees_after, points_after, index_before, parent_or_0, changed, edited}
-use Rattle.edit_commands.specs.EditModel.Kept.{is_thing}
-use Rattle.edit_commands.specs.EditModel.Action as action
-use Rattle.edit_commands.specs.EditModel.Action.{Action, made, element_content, grown, acted}
-use Rattle.edit_commands.specs.EditModel.Moves.{insert_before, move_first, move_all_first, move_each_last, make_break}
-use Rattle.edit_commands.specs.EditModel.Run.{Reaches, here, onward, Run, ◌>>=◌, final, value, answer, done, look, given, for_each, edit, remove, make_element, grow}
-use Rattle.edit_commands.specs.EditModel.Valid.{IsForest, IsValid, IsPlacedPair}
-use Rattle.edit_commands.proofs.EditModel.Documents.{put_under_more}
-use Rattle.edit_commands.proofs.EditModel.Each.{Each, EachOn, each_bind, each_answer, each_look, each_if, each_given, each_for_each, each_edit, each_make_element, each_perform}
-use Rattle.edit_commands.proofs.EditModel.Forests.{fresh, can_go}
-use Rattle.edit_commands.proofs.EditModel.IslandRuns.{trees_made}
-use Rattle.edit_commands.proofs.EditModel.Islands.{link_elsewhere}
-use Rattle.edit_commands.proofs.EditModel.Made.{parent_is}
-use Rattle.edit_commands.proofs.EditModel.OwnRoots.{holder_inside}
-use Rattle.edit_commands.proofs.EditModel.Points.{placed_is, has_label-preorder}
-use Rattle.edit_commands.proofs.EditModel.Steps.{final-bind, value-bind, final-look, value-look, final-answer, value-answer, final-make_element, value-make_element}
-use Rattle.edit_commands.proofs.EditModel.TailForests.{away-link, away-with_leaf, stays-unlink}
-use Rattle.edit_commands.proofs.EditModel.Tests.{inserts, Removes, removes, goes, parent_there}
-use Rattle.edit_commands.proofs.EditModel.Trees.{none_or_some, within_trans, tree_of-with_leaf_other}
-use Rattle.edit_commands.proofs.EditModel.ValidRuns.{valid_along, final_valid}
-use Rattle.edit_commands.specs.EditActions.Siblings.{first_parent, members}
-use Rattle.edit_commands.specs.WrapSplit.declared.rule.Criterion.TheVariants.{Never}
-use Rattle.edit_commands.specs.WrapSplit.declared.rule.Recipe.{Recipe}
-use Rattle.edit_commands.specs.WrapSplit.declared.rule.Recipe.TheVariants.{Make}
-use Rattle.edit_commands.specs.WrapSplit.Breaks.{breaks_before, breaks_at_end, breaks_from}
-use Rattle.edit_commands.specs.WrapSplit.Target.{meets, if_fits, beside, blank_of, made_of, made_by, target}
-use Rattle.edit_commands.specs.WrapSplit.Wrap.{append_break, prepend_break, separate_with_br, append_all, parted_front, prepend_all, moved_in, grow_at, insert_if_loose, drop_empty, drop_parent, merged, merge_next, filled_from, filled, into_target, wrap_ends, wrap_list, all_hidden, widened, wrap_members, wrap}
+use Rattle.edit_model.specs.DomModel.declared.Content.{Content}
+use Rattle.edit_model.specs.DomModel.declared.attributes.Attribute.{Attribute}
+use Rattle.edit_model.specs.DomModel.Contents.{name_in, name_of}
+use Rattle.edit_model.specs.DomModel.Forest.{Forest, preorder, count_of, tree_of, parent_of, prev_of, next_of, first_in, last_in, content_of, link, unlink, IsDistinct, IsWithin, CanPut}
+use Rattle.edit_model.specs.DomModel.Places.{index_of}
+use Rattle.edit_model.proofs.DomModel.Kept.{content_of-link, content_of-unlink, content_of-with_leaf_new, content_of-with_leaf_other}
+use Rattle.edit_model.proofs.DomModel.Links.{IsDistinct-unlink}
+use Rattle.edit_model.proofs.DomModel.Move.{tree_of-unlink}
+use Rattle.edit_model.proofs.DomModel.Totals.{total-without, put_under_nowhere}
+use Rattle.edit_model.proofs.DomModel.Within.{within_child, within_root}
+use Rattle.edit_model.specs.LiveRange.declared.places.Point.{Point}
+use Rattle.edit_model.specs.LiveRange.declared.places.Pair.{Pair}
+use Rattle.edit_model.specs.LiveRange.LivePoints.{mapped}
+use Rattle.edit_model.specs.LiveRange.PointsEdit as range
+use Rattle.edit_model.specs.LiveRange.PointsEdit.{adjusted, adjusted_pair, with_offset, after_insert, after_removal, after_loss, has_label}
+use Rattle.edit_model.specs.State.{State}
+use Rattle.edit_model.specs.Confined.{is_editable_for, may_grow}
+use Rattle.edit_model.specs.Edit.{Edit, Insert, Remove, Move, Replace, Set, Unset, is_made_edit, trees_after, points_after, index_before, parent_or_0, changed, edited}
+use Rattle.edit_model.specs.Kept.{is_thing}
+use Rattle.edit_model.specs.Action as action
+use Rattle.edit_model.specs.Action.{Action, made, element_content, grown, acted}
+use Rattle.edit_model.specs.Moves.{insert_before, move_first, move_all_first, move_each_last, make_break}
+use Rattle.edit_model.specs.Run.{Reaches, here, onward, Run, ◌>>=◌, final, value, answer, done, look, given, for_each, edit, remove, make_element, grow}
+use Rattle.edit_model.specs.Valid.{IsForest, IsValid, IsPlacedPair}
+use Rattle.edit_model.proofs.Documents.{put_under_more}
+use Rattle.edit_model.proofs.Each.{Each, EachOn, each_bind, each_answer, each_look, each_if, each_given, each_for_each, each_edit, each_make_element, each_perform}
+use Rattle.edit_model.proofs.Forests.{fresh, can_go}
+use Rattle.edit_model.proofs.IslandRuns.{trees_made}
+use Rattle.edit_model.proofs.Islands.{link_elsewhere}
+use Rattle.edit_model.proofs.Made.{parent_is}
+use Rattle.edit_model.proofs.OwnRoots.{holder_inside}
+use Rattle.edit_model.proofs.Points.{placed_is, has_label-preorder}
+use Rattle.edit_model.proofs.Steps.{final-bind, value-bind, final-look, value-look, final-answer, value-answer, final-make_element, value-make_element}
+use Rattle.edit_model.proofs.TailForests.{away-link, away-with_leaf, stays-unlink}
+use Rattle.edit_model.proofs.Tests.{inserts, Removes, removes, goes, parent_there}
+use Rattle.edit_model.proofs.Trees.{none_or_some, within_trans, tree_of-with_leaf_other}
+use Rattle.edit_model.proofs.ValidRuns.{valid_along, final_valid}
+use Rattle.inline_value.specs.EditActions.Siblings.{first_parent, members}
+use Rattle.inline_value.specs.WrapSplit.declared.rule.Criterion.TheVariants.{Never}
+use Rattle.inline_value.specs.WrapSplit.declared.rule.Recipe.{Recipe}
+use Rattle.inline_value.specs.WrapSplit.declared.rule.Recipe.TheVariants.{Make}
+use Rattle.inline_value.specs.WrapSplit.Breaks.{breaks_before, breaks_at_end, breaks_from}
+use Rattle.inline_value.specs.WrapSplit.Target.{meets, if_fits, beside, blank_of, made_of, made_by, target}
+use Rattle.inline_value.specs.WrapSplit.Wrap.{append_break, prepend_break, separate_with_br, append_all, parted_front, prepend_all, moved_in, grow_at, insert_if_loose, drop_empty, drop_parent, merged, merge_next, filled_from, filled, into_target, wrap_ends, wrap_list, all_hidden, widened, wrap_members, wrap}
 use Rattle.caret_laws.specs.TailLaws.{is_thing_at, AmidNoThing}
 use Rattle.caret_laws.proofs.Blanks.{points_made, edit_left}
 use Rattle.caret_laws.proofs.Canonical.{Ends, ends_answer, ends_look, ends_bind}

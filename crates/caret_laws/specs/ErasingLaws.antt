@@ -1,10 +1,10 @@
 -- The law that erasing what is selected loses nothing where nothing is: at a caret it takes out and puts in blanks alone.
-use Rattle.edit_commands.specs.LiveRange.declared.places.Point.{Point}
-use Rattle.edit_commands.specs.EditModel.State.{State}
-use Rattle.edit_commands.specs.EditModel.Run.{final}
-use Rattle.edit_commands.specs.EditModel.Valid.{IsValid}
-use Rattle.edit_commands.specs.DeleteCore.declared.deletion.Manner.{Manner}
-use Rattle.edit_commands.specs.TextInsertion.Start.{erase}
+use Rattle.edit_model.specs.LiveRange.declared.places.Point.{Point}
+use Rattle.edit_model.specs.State.{State}
+use Rattle.edit_model.specs.Run.{final}
+use Rattle.edit_model.specs.Valid.{IsValid}
+use Rattle.delete_core.specs.declared.deletion.Manner.{Manner}
+use Rattle.text_insertion.specs.Start.{erase}
 use Rattle.caret_laws.specs.SolidOrder.{KeepsOrderUpToBlanks, StandsAt, HasRoom}
 
 -- each image, each rule and each character other than tab, LF, CR, space and U+00A0 stays, in order, no

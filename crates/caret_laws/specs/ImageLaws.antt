@@ -1,15 +1,15 @@
 -- The law that inserting an image at a caret adds that image, and nothing else comes or goes.
 use Rattle.std.specs.Prelude.{◌≡◌, ℕ, true, false, List, ◌∷◌, codes, Some}
-use Rattle.edit_commands.specs.DomModel.declared.Content.TheVariants.{Element}
-use Rattle.edit_commands.specs.DomModel.Editing.{is_host}
-use Rattle.edit_commands.specs.DomModel.Forest.{content_of, IsWithin}
-use Rattle.edit_commands.specs.LiveRange.declared.places.Point.{Point}
-use Rattle.edit_commands.specs.EditModel.State.{State}
-use Rattle.edit_commands.specs.EditModel.Confined.{is_inside}
-use Rattle.edit_commands.specs.EditModel.History.{begun}
-use Rattle.edit_commands.specs.EditModel.Run.{final}
-use Rattle.edit_commands.specs.EditModel.Valid.{IsValid}
-use Rattle.edit_commands.specs.InsertObjects.Image.{source, insert_image}
+use Rattle.edit_model.specs.DomModel.declared.Content.TheVariants.{Element}
+use Rattle.edit_model.specs.DomModel.Editing.{is_host}
+use Rattle.edit_model.specs.DomModel.Forest.{content_of, IsWithin}
+use Rattle.edit_model.specs.LiveRange.declared.places.Point.{Point}
+use Rattle.edit_model.specs.State.{State}
+use Rattle.edit_model.specs.Confined.{is_inside}
+use Rattle.edit_model.specs.History.{begun}
+use Rattle.edit_model.specs.Run.{final}
+use Rattle.edit_model.specs.Valid.{IsValid}
+use Rattle.insert_objects.specs.Image.{source, insert_image}
 use Rattle.caret_laws.specs.SolidOrder.{AddsThing, StandsAt, HasRoom, BreaksAreEmpty}
 
 -- From the beginning of a command in a host of the document, with the caret inside it: the document has

@@ -1,13 +1,13 @@
 -- The laws that inserting a line break at a caret keeps what the document bears: once what is selected is erased, and as a whole.
 use Rattle.std.specs.Prelude.{◌≡◌, ℕ, true, Some}
-use Rattle.edit_commands.specs.DomModel.Editing.{is_host}
-use Rattle.edit_commands.specs.LiveRange.declared.places.Point.{Point}
-use Rattle.edit_commands.specs.EditModel.State.{State}
-use Rattle.edit_commands.specs.EditModel.Run.{final}
-use Rattle.edit_commands.specs.EditModel.Valid.{IsValid}
-use Rattle.command_laws.specs.EditLaws.Order.{KeepsOrder}
-use Rattle.edit_commands.specs.InsertObjects.LineBreak.{break_line, insert_line_break}
-use Rattle.edit_commands.specs.InsertObjects.Putting.{from_start_inside}
+use Rattle.edit_model.specs.DomModel.Editing.{is_host}
+use Rattle.edit_model.specs.LiveRange.declared.places.Point.{Point}
+use Rattle.edit_model.specs.State.{State}
+use Rattle.edit_model.specs.Run.{final}
+use Rattle.edit_model.specs.Valid.{IsValid}
+use Rattle.edit_laws.specs.Order.{KeepsOrder}
+use Rattle.insert_objects.specs.LineBreak.{break_line, insert_line_break}
+use Rattle.insert_objects.specs.Putting.{from_start_inside}
 use Rattle.caret_laws.specs.SolidOrder.{KeepsOrderUpToBlanks, StandsAt, HasRoom}
 
 -- From a caret on, after the first step: each image, each rule and each character other than tab, LF, CR

@@ -1,13 +1,13 @@
 -- The laws that insertParagraph ends where it would with the tail extracted by single edits.
 use Rattle.std.specs.Prelude.{◌≡◌, ℕ, true, false, Some}
-use Rattle.edit_commands.specs.DomModel.Editing.{is_host}
-use Rattle.edit_commands.specs.DomModel.Forest.{IsWithin}
-use Rattle.edit_commands.specs.EditModel.State.{State}
-use Rattle.edit_commands.specs.EditModel.History.{begun}
-use Rattle.edit_commands.specs.EditModel.Laws.{LeavesStatesOn}
-use Rattle.edit_commands.specs.EditModel.Run.{Reaches, final}
-use Rattle.edit_commands.specs.EditModel.Valid.{IsValid}
-use Rattle.edit_commands.specs.TextInsertion.Paragraph.{insert_paragraph_inside, insert_paragraph}
+use Rattle.edit_model.specs.DomModel.Editing.{is_host}
+use Rattle.edit_model.specs.DomModel.Forest.{IsWithin}
+use Rattle.edit_model.specs.State.{State}
+use Rattle.edit_model.specs.History.{begun}
+use Rattle.edit_model.specs.Laws.{LeavesStatesOn}
+use Rattle.edit_model.specs.Run.{Reaches, final}
+use Rattle.edit_model.specs.Valid.{IsValid}
+use Rattle.text_insertion.specs.Paragraph.{insert_paragraph_inside, insert_paragraph}
 use Rattle.caret_laws.specs.SingleParagraph.{inside_parted, paragraph_inserted}
 
 -- From each state that a command comes to which keeps no contents, in a host of the document, and

@@ -1,20 +1,20 @@
 -- The laws that inserting a paragraph at a caret keeps what the document bears.
 use Rattle.std.specs.Prelude.{◌≡◌, ℕ, true, false, [], codes, Some}
-use Rattle.edit_commands.specs.DomModel.Contents.{has_name, is_break}
-use Rattle.edit_commands.specs.DomModel.Editing.{is_host}
-use Rattle.edit_commands.specs.DomModel.Forest.{IsWithin, children_of}
-use Rattle.edit_commands.specs.LiveRange.declared.places.Point.{Point}
-use Rattle.edit_commands.specs.NodeStyles.Blocks.{is_block, is_hidden}
-use Rattle.edit_commands.specs.NodeTests.Visible.{is_boxless}
-use Rattle.edit_commands.specs.EditModel.State.{State}
-use Rattle.edit_commands.specs.EditModel.History.{begun}
-use Rattle.edit_commands.specs.EditModel.Run.{final}
-use Rattle.edit_commands.specs.EditModel.Valid.{IsValid}
-use Rattle.edit_commands.specs.DeleteCore.declared.deletion.TheConstants.Manner.{DEFAULT}
-use Rattle.edit_commands.specs.TextInsertion.Containers.{container_of, is_own_container}
-use Rattle.edit_commands.specs.TextInsertion.Entries.{is_empty_entry}
-use Rattle.edit_commands.specs.TextInsertion.Paragraph.{insert_paragraph_inside, insert_paragraph}
-use Rattle.edit_commands.specs.TextInsertion.Start.{erase}
+use Rattle.edit_model.specs.DomModel.Contents.{has_name, is_break}
+use Rattle.edit_model.specs.DomModel.Editing.{is_host}
+use Rattle.edit_model.specs.DomModel.Forest.{IsWithin, children_of}
+use Rattle.edit_model.specs.LiveRange.declared.places.Point.{Point}
+use Rattle.inline_value.specs.NodeStyles.Blocks.{is_block, is_hidden}
+use Rattle.inline_value.specs.NodeTests.Visible.{is_boxless}
+use Rattle.edit_model.specs.State.{State}
+use Rattle.edit_model.specs.History.{begun}
+use Rattle.edit_model.specs.Run.{final}
+use Rattle.edit_model.specs.Valid.{IsValid}
+use Rattle.delete_core.specs.declared.deletion.TheConstants.Manner.{DEFAULT}
+use Rattle.text_insertion.specs.Containers.{container_of, is_own_container}
+use Rattle.text_insertion.specs.Entries.{is_empty_entry}
+use Rattle.text_insertion.specs.Paragraph.{insert_paragraph_inside, insert_paragraph}
+use Rattle.text_insertion.specs.Start.{erase}
 use Rattle.caret_laws.specs.SolidOrder.{KeepsOrderUpToBlanks, StandsAt, HasRoom}
 use Rattle.caret_laws.specs.Sparing.{SparesOn}
 use Rattle.caret_laws.specs.TailLaws.{is_thing_at}

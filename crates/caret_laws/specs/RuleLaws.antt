@@ -1,21 +1,21 @@
 -- The law that inserting a rule at a caret adds that rule, and nothing else comes or goes.
 use Rattle.std.specs.Prelude.{◌≡◌, ◌≢◌, ◌⊎◌, ℕ, true, false, List, [], map, filter, codes, Some}
-use Rattle.edit_commands.specs.DomModel.declared.Content.TheVariants.{Words}
-use Rattle.edit_commands.specs.DomModel.Contents.{name_of}
-use Rattle.edit_commands.specs.DomModel.Editing.{is_host}
-use Rattle.edit_commands.specs.DomModel.Forest.{IsWithin, parent_of, children_of, content_of}
-use Rattle.edit_commands.specs.LiveRange.declared.places.Point.{Point}
-use Rattle.edit_commands.specs.NodeStyles.Allowed.{allowed_in}
-use Rattle.edit_commands.specs.EditModel.State.{State}
-use Rattle.edit_commands.specs.EditModel.Confined.{is_inside}
-use Rattle.edit_commands.specs.EditModel.History.{begun}
-use Rattle.edit_commands.specs.EditModel.Kept.{Letter}
-use Rattle.edit_commands.specs.EditModel.Run.{final, value}
-use Rattle.edit_commands.specs.EditModel.Valid.{IsValid}
-use Rattle.edit_commands.specs.DeleteCore.declared.deletion.TheConstants.Manner.{KEEP_BLOCKS}
-use Rattle.edit_commands.specs.TextInsertion.Start.{erase}
-use Rattle.edit_commands.specs.InsertObjects.Putting.{put}
-use Rattle.edit_commands.specs.InsertObjects.Rule.{outermost_start, outermost_end, widen_range, put_rule, insert_horizontal_rule}
+use Rattle.edit_model.specs.DomModel.declared.Content.TheVariants.{Words}
+use Rattle.edit_model.specs.DomModel.Contents.{name_of}
+use Rattle.edit_model.specs.DomModel.Editing.{is_host}
+use Rattle.edit_model.specs.DomModel.Forest.{IsWithin, parent_of, children_of, content_of}
+use Rattle.edit_model.specs.LiveRange.declared.places.Point.{Point}
+use Rattle.inline_value.specs.NodeStyles.Allowed.{allowed_in}
+use Rattle.edit_model.specs.State.{State}
+use Rattle.edit_model.specs.Confined.{is_inside}
+use Rattle.edit_model.specs.History.{begun}
+use Rattle.edit_model.specs.Kept.{Letter}
+use Rattle.edit_model.specs.Run.{final, value}
+use Rattle.edit_model.specs.Valid.{IsValid}
+use Rattle.delete_core.specs.declared.deletion.TheConstants.Manner.{KEEP_BLOCKS}
+use Rattle.text_insertion.specs.Start.{erase}
+use Rattle.insert_objects.specs.Putting.{put}
+use Rattle.insert_objects.specs.Rule.{outermost_start, outermost_end, widen_range, put_rule, insert_horizontal_rule}
 use Rattle.caret_laws.specs.SolidOrder.{is_solid, AddsThing, StandsAt, HasRoom}
 use Rattle.caret_laws.specs.ParagraphOrder.{StandsInNoThing}
 use Rattle.caret_laws.specs.Sparing.{SparesOn}

@@ -3,15 +3,15 @@
 -- The steps are those of docs/ALGORITHMS.md.
 use Rattle.std.specs.Prelude.{ℕ, zero, suc, Bool, false, ◌||◌, ◌&&◌, not, List, [], ◌∷◌, drop, Option, Some, None, if◌then◌else◌, ◌==◌}
 use Rattle.std.specs.Option.{option_map_or}
-use Rattle.edit_commands.specs.DomModel.Forest.{parent_of, children_of, tree_of}
-use Rattle.edit_commands.specs.LiveRange.declared.places.Point.{Point}
-use Rattle.edit_commands.specs.PointOrder.PointOrder.{child_toward}
-use Rattle.edit_commands.specs.EditModel.State.{State}
-use Rattle.edit_commands.specs.EditModel.Kept.{has_no_kept_leaves}
-use Rattle.edit_commands.specs.EditModel.Confined.{is_open}
-use Rattle.edit_commands.specs.EditModel.Edit.{Insert, Remove, edited}
-use Rattle.edit_commands.specs.EditModel.Action.{made, applied}
-use Rattle.edit_commands.specs.EditModel.Tail.{later, copy_of, document_size}
+use Rattle.edit_model.specs.DomModel.Forest.{parent_of, children_of, tree_of}
+use Rattle.edit_model.specs.LiveRange.declared.places.Point.{Point}
+use Rattle.edit_model.specs.PointOrder.PointOrder.{child_toward}
+use Rattle.edit_model.specs.State.{State}
+use Rattle.edit_model.specs.Kept.{has_no_kept_leaves}
+use Rattle.edit_model.specs.Confined.{is_open}
+use Rattle.edit_model.specs.Edit.{Insert, Remove, edited}
+use Rattle.edit_model.specs.Action.{made, applied}
+use Rattle.edit_model.specs.Tail.{later, copy_of, document_size}
 
 -- A node leaves its parent, which is open. Here alone it need not be editable: it's inserted again.
 -- A keeping command takes out nothing that is kept.

@@ -2,16 +2,16 @@
 -- all else is that run. Each function gives the state in which it ends then.
 use Rattle.std.specs.Prelude.{ℕ, Option, if◌then◌else◌}
 use Rattle.std.specs.Option.{option_map_or}
-use Rattle.edit_commands.specs.LiveRange.declared.places.Point.{Point}
-use Rattle.edit_commands.specs.EditModel.State.{State}
-use Rattle.edit_commands.specs.EditModel.Moves.{insert_after}
-use Rattle.edit_commands.specs.EditModel.Run.{final, value}
-use Rattle.edit_commands.specs.DeleteCore.declared.deletion.TheConstants.Manner.{DEFAULT}
-use Rattle.edit_commands.specs.TextInsertion.Containers.{container_of, own_container}
-use Rattle.edit_commands.specs.TextInsertion.Entries.{is_empty_entry, leave_list}
-use Rattle.edit_commands.specs.TextInsertion.Halves.{parting_point, make_second, close_both}
-use Rattle.edit_commands.specs.TextInsertion.Paragraph.{holds_lines, break_line, split_text}
-use Rattle.edit_commands.specs.TextInsertion.Start.{active_start, start_inside, erase}
+use Rattle.edit_model.specs.LiveRange.declared.places.Point.{Point}
+use Rattle.edit_model.specs.State.{State}
+use Rattle.edit_model.specs.Moves.{insert_after}
+use Rattle.edit_model.specs.Run.{final, value}
+use Rattle.delete_core.specs.declared.deletion.TheConstants.Manner.{DEFAULT}
+use Rattle.text_insertion.specs.Containers.{container_of, own_container}
+use Rattle.text_insertion.specs.Entries.{is_empty_entry, leave_list}
+use Rattle.text_insertion.specs.Halves.{parting_point, make_second, close_both}
+use Rattle.text_insertion.specs.Paragraph.{holds_lines, break_line, split_text}
+use Rattle.text_insertion.specs.Start.{active_start, start_inside, erase}
 use Rattle.caret_laws.specs.SingleEdits.{extracted_singly}
 
 -- insert a paragraph, step 8: the second container is made and inserted after c

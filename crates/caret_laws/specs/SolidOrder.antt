@@ -1,14 +1,14 @@
 -- What the document bears besides blanks, where U+00A0 counts as one: laying out whitespace anew puts it in the place of a space,
 -- and a space in its place.
 use Rattle.std.specs.Prelude.{◌≡◌, ◌^◌, ◌<◌, ℕ, ◌+◌, Bool, true, ◌||◌, not, ◌==◌, List, [], ◌∷◌, ◌++◌, length, filter, Some}
-use Rattle.edit_commands.specs.DomModel.declared.Content.{Content}
-use Rattle.edit_commands.specs.DomModel.declared.Content.TheVariants.{Words}
-use Rattle.edit_commands.specs.DomModel.Contents.{is_break}
-use Rattle.edit_commands.specs.DomModel.Forest.{Forest, children_of, content_of}
-use Rattle.edit_commands.specs.LiveRange.declared.places.Point.{Point}
-use Rattle.edit_commands.specs.EditModel.Kept.{Leaf, Letter, Thing, leaves, is_blank}
-use Rattle.edit_commands.specs.EditModel.State.{State}
-use Rattle.edit_commands.specs.EditModel.History.{document_of}
+use Rattle.edit_model.specs.DomModel.declared.Content.{Content}
+use Rattle.edit_model.specs.DomModel.declared.Content.TheVariants.{Words}
+use Rattle.edit_model.specs.DomModel.Contents.{is_break}
+use Rattle.edit_model.specs.DomModel.Forest.{Forest, children_of, content_of}
+use Rattle.edit_model.specs.LiveRange.declared.places.Point.{Point}
+use Rattle.edit_model.specs.Kept.{Leaf, Letter, Thing, leaves, is_blank}
+use Rattle.edit_model.specs.State.{State}
+use Rattle.edit_model.specs.History.{document_of}
 
 -- an image, a rule, or a character other than tab, LF, CR, space and U+00A0
 abbrev pub is_solid : Leaf → Bool

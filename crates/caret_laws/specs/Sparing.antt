@@ -1,13 +1,13 @@
 -- Runs that take out nothing that is kept. A command that keeps contents makes no removal that does; one that doesn't keep them
 -- makes it.
 use Rattle.std.specs.Prelude.{◌≡◌, true}
-use Rattle.edit_commands.specs.DomModel.Forest.{tree_of}
-use Rattle.edit_commands.specs.EditModel.State.{State}
-use Rattle.edit_commands.specs.EditModel.Action.{Action, Change}
-use Rattle.edit_commands.specs.EditModel.Confined.{may_remove}
-use Rattle.edit_commands.specs.EditModel.Edit.{Remove}
-use Rattle.edit_commands.specs.EditModel.Kept.{has_no_kept_leaves}
-use Rattle.edit_commands.specs.EditModel.Run.{Reaches, here, onward}
+use Rattle.edit_model.specs.DomModel.Forest.{tree_of}
+use Rattle.edit_model.specs.State.{State}
+use Rattle.edit_model.specs.Action.{Action, Change}
+use Rattle.edit_model.specs.Confined.{may_remove}
+use Rattle.edit_model.specs.Edit.{Remove}
+use Rattle.edit_model.specs.Kept.{has_no_kept_leaves}
+use Rattle.edit_model.specs.Run.{Reaches, here, onward}
 
 -- what an action removes bears no image, no rule and no character other than tab, LF, CR and space
 abbrev pub Spares : Action → State → Type 0

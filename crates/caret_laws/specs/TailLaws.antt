@@ -2,17 +2,17 @@
 -- document bears.
 use Rattle.std.specs.Prelude.{◌≡◌, ◌≢◌, ℕ, Bool, true, false, [], Some}
 use Rattle.std.specs.Option.{option_map_or}
-use Rattle.edit_commands.specs.DomModel.declared.Content.{Content}
-use Rattle.edit_commands.specs.DomModel.Contents.{name_of}
-use Rattle.edit_commands.specs.DomModel.Forest.{Forest, IsWithin, children_of, next_of, tree_of}
-use Rattle.edit_commands.specs.LiveRange.declared.places.Point.{Point}
-use Rattle.edit_commands.specs.PointOrder.PointOrder.{is_within}
-use Rattle.edit_commands.specs.EditModel.State.{State}
-use Rattle.edit_commands.specs.EditModel.Kept.{leaves, is_thing}
-use Rattle.edit_commands.specs.EditModel.Action.{tail_of, may_extract, extracted}
-use Rattle.edit_commands.specs.EditModel.History.{document_of}
-use Rattle.edit_commands.specs.EditModel.Run.{final}
-use Rattle.edit_commands.specs.EditModel.Valid.{IsValid}
+use Rattle.edit_model.specs.DomModel.declared.Content.{Content}
+use Rattle.edit_model.specs.DomModel.Contents.{name_of}
+use Rattle.edit_model.specs.DomModel.Forest.{Forest, IsWithin, children_of, next_of, tree_of}
+use Rattle.edit_model.specs.LiveRange.declared.places.Point.{Point}
+use Rattle.edit_model.specs.PointOrder.PointOrder.{is_within}
+use Rattle.edit_model.specs.State.{State}
+use Rattle.edit_model.specs.Kept.{leaves, is_thing}
+use Rattle.edit_model.specs.Action.{tail_of, may_extract, extracted}
+use Rattle.edit_model.specs.History.{document_of}
+use Rattle.edit_model.specs.Run.{final}
+use Rattle.edit_model.specs.Valid.{IsValid}
 use Rattle.caret_laws.specs.SingleEdits.{extracted_singly}
 use Rattle.caret_laws.specs.TailRun.{extract_by_edits, GoesAlone, Leave}
 

@@ -2,16 +2,16 @@
 -- what is taken out has to be editable, made by the command or a br. The steps are those of
 -- docs/ALGORITHMS.md.
 use Rattle.std.specs.Prelude.{◌≡◌, ℕ, zero, suc, true, ◌||◌, List, [], ◌∷◌, drop, None, if◌then◌else◌, ◌==◌, codes, unwrap_or}
-use Rattle.edit_commands.specs.DomModel.AttributeList.{unset_in}
-use Rattle.edit_commands.specs.DomModel.Contents.{name_of, attributes_of, is_break}
-use Rattle.edit_commands.specs.DomModel.Forest.{children_of}
-use Rattle.edit_commands.specs.LiveRange.declared.places.Point.{Point}
-use Rattle.edit_commands.specs.PointOrder.PointOrder.{child_toward}
-use Rattle.edit_commands.specs.EditModel.State.{State}
-use Rattle.edit_commands.specs.EditModel.Confined.{is_own}
-use Rattle.edit_commands.specs.EditModel.Edit.{Remove}
-use Rattle.edit_commands.specs.EditModel.Run.{Run, ◌>>=◌, ◌>>◌, done, look, given, for_each, insert, remove, make_element}
-use Rattle.edit_commands.specs.EditModel.Tail.{Step, Do, later, document_size}
+use Rattle.edit_model.specs.DomModel.AttributeList.{unset_in}
+use Rattle.edit_model.specs.DomModel.Contents.{name_of, attributes_of, is_break}
+use Rattle.edit_model.specs.DomModel.Forest.{children_of}
+use Rattle.edit_model.specs.LiveRange.declared.places.Point.{Point}
+use Rattle.edit_model.specs.PointOrder.PointOrder.{child_toward}
+use Rattle.edit_model.specs.State.{State}
+use Rattle.edit_model.specs.Confined.{is_own}
+use Rattle.edit_model.specs.Edit.{Remove}
+use Rattle.edit_model.specs.Run.{Run, ◌>>=◌, ◌>>◌, done, look, given, for_each, insert, remove, make_element}
+use Rattle.edit_model.specs.Tail.{Step, Do, later, document_size}
 
 unfoldable pub bring : ℕ → ℕ → Run (Unit {0})
 bring d n = remove n >> (insert d None n >> done)

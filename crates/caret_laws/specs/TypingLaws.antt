@@ -1,21 +1,21 @@
 -- The law that inserting a text at a caret adds its characters, together and at one place, and that nothing else comes or goes
 -- besides blanks.
 use Rattle.std.specs.Prelude.{◌≡◌, ◌≢◌, ◌⊎◌, ◌^◌, ◌<◌, ℕ, suc, ◌+◌, true, false, List, [], ◌∷◌, ◌++◌, length, map, filter, Some}
-use Rattle.edit_commands.specs.DomModel.Contents.{has_chars_at}
-use Rattle.edit_commands.specs.DomModel.Editing.{is_host}
-use Rattle.edit_commands.specs.DomModel.Forest.{IsWithin}
-use Rattle.edit_commands.specs.LiveRange.declared.places.Point.{Point}
-use Rattle.edit_commands.specs.NodeTests.CollapsedWhitespace.{is_words}
-use Rattle.edit_commands.specs.EditModel.Kept.{Leaf, Letter}
-use Rattle.edit_commands.specs.EditModel.State.{State}
-use Rattle.edit_commands.specs.EditModel.Confined.{is_inside}
-use Rattle.edit_commands.specs.EditModel.History.{begun, document_of}
-use Rattle.edit_commands.specs.EditModel.Run.{final}
-use Rattle.edit_commands.specs.EditModel.Valid.{IsValid}
-use Rattle.edit_commands.specs.InlineValue.Overrides.{overrides_of}
-use Rattle.edit_commands.specs.DeleteCore.declared.deletion.TheConstants.Manner.{KEEP_WRAPPERS}
-use Rattle.edit_commands.specs.TextInsertion.Start.{erase}
-use Rattle.edit_commands.specs.TextInsertion.Typing.{insert_char_inside, insert_chars, insert_text}
+use Rattle.edit_model.specs.DomModel.Contents.{has_chars_at}
+use Rattle.edit_model.specs.DomModel.Editing.{is_host}
+use Rattle.edit_model.specs.DomModel.Forest.{IsWithin}
+use Rattle.edit_model.specs.LiveRange.declared.places.Point.{Point}
+use Rattle.inline_value.specs.NodeTests.CollapsedWhitespace.{is_words}
+use Rattle.edit_model.specs.Kept.{Leaf, Letter}
+use Rattle.edit_model.specs.State.{State}
+use Rattle.edit_model.specs.Confined.{is_inside}
+use Rattle.edit_model.specs.History.{begun, document_of}
+use Rattle.edit_model.specs.Run.{final}
+use Rattle.edit_model.specs.Valid.{IsValid}
+use Rattle.inline_value.specs.Overrides.{overrides_of}
+use Rattle.delete_core.specs.declared.deletion.TheConstants.Manner.{KEEP_WRAPPERS}
+use Rattle.text_insertion.specs.Start.{erase}
+use Rattle.text_insertion.specs.Typing.{insert_char_inside, insert_chars, insert_text}
 use Rattle.caret_laws.specs.ParagraphOrder.{StandsInNoThing}
 use Rattle.caret_laws.specs.SolidOrder.{is_solid, solid_leaves, KeepsOrderUpToBlanks, OneMore, StandsAt, HasRoomFor, HasRoom, BreaksAreEmpty}
 use Rattle.caret_laws.specs.Sparing.{SparesOn}

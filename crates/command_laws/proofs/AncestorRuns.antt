@@ -3,23 +3,23 @@ use Rattle.std.proofs.Common.{◌≡◌, ℕ, Bool, true, false, ◌&&◌, ◌||
 use Rattle.std.specs.Prelude.{codes, bytes_eq, find}
 use Rattle.std.specs.List.{AllByRecursion}
 use Rattle.std.specs.Option.{option_map_or, option_and_then}
-use Rattle.edit_commands.specs.DomModel.declared.Content.{Content}
-use Rattle.edit_commands.specs.DomModel.declared.Content.TheVariants.{Document, Element, Words, Remark}
-use Rattle.edit_commands.specs.DomModel.declared.attributes.Attribute.{Attribute}
-use Rattle.edit_commands.specs.DomModel.Contents.{name_in, name_of}
-use Rattle.edit_commands.specs.DomModel.Forest.{Forest, is_label, content_of}
-use Rattle.edit_commands.proofs.DomModel.Links.{eqb_refl_true}
-use Rattle.edit_commands.proofs.CssValue.Names.{same-name}
-use Rattle.edit_commands.specs.HtmlNames.AllowedChildren.{contents, listed_children, bound_names, is_kept_out, allowed_child}
-use Rattle.edit_commands.specs.HtmlNames.ElementNames.{is_one_of, prohibited_child_names, heading_names, is_prohibited_child, is_heading}
-use Rattle.edit_commands.specs.NodeStyles.Allowed.{is_barred, name_allowed_in, allowed_in}
-use Rattle.edit_commands.specs.EditModel.State.{State}
-use Rattle.edit_commands.specs.EditModel.Compositions.{set_tag_name}
-use Rattle.edit_commands.specs.EditModel.Confined.{is_editable_for, is_inside}
-use Rattle.edit_commands.specs.EditModel.Kept.{borne_by, is_thing}
-use Rattle.edit_commands.specs.EditModel.Valid.{IsValid}
-use Rattle.edit_commands.specs.EditModel.Run.{final, done}
-use Rattle.edit_commands.proofs.EditModel.Steps.{final-look}
+use Rattle.edit_model.specs.DomModel.declared.Content.{Content}
+use Rattle.edit_model.specs.DomModel.declared.Content.TheVariants.{Document, Element, Words, Remark}
+use Rattle.edit_model.specs.DomModel.declared.attributes.Attribute.{Attribute}
+use Rattle.edit_model.specs.DomModel.Contents.{name_in, name_of}
+use Rattle.edit_model.specs.DomModel.Forest.{Forest, is_label, content_of}
+use Rattle.edit_model.proofs.DomModel.Links.{eqb_refl_true}
+use Rattle.inline_value.proofs.CssValue.Names.{same-name}
+use Rattle.edit_model.specs.HtmlNames.AllowedChildren.{contents, listed_children, bound_names, is_kept_out, allowed_child}
+use Rattle.edit_model.specs.HtmlNames.ElementNames.{is_one_of, prohibited_child_names, heading_names, is_prohibited_child, is_heading}
+use Rattle.inline_value.specs.NodeStyles.Allowed.{is_barred, name_allowed_in, allowed_in}
+use Rattle.edit_model.specs.State.{State}
+use Rattle.edit_model.specs.Compositions.{set_tag_name}
+use Rattle.edit_model.specs.Confined.{is_editable_for, is_inside}
+use Rattle.edit_model.specs.Kept.{borne_by, is_thing}
+use Rattle.edit_model.specs.Valid.{IsValid}
+use Rattle.edit_model.specs.Run.{final, done}
+use Rattle.edit_model.proofs.Steps.{final-look}
 use Rattle.edit_laws.specs.MoveLaws.{IsBare}
 use Rattle.edit_laws.specs.Order.{KeepsOrder, IsKeeping}
 use Rattle.edit_laws.specs.Steady.{Steady}
@@ -27,10 +27,10 @@ use Rattle.edit_laws.specs.OrderPreserving.{OrderPreserving}
 use Rattle.edit_laws.proofs.Renaming.{tag_name_keeps}
 use Rattle.edit_laws.proofs.SteadyRuns.{steady_parts, steady_bind, steady_answer}
 use Rattle.edit_laws.proofs.OrderPreserving.{order_preserving, order_preserving_answer, order_preserving_bind}
-use Rattle.edit_commands.specs.WrapSplit.declared.rule.Criterion.TheVariants.{Named}
-use Rattle.edit_commands.specs.WrapSplit.declared.rule.Recipe.TheVariants.{Make}
-use Rattle.edit_commands.specs.EditQuery.Rows.{container_name}
-use Rattle.edit_commands.specs.InlineValue.Ancestors.{is_prohibited, has_place, lifted, lift, is_description, description_list, wrap_description, hosts_none, split_out, part_child, part_children, lift_renamed, rename, replace_misplaced, fix_ancestors}
+use Rattle.inline_value.specs.WrapSplit.declared.rule.Criterion.TheVariants.{Named}
+use Rattle.inline_value.specs.WrapSplit.declared.rule.Recipe.TheVariants.{Make}
+use Rattle.inline_value.specs.EditQuery.Rows.{container_name}
+use Rattle.inline_value.specs.Ancestors.{is_prohibited, has_place, lifted, lift, is_description, description_list, wrap_description, hosts_none, split_out, part_child, part_children, lift_renamed, rename, replace_misplaced, fix_ancestors}
 use Rattle.command_laws.proofs.HostLine.{host_among}
 use Rattle.command_laws.proofs.PushingRuns.{order_preserving_record_values, order_preserving_restore_values, steady_record_values, steady_restore_values}
 use Rattle.command_laws.proofs.Splitting.{then_order_preserving_on, order_preserving_split_one, order_preserving_split_around}

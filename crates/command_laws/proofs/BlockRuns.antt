@@ -1,15 +1,15 @@
 -- The block commands keep the order, and leave the states of contenteditable.
 use Rattle.std.proofs.Common.{◌≡◌, ℕ, Bool, true, false, if◌then◌else◌, List, take, Option, refl}
 use Rattle.std.specs.Prelude.{bytes_eq, codes, ◌||◌}
-use Rattle.edit_commands.specs.DomModel.Contents.{has_name}
-use Rattle.edit_commands.specs.DomModel.Forest.{children_of}
-use Rattle.edit_commands.specs.HtmlNames.ElementNames as names
-use Rattle.edit_commands.specs.HtmlNames.ElementNames.{formattable_block_names}
-use Rattle.edit_commands.specs.EditModel.State.{State}
-use Rattle.edit_commands.specs.EditModel.Compositions.{set_tag_name}
-use Rattle.edit_commands.specs.EditModel.Kept.{is_thing}
-use Rattle.edit_commands.specs.EditModel.Run.{final, ◌>>=◌, ◌>>◌, done, answer}
-use Rattle.edit_commands.proofs.EditModel.Steps.{final-answer, final-bind, final-look}
+use Rattle.edit_model.specs.DomModel.Contents.{has_name}
+use Rattle.edit_model.specs.DomModel.Forest.{children_of}
+use Rattle.edit_model.specs.HtmlNames.ElementNames as names
+use Rattle.edit_model.specs.HtmlNames.ElementNames.{formattable_block_names}
+use Rattle.edit_model.specs.State.{State}
+use Rattle.edit_model.specs.Compositions.{set_tag_name}
+use Rattle.edit_model.specs.Kept.{is_thing}
+use Rattle.edit_model.specs.Run.{final, ◌>>=◌, ◌>>◌, done, answer}
+use Rattle.edit_model.proofs.Steps.{final-answer, final-bind, final-look}
 use Rattle.edit_laws.specs.Order.{KeepsOrder, IsKeeping}
 use Rattle.edit_laws.specs.Steady.{Steady}
 use Rattle.edit_laws.specs.OrderPreserving.{OrderPreserving}
@@ -18,16 +18,16 @@ use Rattle.edit_laws.proofs.Renaming.{tag_name_keeps}
 use Rattle.edit_laws.proofs.SteadyRuns.{steady_parts, steady_answer, steady_bind, steady_look_at}
 use Rattle.edit_laws.proofs.Subsequences.{keeps_trans}
 use Rattle.edit_laws.proofs.OrderPreserving.{order_preserving_answer}
-use Rattle.edit_commands.specs.WrapSplit.declared.rule.Criterion.TheVariants.{Never, Named, Aligned}
-use Rattle.edit_commands.specs.WrapSplit.declared.rule.Recipe.TheVariants.{Make}
-use Rattle.edit_commands.specs.WrapSplit.Split.{remove_keeping_children}
-use Rattle.edit_commands.specs.WrapSplit.Wrap.{wrap}
-use Rattle.edit_commands.specs.InlineValue.Recording.{record_values, restore_values}
-use Rattle.edit_commands.specs.InlineValue.Wrappers.{bare}
-use Rattle.edit_commands.specs.BlockCommands.FormatBlock.{block_name, leave_blocks, split_blocks, is_next_on_line, same_block, fixed, make_block, format_container, format_line, format_next, format_range, format_block}
-use Rattle.edit_commands.specs.BlockCommands.Justify.{is_plain, drop_plain, clear_alignment, clear_alignments, aligned_div, align_next, justify}
-use Rattle.edit_commands.specs.BlockCommands.Series.{in_turns}
-use Rattle.edit_commands.specs.BlockExtend.Series.{count_series, is_next}
+use Rattle.inline_value.specs.WrapSplit.declared.rule.Criterion.TheVariants.{Never, Named, Aligned}
+use Rattle.inline_value.specs.WrapSplit.declared.rule.Recipe.TheVariants.{Make}
+use Rattle.inline_value.specs.WrapSplit.Split.{remove_keeping_children}
+use Rattle.inline_value.specs.WrapSplit.Wrap.{wrap}
+use Rattle.inline_value.specs.Recording.{record_values, restore_values}
+use Rattle.inline_value.specs.Wrappers.{bare}
+use Rattle.block_commands.specs.FormatBlock.{block_name, leave_blocks, split_blocks, is_next_on_line, same_block, fixed, make_block, format_container, format_line, format_next, format_range, format_block}
+use Rattle.block_commands.specs.Justify.{is_plain, drop_plain, clear_alignment, clear_alignments, aligned_div, align_next, justify}
+use Rattle.block_commands.specs.Series.{in_turns}
+use Rattle.inline_value.specs.BlockExtend.Series.{count_series, is_next}
 use Rattle.command_laws.specs.WrapLaws.{NamesNoThing}
 use Rattle.command_laws.proofs.Criteria.{no_thing, named_bare}
 use Rattle.command_laws.proofs.PushingRuns.{order_preserving_restore_values, steady_record_values, steady_restore_values, fit_record_values, fit_restore_values}

@@ -2,7 +2,7 @@
 use Rattle.std.proofs.Common.{ℕ}
 use Rattle.edit_laws.specs.OrderPreserving.{OrderPreserving}
 use Rattle.edit_laws.proofs.OrderPreserving.{order_preserving, order_preserving_bind}
-use Rattle.edit_commands.specs.WrapSplit.Breaks.{breaks_before, breaks_at_end, breaks_from}
+use Rattle.inline_value.specs.WrapSplit.Breaks.{breaks_before, breaks_at_end, breaks_from}
 
 pub order_preserving_breaks_before : (n : ℕ) → OrderPreserving (breaks_before n)
 unfolding breaks_before

@@ -2,25 +2,25 @@
 use Rattle.std.proofs.Common.{◌≡◌, ◌≢◌, ℕ, ◌+◌, ◌<◌, zero, suc, Bool, true, false, ◌&&◌, not, cond, eqb, if◌then◌else◌, List, [], ◌∷◌, Option, Some, None, IfSome, refl, sym, ap, subst, ◌∙◌, inl, inr, arith, true≢false}
 use Rattle.std.specs.Option.{option_map_or, option_and_then}
 use Rattle.std.proofs.lemmas.Bool.{cases_Bool, ne_eqb, eq-eqb}
-use Rattle.edit_commands.specs.DomModel.declared.Content.{Content}
-use Rattle.edit_commands.specs.DomModel.Forest.{Forest, Seen, count_of, IsDistinct, IsWithin, parent_of, prev_of, last_of, children_of, content_of, tree_of, is_label, last_or, times, preorder, preorder_onto, unlink}
-use Rattle.edit_commands.specs.DomModel.Forest.Forest.{Nil, Tree}
-use Rattle.edit_commands.proofs.DomModel.Lists.{is_label_last}
-use Rattle.edit_commands.proofs.DomModel.Links.{seen, parent_count, prev_here, children_of-unlink, parent_of-unlink}
-use Rattle.edit_commands.proofs.DomModel.Kept.{content_of-unlink}
-use Rattle.edit_commands.proofs.DomModel.Neighbours.{parent_of-last}
-use Rattle.edit_commands.proofs.DomModel.Within.{within_self, within_child}
-use Rattle.edit_commands.specs.NodeTests.SolidNeighbours.{is_extraneous_break}
-use Rattle.edit_commands.specs.EditModel.State.{State}
-use Rattle.edit_commands.specs.EditModel.Confined.{is_editable_for, may_remove}
-use Rattle.edit_commands.specs.EditModel.Edit.{Remove, is_made_edit, trees_after, edited}
-use Rattle.edit_commands.specs.EditModel.Valid.{IsValid}
-use Rattle.edit_commands.specs.EditModel.Run.{final, ◌>>◌, done, given, remove}
-use Rattle.edit_commands.proofs.EditModel.IslandRuns.{trees_made, trees_left}
-use Rattle.edit_commands.proofs.EditModel.Steps.{final-bind, final-answer, final-look, final-edit}
-use Rattle.edit_commands.proofs.EditModel.Tests.{removes}
-use Rattle.edit_commands.specs.WrapSplit.Walks.{turn_bound, walk, followed, last_within, preceding, is_invisible}
-use Rattle.edit_commands.specs.WrapSplit.Breaks.{last_below, back_step, back, last_break_before, breaks_before}
+use Rattle.edit_model.specs.DomModel.declared.Content.{Content}
+use Rattle.edit_model.specs.DomModel.Forest.{Forest, Seen, count_of, IsDistinct, IsWithin, parent_of, prev_of, last_of, children_of, content_of, tree_of, is_label, last_or, times, preorder, preorder_onto, unlink}
+use Rattle.edit_model.specs.DomModel.Forest.Forest.{Nil, Tree}
+use Rattle.edit_model.proofs.DomModel.Lists.{is_label_last}
+use Rattle.edit_model.proofs.DomModel.Links.{seen, parent_count, prev_here, children_of-unlink, parent_of-unlink}
+use Rattle.edit_model.proofs.DomModel.Kept.{content_of-unlink}
+use Rattle.edit_model.proofs.DomModel.Neighbours.{parent_of-last}
+use Rattle.edit_model.proofs.DomModel.Within.{within_self, within_child}
+use Rattle.inline_value.specs.NodeTests.SolidNeighbours.{is_extraneous_break}
+use Rattle.edit_model.specs.State.{State}
+use Rattle.edit_model.specs.Confined.{is_editable_for, may_remove}
+use Rattle.edit_model.specs.Edit.{Remove, is_made_edit, trees_after, edited}
+use Rattle.edit_model.specs.Valid.{IsValid}
+use Rattle.edit_model.specs.Run.{final, ◌>>◌, done, given, remove}
+use Rattle.edit_model.proofs.IslandRuns.{trees_made, trees_left}
+use Rattle.edit_model.proofs.Steps.{final-bind, final-answer, final-look, final-edit}
+use Rattle.edit_model.proofs.Tests.{removes}
+use Rattle.inline_value.specs.WrapSplit.Walks.{turn_bound, walk, followed, last_within, preceding, is_invisible}
+use Rattle.inline_value.specs.WrapSplit.Breaks.{last_below, back_step, back, last_break_before, breaks_before}
 use Rattle.command_laws.proofs.Positions.{position, child_later, beside_earlier}
 
 -- what a step keeps, a walk keeps

@@ -2,47 +2,47 @@
 use Rattle.std.proofs.Common.{◌≡◌, ℕ, Bool, true, false, true≢false, if◌then◌else◌, ◌||◌, not, eqb, cond, List, [], ◌∷◌, Option, Some, None, refl, sym, ap, subst, ◌∙◌}
 use Rattle.std.specs.Prelude.{codes, bytes_eq, unwrap_or}
 use Rattle.std.specs.Option.{option_map, option_map_or, option_and_then, option_or}
-use Rattle.edit_commands.specs.DomModel.declared.attributes.Attribute.{Attribute}
-use Rattle.edit_commands.specs.DomModel.declared.Content.{Content}
-use Rattle.edit_commands.specs.DomModel.declared.Content.TheVariants.{Element}
-use Rattle.edit_commands.specs.DomModel.AttributeList.{value_of, set_in, unset_in, IsDistinctNames}
-use Rattle.edit_commands.specs.DomModel.Contents.{name_in, attributes_in, attributes_of, has_name}
-use Rattle.edit_commands.specs.DomModel.Forest.{Forest, content_of}
-use Rattle.edit_commands.specs.DomModel.Revised.{revised}
-use Rattle.edit_commands.proofs.DomModel.AttributeLemmas.{value-set, value-unset}
-use Rattle.edit_commands.proofs.DomModel.Links.{eqb_refl_true}
-use Rattle.edit_commands.proofs.DomModel.Revising.{content_of-revised}
-use Rattle.edit_commands.specs.CssValue.StyleText.{is_empty}
-use Rattle.edit_commands.specs.CssValue.DeclarationList as declaration
-use Rattle.edit_commands.specs.CssValue.DeclarationList.{declarations_in, set_property, printed}
-use Rattle.edit_commands.specs.CssValue.declared.decoration.DecorationLine.{DecorationLine}
-use Rattle.edit_commands.specs.CssValue.declared.decoration.DecorationLine.TheVariants.{Underline, Overline, LineThrough}
-use Rattle.edit_commands.specs.CssValue.Colours.{colour_of}
-use Rattle.edit_commands.specs.CssValue.SizeKeywords.{size_keyword}
-use Rattle.edit_commands.specs.CssValue.TextDecoration.{line_word, has_line, without_line}
-use Rattle.edit_commands.specs.CssValue.Values.{font_weight_of, font_style_of, font_size_of}
-use Rattle.edit_commands.proofs.CssValue.Names.{same-name}
-use Rattle.edit_commands.proofs.CssValue.Dropping.{has_line-without_line}
-use Rattle.edit_commands.proofs.CssValue.Revised.{nothing-in, value_of-unset, value_of-without_line}
-use Rattle.edit_commands.specs.HtmlNames.declared.commands.Command.{Command}
-use Rattle.edit_commands.specs.NodeStyles.Blocks.{own_or_inline}
-use Rattle.edit_commands.specs.NodeStyles.LegacySizes.{legacy_size_of}
-use Rattle.edit_commands.specs.NodeStyles.OwnStyles.{attribute, is_named, declared, family_of, font_attribute, family_hint}
-use Rattle.edit_commands.specs.CommandValue.Subjects.{subject, property_of, relevant}
-use Rattle.edit_commands.specs.CommandValue.declared.subject.Subject.{Subject}
-use Rattle.edit_commands.specs.CommandValue.declared.subject.Subject.TheVariants.{Link, Background, Script, Line, Weight, Slant, Family, Size, Foreground, Nothing}
-use Rattle.edit_commands.specs.CommandValue.SpecifiedValues.{if_read, is_named_in, is_inline_display, is_line_element, gives_line, hinted_size, given_by, specified_in, specified}
-use Rattle.edit_commands.specs.EditModel.State.{State}
-use Rattle.edit_commands.specs.EditModel.Confined.{is_editable_for, is_own, has_value, may_set, may_unset}
-use Rattle.edit_commands.specs.EditModel.Edit.{Edit, Set, Unset, is_made_edit, trees_after, with_set, with_unset, edited}
-use Rattle.edit_commands.specs.EditModel.Kept.{is_thing}
-use Rattle.edit_commands.specs.EditModel.Valid.{IsValid}
-use Rattle.edit_commands.specs.EditModel.Run.{final, ◌>>=◌, ◌>>◌, done, given, edit, set_attribute, unset_attribute}
-use Rattle.edit_commands.proofs.EditModel.IslandRuns.{trees_made, trees_left}
-use Rattle.edit_commands.proofs.EditModel.Steps.{final-bind, final-answer, final-look, final-edit}
-use Rattle.edit_commands.proofs.EditModel.TailPlan.{attributes_distinct}
-use Rattle.edit_commands.specs.InlineValue.Styling.{style_of, declarations_of, decoration_of, write_text, set_style, unset_style}
-use Rattle.edit_commands.specs.InlineValue.Clearing.{property_name, write_words, drop_line, drop_word, drop_property, hint_of, drop_attribute, drop_hint, drop_link}
+use Rattle.edit_model.specs.DomModel.declared.attributes.Attribute.{Attribute}
+use Rattle.edit_model.specs.DomModel.declared.Content.{Content}
+use Rattle.edit_model.specs.DomModel.declared.Content.TheVariants.{Element}
+use Rattle.edit_model.specs.DomModel.AttributeList.{value_of, set_in, unset_in, IsDistinctNames}
+use Rattle.edit_model.specs.DomModel.Contents.{name_in, attributes_in, attributes_of, has_name}
+use Rattle.edit_model.specs.DomModel.Forest.{Forest, content_of}
+use Rattle.edit_model.specs.DomModel.Revised.{revised}
+use Rattle.edit_model.proofs.DomModel.AttributeLemmas.{value-set, value-unset}
+use Rattle.edit_model.proofs.DomModel.Links.{eqb_refl_true}
+use Rattle.edit_model.proofs.DomModel.Revising.{content_of-revised}
+use Rattle.inline_value.specs.CssValue.StyleText.{is_empty}
+use Rattle.inline_value.specs.CssValue.DeclarationList as declaration
+use Rattle.inline_value.specs.CssValue.DeclarationList.{declarations_in, set_property, printed}
+use Rattle.inline_value.specs.CssValue.declared.decoration.DecorationLine.{DecorationLine}
+use Rattle.inline_value.specs.CssValue.declared.decoration.DecorationLine.TheVariants.{Underline, Overline, LineThrough}
+use Rattle.inline_value.specs.CssValue.Colours.{colour_of}
+use Rattle.inline_value.specs.CssValue.SizeKeywords.{size_keyword}
+use Rattle.inline_value.specs.CssValue.TextDecoration.{line_word, has_line, without_line}
+use Rattle.inline_value.specs.CssValue.Values.{font_weight_of, font_style_of, font_size_of}
+use Rattle.inline_value.proofs.CssValue.Names.{same-name}
+use Rattle.inline_value.proofs.CssValue.Dropping.{has_line-without_line}
+use Rattle.inline_value.proofs.CssValue.Revised.{nothing-in, value_of-unset, value_of-without_line}
+use Rattle.edit_model.specs.HtmlNames.declared.commands.Command.{Command}
+use Rattle.inline_value.specs.NodeStyles.Blocks.{own_or_inline}
+use Rattle.inline_value.specs.NodeStyles.LegacySizes.{legacy_size_of}
+use Rattle.inline_value.specs.NodeStyles.OwnStyles.{attribute, is_named, declared, family_of, font_attribute, family_hint}
+use Rattle.inline_value.specs.CommandValue.Subjects.{subject, property_of, relevant}
+use Rattle.inline_value.specs.CommandValue.declared.subject.Subject.{Subject}
+use Rattle.inline_value.specs.CommandValue.declared.subject.Subject.TheVariants.{Link, Background, Script, Line, Weight, Slant, Family, Size, Foreground, Nothing}
+use Rattle.inline_value.specs.CommandValue.SpecifiedValues.{if_read, is_named_in, is_inline_display, is_line_element, gives_line, hinted_size, given_by, specified_in, specified}
+use Rattle.edit_model.specs.State.{State}
+use Rattle.edit_model.specs.Confined.{is_editable_for, is_own, has_value, may_set, may_unset}
+use Rattle.edit_model.specs.Edit.{Edit, Set, Unset, is_made_edit, trees_after, with_set, with_unset, edited}
+use Rattle.edit_model.specs.Kept.{is_thing}
+use Rattle.edit_model.specs.Valid.{IsValid}
+use Rattle.edit_model.specs.Run.{final, ◌>>=◌, ◌>>◌, done, given, edit, set_attribute, unset_attribute}
+use Rattle.edit_model.proofs.IslandRuns.{trees_made, trees_left}
+use Rattle.edit_model.proofs.Steps.{final-bind, final-answer, final-look, final-edit}
+use Rattle.edit_model.proofs.TailPlan.{attributes_distinct}
+use Rattle.inline_value.specs.Styling.{style_of, declarations_of, decoration_of, write_text, set_style, unset_style}
+use Rattle.inline_value.specs.Clearing.{property_name, write_words, drop_line, drop_word, drop_property, hint_of, drop_attribute, drop_hint, drop_link}
 
 -- ---- the values that an image or a rule gives
 

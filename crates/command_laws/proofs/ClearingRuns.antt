@@ -2,26 +2,26 @@
 use Rattle.std.proofs.Common.{◌≡◌, ℕ, Bool, true, false, if◌then◌else◌, ◌||◌, not, List, [], ◌∷◌, Option, Some, None, refl, sym, ap, ◌∙◌, true≢false}
 use Rattle.std.specs.Prelude.{codes, bytes_eq, is_none}
 use Rattle.std.specs.Option.{option_and_then}
-use Rattle.edit_commands.specs.DomModel.declared.attributes.Attribute.{Attribute}
-use Rattle.edit_commands.specs.DomModel.declared.Content.{Content}
-use Rattle.edit_commands.specs.DomModel.declared.Content.TheVariants.{Document, Element, Words, Remark}
-use Rattle.edit_commands.specs.DomModel.Contents.{name_in, name_of}
-use Rattle.edit_commands.specs.DomModel.Forest.{children_of, content_of}
-use Rattle.edit_commands.specs.CssValue.declared.decoration.DecorationLine.{DecorationLine}
-use Rattle.edit_commands.specs.HtmlNames.declared.commands.Command.{Command}
-use Rattle.edit_commands.specs.CommandValue.Subjects.{subject}
-use Rattle.edit_commands.specs.CommandValue.declared.subject.Subject.{Subject}
-use Rattle.edit_commands.specs.CommandValue.declared.subject.Subject.TheVariants.{Link, Background, Script, Line, Weight, Slant, Family, Size, Foreground, Nothing}
-use Rattle.edit_commands.specs.CommandValue.Modifiable.{is_simple_modifiable}
-use Rattle.edit_commands.specs.CommandValue.SpecifiedValues.{specified_in, specified}
-use Rattle.edit_commands.specs.EditModel.State.{State}
-use Rattle.edit_commands.specs.EditModel.Confined.{is_editable_for}
-use Rattle.edit_commands.specs.EditModel.Compositions.{set_tag_name}
-use Rattle.edit_commands.specs.EditModel.Edit.{Unset}
-use Rattle.edit_commands.specs.EditModel.Kept.{borne_by, is_thing}
-use Rattle.edit_commands.specs.EditModel.Moves.{unwrap}
-use Rattle.edit_commands.specs.EditModel.Run.{Run, final, ◌>>=◌, ◌>>◌, answer, done, given, unset_attribute}
-use Rattle.edit_commands.proofs.EditModel.Steps.{final-bind, final-look}
+use Rattle.edit_model.specs.DomModel.declared.attributes.Attribute.{Attribute}
+use Rattle.edit_model.specs.DomModel.declared.Content.{Content}
+use Rattle.edit_model.specs.DomModel.declared.Content.TheVariants.{Document, Element, Words, Remark}
+use Rattle.edit_model.specs.DomModel.Contents.{name_in, name_of}
+use Rattle.edit_model.specs.DomModel.Forest.{children_of, content_of}
+use Rattle.inline_value.specs.CssValue.declared.decoration.DecorationLine.{DecorationLine}
+use Rattle.edit_model.specs.HtmlNames.declared.commands.Command.{Command}
+use Rattle.inline_value.specs.CommandValue.Subjects.{subject}
+use Rattle.inline_value.specs.CommandValue.declared.subject.Subject.{Subject}
+use Rattle.inline_value.specs.CommandValue.declared.subject.Subject.TheVariants.{Link, Background, Script, Line, Weight, Slant, Family, Size, Foreground, Nothing}
+use Rattle.inline_value.specs.CommandValue.Modifiable.{is_simple_modifiable}
+use Rattle.inline_value.specs.CommandValue.SpecifiedValues.{specified_in, specified}
+use Rattle.edit_model.specs.State.{State}
+use Rattle.edit_model.specs.Confined.{is_editable_for}
+use Rattle.edit_model.specs.Compositions.{set_tag_name}
+use Rattle.edit_model.specs.Edit.{Unset}
+use Rattle.edit_model.specs.Kept.{borne_by, is_thing}
+use Rattle.edit_model.specs.Moves.{unwrap}
+use Rattle.edit_model.specs.Run.{Run, final, ◌>>=◌, ◌>>◌, answer, done, given, unset_attribute}
+use Rattle.edit_model.proofs.Steps.{final-bind, final-look}
 use Rattle.edit_laws.specs.MoveLaws.{IsBare}
 use Rattle.edit_laws.specs.Order.{KeepsOrder, IsKeeping}
 use Rattle.edit_laws.specs.Steady.{Steady}
@@ -32,7 +32,7 @@ use Rattle.edit_laws.proofs.Renaming.{tag_name_keeps}
 use Rattle.edit_laws.proofs.SteadyRuns.{steady_parts, steady_bind, steady_answer, steady_edit, steady_if, steady_look_at}
 use Rattle.edit_laws.proofs.OrderPreserving.{order_preserving, order_preserving_answer}
 use Rattle.edit_laws.proofs.Unwrapping.{unwrap_keeps, steady_unwrap}
-use Rattle.edit_commands.specs.InlineValue.Clearing.{write_words, drop_line, drop_word, drop_property, hint_of, drop_attribute, drop_hint, drop_link, span_for, stripped, unwrapped, clear_value}
+use Rattle.inline_value.specs.Clearing.{write_words, drop_line, drop_word, drop_property, hint_of, drop_attribute, drop_hint, drop_link, span_for, stripped, unwrapped, clear_value}
 use Rattle.command_laws.proofs.ClearedValues.{dropped, thing_cleared}
 use Rattle.command_laws.proofs.Criteria.{modifiable_bare}
 use Rattle.command_laws.proofs.Fits.{Fit, fit}

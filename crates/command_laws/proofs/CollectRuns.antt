@@ -2,32 +2,32 @@
 use Rattle.std.proofs.Common.{◌≡◌, ℕ, ◌<◌, ◌≤◌, zero, suc, Bool, true, false, ◌||◌, if◌then◌else◌, List, [], ◌∷◌, ◌++◌, take, drop, Option, Some, None, refl, sym, ap, subst, ◌∙◌, arith, add-one, true≢false}
 use Rattle.std.specs.Prelude.{codes}
 use Rattle.std.proofs.lemmas.List.{append-nil}
-use Rattle.edit_commands.specs.DomModel.Contents.{has_name}
-use Rattle.edit_commands.specs.DomModel.Forest.{times, first_in, last_in, parent_of, next_of}
-use Rattle.edit_commands.proofs.DomModel.Links.{parent_count}
-use Rattle.edit_commands.specs.EditModel.State.{State}
-use Rattle.edit_commands.specs.EditModel.Compositions.{set_tag_name}
-use Rattle.edit_commands.specs.EditModel.Valid.{IsValid}
-use Rattle.edit_commands.specs.EditModel.Run.{final, value, ◌>>=◌, answer, while_at_most}
-use Rattle.edit_commands.proofs.EditModel.Steps.{final-answer, final-look, value-answer, value-bind, value-look, final_next}
-use Rattle.edit_commands.proofs.EditModel.Tests.{label_is}
+use Rattle.edit_model.specs.DomModel.Contents.{has_name}
+use Rattle.edit_model.specs.DomModel.Forest.{times, first_in, last_in, parent_of, next_of}
+use Rattle.edit_model.proofs.DomModel.Links.{parent_count}
+use Rattle.edit_model.specs.State.{State}
+use Rattle.edit_model.specs.Compositions.{set_tag_name}
+use Rattle.edit_model.specs.Valid.{IsValid}
+use Rattle.edit_model.specs.Run.{final, value, ◌>>=◌, answer, while_at_most}
+use Rattle.edit_model.proofs.Steps.{final-answer, final-look, value-answer, value-bind, value-look, final_next}
+use Rattle.edit_model.proofs.Tests.{label_is}
 use Rattle.edit_laws.specs.MoveLaws.{IsBare}
 use Rattle.edit_laws.specs.Order.{IsKeeping}
 use Rattle.edit_laws.specs.Steady.{Steady}
 use Rattle.edit_laws.proofs.Around.{self_one}
 use Rattle.edit_laws.proofs.Renaming.{tag_name_keeps}
 use Rattle.edit_laws.proofs.SteadyRuns.{steady_parts}
-use Rattle.edit_commands.specs.EditActions.Siblings.{first_parent}
-use Rattle.edit_commands.specs.BlockExtend.Series.{count_after, is_next}
-use Rattle.edit_commands.specs.WrapSplit.declared.rule.Criterion.{Criterion}
-use Rattle.edit_commands.specs.WrapSplit.declared.rule.Criterion.TheVariants.{Never}
-use Rattle.edit_commands.specs.WrapSplit.declared.rule.Recipe.{Recipe}
-use Rattle.edit_commands.specs.WrapSplit.declared.rule.Recipe.TheVariants.{Make}
-use Rattle.edit_commands.specs.WrapSplit.Walks.{turn_bound}
-use Rattle.edit_commands.specs.WrapSplit.Wrap.{wrap, one_of}
-use Rattle.edit_commands.specs.InlineValue.Wrappers.{bare}
-use Rattle.edit_commands.specs.ListIndent.Sublists.{is_list, is_item}
-use Rattle.edit_commands.specs.ListToggle.Collecting.{Made, Collected, is_container, made_one, goes_on_line, wrap_line, make_item, follows, goes_on, collect_next, collect_items}
+use Rattle.inline_value.specs.EditActions.Siblings.{first_parent}
+use Rattle.inline_value.specs.BlockExtend.Series.{count_after, is_next}
+use Rattle.inline_value.specs.WrapSplit.declared.rule.Criterion.{Criterion}
+use Rattle.inline_value.specs.WrapSplit.declared.rule.Criterion.TheVariants.{Never}
+use Rattle.inline_value.specs.WrapSplit.declared.rule.Recipe.{Recipe}
+use Rattle.inline_value.specs.WrapSplit.declared.rule.Recipe.TheVariants.{Make}
+use Rattle.inline_value.specs.WrapSplit.Walks.{turn_bound}
+use Rattle.inline_value.specs.WrapSplit.Wrap.{wrap, one_of}
+use Rattle.inline_value.specs.Wrappers.{bare}
+use Rattle.list_indent.specs.Sublists.{is_list, is_item}
+use Rattle.list_toggle.specs.Collecting.{Made, Collected, is_container, made_one, goes_on_line, wrap_line, make_item, follows, goes_on, collect_next, collect_items}
 use Rattle.command_laws.proofs.Criteria.{first_part, named_bare}
 use Rattle.command_laws.proofs.ListWalks.{Consecutive, alone, among, consecutive_keeps, series_consecutive}
 use Rattle.command_laws.proofs.Splitting.{last_some}

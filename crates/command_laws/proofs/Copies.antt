@@ -3,32 +3,32 @@ use Rattle.std.proofs.Common.{◌≡◌, ◌≢◌, ℕ, ◌+◌, ◌<◌, Bool,
 use Rattle.std.specs.Option.{option_map, option_map_or, option_and_then}
 use Rattle.std.specs.Prelude.{codes, unwrap_or}
 use Rattle.std.proofs.lemmas.Bool.{cases_Bool, ne_eqb, lt-ltb, le-leb, eq-eqb}
-use Rattle.edit_commands.specs.DomModel.declared.Content.{Content}
-use Rattle.edit_commands.specs.DomModel.declared.Content.TheVariants.{Document, Element, Words, Remark}
-use Rattle.edit_commands.specs.DomModel.Contents.{is_parent_at, may_have_children, name_in}
-use Rattle.edit_commands.specs.DomModel.Forest.{Seen, times, count_of, IsWithin, seek, parent_of, children_of, next_of, content_of, tree_of, link}
-use Rattle.edit_commands.specs.DomModel.Forest.Forest.{Nil, Tree}
-use Rattle.edit_commands.proofs.DomModel.Lists.{times-append}
-use Rattle.edit_commands.proofs.DomModel.Totals.{total-without}
-use Rattle.edit_commands.proofs.DomModel.Stands.{Stands, seek_absent}
-use Rattle.edit_commands.proofs.DomModel.Links.{seen, parent_count, child_of_parent, times-children_of, parent_of-with_leaf, children_of-with_leaf, next_of-link, children_of-link, eqb_refl_true}
-use Rattle.edit_commands.proofs.DomModel.Kept.{content_of-link, content_of-with_leaf_other, content_of-with_leaf_new}
-use Rattle.edit_commands.proofs.DomModel.Revising.{total-revised, parent_of-revised, children_of-revised, content_of-revised}
-use Rattle.edit_commands.specs.EditModel.State.{State}
-use Rattle.edit_commands.specs.EditModel.Kept.{Thing, borne_by, leaves, is_thing}
-use Rattle.edit_commands.specs.EditModel.Confined.{is_made, is_open, may_insert, may_unset}
-use Rattle.edit_commands.specs.EditModel.Edit.{Insert, Unset, is_made_edit, trees_after, with_unset, edited}
-use Rattle.edit_commands.specs.EditModel.Action as action
-use Rattle.edit_commands.specs.EditModel.Action.{made, element_content, acted}
-use Rattle.edit_commands.specs.EditModel.Compositions.{tag_of, attribute_list_of}
-use Rattle.edit_commands.specs.EditModel.Moves.{move_each_last, move_all_before}
-use Rattle.edit_commands.specs.EditModel.Run.{final, ◌>>◌}
-use Rattle.edit_commands.proofs.EditModel.CommandParts.{command_acted}
-use Rattle.edit_commands.proofs.EditModel.Giving.{edited-left}
-use Rattle.edit_commands.proofs.EditModel.IslandRuns.{trees_made, trees_left}
-use Rattle.edit_commands.proofs.EditModel.Steps.{final-bind, final-look, final-edit, final-make_element, value-make_element}
-use Rattle.edit_commands.proofs.EditModel.Tests.{inserts}
-use Rattle.edit_commands.proofs.EditModel.Trees.{tree_of-revised_other}
+use Rattle.edit_model.specs.DomModel.declared.Content.{Content}
+use Rattle.edit_model.specs.DomModel.declared.Content.TheVariants.{Document, Element, Words, Remark}
+use Rattle.edit_model.specs.DomModel.Contents.{is_parent_at, may_have_children, name_in}
+use Rattle.edit_model.specs.DomModel.Forest.{Seen, times, count_of, IsWithin, seek, parent_of, children_of, next_of, content_of, tree_of, link}
+use Rattle.edit_model.specs.DomModel.Forest.Forest.{Nil, Tree}
+use Rattle.edit_model.proofs.DomModel.Lists.{times-append}
+use Rattle.edit_model.proofs.DomModel.Totals.{total-without}
+use Rattle.edit_model.proofs.DomModel.Stands.{Stands, seek_absent}
+use Rattle.edit_model.proofs.DomModel.Links.{seen, parent_count, child_of_parent, times-children_of, parent_of-with_leaf, children_of-with_leaf, next_of-link, children_of-link, eqb_refl_true}
+use Rattle.edit_model.proofs.DomModel.Kept.{content_of-link, content_of-with_leaf_other, content_of-with_leaf_new}
+use Rattle.edit_model.proofs.DomModel.Revising.{total-revised, parent_of-revised, children_of-revised, content_of-revised}
+use Rattle.edit_model.specs.State.{State}
+use Rattle.edit_model.specs.Kept.{Thing, borne_by, leaves, is_thing}
+use Rattle.edit_model.specs.Confined.{is_made, is_open, may_insert, may_unset}
+use Rattle.edit_model.specs.Edit.{Insert, Unset, is_made_edit, trees_after, with_unset, edited}
+use Rattle.edit_model.specs.Action as action
+use Rattle.edit_model.specs.Action.{made, element_content, acted}
+use Rattle.edit_model.specs.Compositions.{tag_of, attribute_list_of}
+use Rattle.edit_model.specs.Moves.{move_each_last, move_all_before}
+use Rattle.edit_model.specs.Run.{final, ◌>>◌}
+use Rattle.edit_model.proofs.CommandParts.{command_acted}
+use Rattle.edit_model.proofs.Giving.{edited-left}
+use Rattle.edit_model.proofs.IslandRuns.{trees_made, trees_left}
+use Rattle.edit_model.proofs.Steps.{final-bind, final-look, final-edit, final-make_element, value-make_element}
+use Rattle.edit_model.proofs.Tests.{inserts}
+use Rattle.edit_model.proofs.Trees.{tree_of-revised_other}
 use Rattle.edit_laws.specs.Order.{KeepsOrder, IsKeeping}
 use Rattle.edit_laws.specs.MoveLaws.{IsBare}
 use Rattle.edit_laws.proofs.Subsequences.{keeps_trans}
@@ -37,11 +37,11 @@ use Rattle.edit_laws.proofs.Renaming.{made_trees, new_absent, new_tree, new_loos
 use Rattle.edit_laws.proofs.NewElements.{new_bare}
 use Rattle.edit_laws.proofs.Adopting.{final_insert_before}
 use Rattle.edit_laws.proofs.Around.{self_one}
-use Rattle.edit_commands.proofs.EditModel.Documents.{document-revised}
+use Rattle.edit_model.proofs.Documents.{document-revised}
 use Rattle.edit_laws.proofs.Slides.{parent_other}
 use Rattle.edit_laws.proofs.Fronts.{part, part_shut}
-use Rattle.edit_commands.specs.EditActions.Siblings.{until}
-use Rattle.edit_commands.specs.WrapSplit.Split.{copied}
+use Rattle.inline_value.specs.EditActions.Siblings.{until}
+use Rattle.inline_value.specs.WrapSplit.Split.{copied}
 
 -- ---- a name that bears nothing
 

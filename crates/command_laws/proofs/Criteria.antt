@@ -3,21 +3,21 @@ use Rattle.std.proofs.Common.{◌≡◌, ℕ, Bool, true, false, ◌&&◌, List,
 use Rattle.std.specs.Option.{option_map_or, option_and_then}
 use Rattle.std.specs.Prelude.{codes, bytes_eq}
 use Rattle.std.proofs.lemmas.Bool.{cases_Bool}
-use Rattle.edit_commands.specs.DomModel.declared.Content.{Content}
-use Rattle.edit_commands.specs.DomModel.declared.Content.TheVariants.{Document, Element, Words, Remark}
-use Rattle.edit_commands.specs.DomModel.declared.attributes.Attribute.{Attribute}
-use Rattle.edit_commands.specs.DomModel.Contents.{name_in, has_name, is_break}
-use Rattle.edit_commands.specs.DomModel.Forest.{content_of}
-use Rattle.edit_commands.proofs.CssValue.Names.{same-name}
-use Rattle.edit_commands.specs.NodeStyles.NameClasses.{is_indentation, is_simple_indentation, is_simple_indentation_content, is_indentation_content}
-use Rattle.edit_commands.specs.NodeStyles.OwnStyles.{is_named}
-use Rattle.edit_commands.specs.CommandValue.Modifiable.{meets_value, is_simple_modifiable, is_simple_modifiable_content, is_simple_with}
-use Rattle.edit_commands.specs.EditModel.State.{State}
-use Rattle.edit_commands.specs.EditModel.Kept.{borne_by, is_thing}
+use Rattle.edit_model.specs.DomModel.declared.Content.{Content}
+use Rattle.edit_model.specs.DomModel.declared.Content.TheVariants.{Document, Element, Words, Remark}
+use Rattle.edit_model.specs.DomModel.declared.attributes.Attribute.{Attribute}
+use Rattle.edit_model.specs.DomModel.Contents.{name_in, has_name, is_break}
+use Rattle.edit_model.specs.DomModel.Forest.{content_of}
+use Rattle.inline_value.proofs.CssValue.Names.{same-name}
+use Rattle.inline_value.specs.NodeStyles.NameClasses.{is_indentation, is_simple_indentation, is_simple_indentation_content, is_indentation_content}
+use Rattle.inline_value.specs.NodeStyles.OwnStyles.{is_named}
+use Rattle.inline_value.specs.CommandValue.Modifiable.{meets_value, is_simple_modifiable, is_simple_modifiable_content, is_simple_with}
+use Rattle.edit_model.specs.State.{State}
+use Rattle.edit_model.specs.Kept.{borne_by, is_thing}
 use Rattle.edit_laws.specs.MoveLaws.{IsBare}
-use Rattle.edit_commands.specs.WrapSplit.declared.rule.Criterion.{Criterion}
-use Rattle.edit_commands.specs.WrapSplit.declared.rule.Criterion.TheVariants.{Never, SameValue, Named, SimpleIndentation, Aligned}
-use Rattle.edit_commands.specs.WrapSplit.Target.{meets, is_aligned}
+use Rattle.inline_value.specs.WrapSplit.declared.rule.Criterion.{Criterion}
+use Rattle.inline_value.specs.WrapSplit.declared.rule.Criterion.TheVariants.{Never, SameValue, Named, SimpleIndentation, Aligned}
+use Rattle.inline_value.specs.WrapSplit.Target.{meets, is_aligned}
 use Rattle.command_laws.specs.WrapLaws.{NamesNoThing}
 
 -- ---- an image or a rule meets none

@@ -1,16 +1,16 @@
 -- The delete command leaves the states of contenteditable.
 use Rattle.std.proofs.Common.{ℕ}
-use Rattle.edit_commands.specs.LiveRange.declared.places.Point.{Point}
+use Rattle.edit_model.specs.LiveRange.declared.places.Point.{Point}
 use Rattle.edit_laws.specs.Steady.{Steady}
 use Rattle.edit_laws.proofs.SteadyRuns.{steady_parts}
-use Rattle.edit_commands.specs.InlineValue.Ancestors.{split_out}
-use Rattle.edit_commands.specs.ListIndent.Outdenting.{outdent_node}
-use Rattle.edit_commands.specs.ListIndent.Sublists.{normalize_sublists}
-use Rattle.edit_commands.specs.TextDeletion.Approach.{drop_child, back_turn, go_back, climb_turn, climb}
-use Rattle.edit_commands.specs.TextInsertion.Entries.{rename_stray}
-use Rattle.edit_commands.specs.TextInsertion.Start.{erase}
-use Rattle.edit_commands.specs.TextDeletion.Entries.{lift_entry, outdent_line, part_entry, part_entries}
-use Rattle.edit_commands.specs.TextDeletion.Delete.{erase_single, erase_line, join, delete_across, delete_from, delete_at_caret, delete}
+use Rattle.inline_value.specs.Ancestors.{split_out}
+use Rattle.list_indent.specs.Outdenting.{outdent_node}
+use Rattle.list_indent.specs.Sublists.{normalize_sublists}
+use Rattle.text_deletion.specs.Approach.{drop_child, back_turn, go_back, climb_turn, climb}
+use Rattle.text_insertion.specs.Entries.{rename_stray}
+use Rattle.text_insertion.specs.Start.{erase}
+use Rattle.text_deletion.specs.Entries.{lift_entry, outdent_line, part_entry, part_entries}
+use Rattle.text_deletion.specs.Delete.{erase_single, erase_line, join, delete_across, delete_from, delete_at_caret, delete}
 use Rattle.command_laws.proofs.AncestorRuns.{steady_fix_ancestors}
 use Rattle.command_laws.proofs.ErasingRuns.{steady_canonicalize_start, steady_delete_selection}
 use Rattle.command_laws.proofs.IndentRuns.{fit_outdent_node}

@@ -1,9 +1,9 @@
 -- Runs that keep the order and leave the states of contenteditable, by their parts: both certificates in one walk.
 use Rattle.std.proofs.Common.{ℕ, Bool, if◌then◌else◌, List, Option}
-use Rattle.edit_commands.specs.EditModel.State.{State}
-use Rattle.edit_commands.specs.EditModel.Edit.{Remove, Set, Unset}
-use Rattle.edit_commands.specs.EditModel.Action.{Action, Change}
-use Rattle.edit_commands.specs.EditModel.Run.{Run, ◌>>=◌, answer, look, given, for_each, while_at_most, remove, set_attribute, unset_attribute, perform}
+use Rattle.edit_model.specs.State.{State}
+use Rattle.edit_model.specs.Edit.{Remove, Set, Unset}
+use Rattle.edit_model.specs.Action.{Action, Change}
+use Rattle.edit_model.specs.Run.{Run, ◌>>=◌, answer, look, given, for_each, while_at_most, remove, set_attribute, unset_attribute, perform}
 use Rattle.edit_laws.specs.Steady.{IsSteady, Steady}
 use Rattle.edit_laws.specs.OrderPreserving.{OrderPreserving, IsQuiet}
 use Rattle.edit_laws.proofs.SteadyRuns.{steady_answer, steady_bind, steady_look_at, steady_if, steady_given, steady_each, steady_while, steady_edit, steady_perform}

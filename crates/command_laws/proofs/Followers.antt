@@ -3,24 +3,24 @@
 use Rattle.std.proofs.Common.{◌≡◌, ℕ, ◌<◌, zero, suc, true, false, List, [], ◌∷◌, Option, Some, None, refl, sym, ap, subst, ◌∙◌, inl, inr, arith}
 use Rattle.std.specs.Option.{option_map, option_and_then}
 use Rattle.std.proofs.lemmas.Bool.{cases_Bool, ne_eqb}
-use Rattle.edit_commands.specs.DomModel.declared.Content.{Content}
-use Rattle.edit_commands.specs.DomModel.declared.Content.TheVariants.{Element}
-use Rattle.edit_commands.specs.DomModel.Forest.{Forest, Seen, tops, first_in, after_in, count_of, parent_of, children_of, next_of, first_of, last_of, tree_of, put_under, join}
-use Rattle.edit_commands.specs.DomModel.Forest.Forest.{Nil, Tree}
-use Rattle.edit_commands.proofs.DomModel.Totals.{put_under_nowhere}
-use Rattle.edit_commands.proofs.DomModel.Neighbours.{parent_of-next}
-use Rattle.edit_commands.proofs.DomModel.Links.{children_of-link, children_of-with_leaf}
-use Rattle.edit_commands.specs.EditModel.State.{State}
-use Rattle.edit_commands.specs.EditModel.Kept.{borne_by, leaves, is_thing}
-use Rattle.edit_commands.specs.EditModel.Confined.{may_insert, may_move}
-use Rattle.edit_commands.specs.EditModel.Edit.{Insert, Move, is_made_edit, trees_after, edited}
-use Rattle.edit_commands.specs.EditModel.Action.{made}
-use Rattle.edit_commands.specs.EditModel.History.{document_of}
-use Rattle.edit_commands.specs.EditModel.Moves.{insert_after, move_first}
-use Rattle.edit_commands.specs.EditModel.Run.{final}
-use Rattle.edit_commands.proofs.EditModel.Documents.{document-link}
-use Rattle.edit_commands.proofs.EditModel.IslandRuns.{trees_made, trees_left}
-use Rattle.edit_commands.proofs.EditModel.Tests.{inserts}
+use Rattle.edit_model.specs.DomModel.declared.Content.{Content}
+use Rattle.edit_model.specs.DomModel.declared.Content.TheVariants.{Element}
+use Rattle.edit_model.specs.DomModel.Forest.{Forest, Seen, tops, first_in, after_in, count_of, parent_of, children_of, next_of, first_of, last_of, tree_of, put_under, join}
+use Rattle.edit_model.specs.DomModel.Forest.Forest.{Nil, Tree}
+use Rattle.edit_model.proofs.DomModel.Totals.{put_under_nowhere}
+use Rattle.edit_model.proofs.DomModel.Neighbours.{parent_of-next}
+use Rattle.edit_model.proofs.DomModel.Links.{children_of-link, children_of-with_leaf}
+use Rattle.edit_model.specs.State.{State}
+use Rattle.edit_model.specs.Kept.{borne_by, leaves, is_thing}
+use Rattle.edit_model.specs.Confined.{may_insert, may_move}
+use Rattle.edit_model.specs.Edit.{Insert, Move, is_made_edit, trees_after, edited}
+use Rattle.edit_model.specs.Action.{made}
+use Rattle.edit_model.specs.History.{document_of}
+use Rattle.edit_model.specs.Moves.{insert_after, move_first}
+use Rattle.edit_model.specs.Run.{final}
+use Rattle.edit_model.proofs.Documents.{document-link}
+use Rattle.edit_model.proofs.IslandRuns.{trees_made, trees_left}
+use Rattle.edit_model.proofs.Tests.{inserts}
 use Rattle.edit_laws.specs.Order.{KeepsOrder, IsKeeping}
 use Rattle.edit_laws.specs.MoveLaws.{IsBare}
 use Rattle.edit_laws.proofs.Subsequences.{keeps_trans}

@@ -4,24 +4,24 @@ use Rattle.std.specs.Prelude.{codes, filter}
 use Rattle.std.specs.List.{AllByRecursion}
 use Rattle.std.specs.Option.{option_map_or}
 use Rattle.std.proofs.lemmas.Bool.{cases_Bool}
-use Rattle.edit_commands.specs.DomModel.declared.Content.{Content}
-use Rattle.edit_commands.specs.DomModel.declared.Content.TheVariants.{Document, Element, Words, Remark}
-use Rattle.edit_commands.specs.DomModel.Contents.{name_in}
-use Rattle.edit_commands.specs.DomModel.Forest.{parent_of, children_of, content_of, unlink}
-use Rattle.edit_commands.proofs.DomModel.Kept.{content_of-link, content_of-unlink}
-use Rattle.edit_commands.specs.HtmlNames.ElementNames.{format_names, is_remove_format_candidate}
-use Rattle.edit_commands.specs.NodeStyles.NameClasses.{is_format_candidate}
-use Rattle.edit_commands.specs.EditModel.State.{State}
-use Rattle.edit_commands.specs.EditModel.Confined.{may_move, may_remove}
-use Rattle.edit_commands.specs.EditModel.Edit.{Move, Remove, is_made_edit, trees_after, edited}
-use Rattle.edit_commands.specs.EditModel.Kept.{borne_by, is_thing}
-use Rattle.edit_commands.specs.EditModel.Valid.{IsValid}
-use Rattle.edit_commands.specs.EditModel.Moves.{move_before, move_all_before, unwrap}
-use Rattle.edit_commands.specs.EditModel.Run.{final, for_each}
-use Rattle.edit_commands.proofs.EditModel.Forests.{forest-unlink, can_go}
-use Rattle.edit_commands.proofs.EditModel.IslandRuns.{trees_made, trees_left}
-use Rattle.edit_commands.proofs.EditModel.Steps.{final-bind, final-answer, final-look, final-edit, for_each-cons, for_each-nil}
-use Rattle.edit_commands.proofs.EditModel.Tests.{goes, removes, parent_there}
+use Rattle.edit_model.specs.DomModel.declared.Content.{Content}
+use Rattle.edit_model.specs.DomModel.declared.Content.TheVariants.{Document, Element, Words, Remark}
+use Rattle.edit_model.specs.DomModel.Contents.{name_in}
+use Rattle.edit_model.specs.DomModel.Forest.{parent_of, children_of, content_of, unlink}
+use Rattle.edit_model.proofs.DomModel.Kept.{content_of-link, content_of-unlink}
+use Rattle.edit_model.specs.HtmlNames.ElementNames.{format_names, is_remove_format_candidate}
+use Rattle.inline_value.specs.NodeStyles.NameClasses.{is_format_candidate}
+use Rattle.edit_model.specs.State.{State}
+use Rattle.edit_model.specs.Confined.{may_move, may_remove}
+use Rattle.edit_model.specs.Edit.{Move, Remove, is_made_edit, trees_after, edited}
+use Rattle.edit_model.specs.Kept.{borne_by, is_thing}
+use Rattle.edit_model.specs.Valid.{IsValid}
+use Rattle.edit_model.specs.Moves.{move_before, move_all_before, unwrap}
+use Rattle.edit_model.specs.Run.{final, for_each}
+use Rattle.edit_model.proofs.Forests.{forest-unlink, can_go}
+use Rattle.edit_model.proofs.IslandRuns.{trees_made, trees_left}
+use Rattle.edit_model.proofs.Steps.{final-bind, final-answer, final-look, final-edit, for_each-cons, for_each-nil}
+use Rattle.edit_model.proofs.Tests.{goes, removes, parent_there}
 use Rattle.edit_laws.specs.MoveLaws.{IsBare}
 use Rattle.edit_laws.specs.Order.{KeepsOrder, IsKeeping}
 use Rattle.edit_laws.specs.Steady.{Steady}
@@ -33,8 +33,8 @@ use Rattle.edit_laws.proofs.SteadyRuns.{steady_parts}
 use Rattle.edit_laws.proofs.Subsequences.{keeps_trans}
 use Rattle.edit_laws.proofs.OrderPreserving.{order_preserving, order_preserving_answer}
 use Rattle.edit_laws.proofs.Unwrapping.{unwrap_keeps, steady_unwrap}
-use Rattle.edit_commands.specs.InlineCommands.RemovingFormat.{is_candidate, candidates_in_range, unwrap_candidates, part_from_format, part_nodes, clear_command, clear_commands, remove_format}
-use Rattle.edit_commands.specs.InlineValue.Selections.{nodes_in_range}
+use Rattle.inline_commands.specs.RemovingFormat.{is_candidate, candidates_in_range, unwrap_candidates, part_from_format, part_nodes, clear_command, clear_commands, remove_format}
+use Rattle.inline_value.specs.Selections.{nodes_in_range}
 use Rattle.command_laws.proofs.Criteria.{no_thing, second_part}
 use Rattle.command_laws.proofs.SelectionRuns.{order_preserving_set_value, order_preserving_split_ends, steady_set_value, steady_split_ends}
 use Rattle.command_laws.proofs.Splitting.{order_preserving_split_around}

@@ -4,22 +4,22 @@ use Rattle.std.proofs.Common.{◌≡◌, ◌≢◌, ℕ, ◌<◌, zero, suc, Boo
 use Rattle.std.specs.Option.{option_map_or}
 use Rattle.std.proofs.lemmas.Bool.{cases_Bool, ne_eqb, lt-ltb, ltb-true}
 use Rattle.std.proofs.lemmas.List.{append-nil}
-use Rattle.edit_commands.specs.DomModel.declared.Content.{Content}
-use Rattle.edit_commands.specs.DomModel.Contents.{is_parent_at, may_have_children}
-use Rattle.edit_commands.specs.DomModel.Forest.{times, put_in, count_of, tree_of, parent_of, children_of, next_of, content_of}
-use Rattle.edit_commands.proofs.DomModel.Lists.{times-append}
-use Rattle.edit_commands.proofs.DomModel.Links.{parent_count, times-children_of, eqb_refl_true}
-use Rattle.edit_commands.proofs.DomModel.Move.{parent_apart}
-use Rattle.edit_commands.specs.PointOrder.PointOrder.{is_within, is_in_document}
-use Rattle.edit_commands.specs.EditModel.State.{State}
-use Rattle.edit_commands.specs.EditModel.Confined.{is_open, may_go, may_move}
-use Rattle.edit_commands.specs.EditModel.Edit.{Move, edited}
-use Rattle.edit_commands.specs.EditModel.Valid.{IsValid}
-use Rattle.edit_commands.specs.EditModel.Moves.{move_last}
-use Rattle.edit_commands.specs.EditModel.Run.{final, edit, for_each}
-use Rattle.edit_commands.proofs.EditModel.CommandParts.{SameCommand, final_command}
-use Rattle.edit_commands.proofs.EditModel.Documents.{within_above, within_below}
-use Rattle.edit_commands.proofs.EditModel.Steps.{final-answer, final-bind, final-edit, for_each-cons, for_each-nil}
+use Rattle.edit_model.specs.DomModel.declared.Content.{Content}
+use Rattle.edit_model.specs.DomModel.Contents.{is_parent_at, may_have_children}
+use Rattle.edit_model.specs.DomModel.Forest.{times, put_in, count_of, tree_of, parent_of, children_of, next_of, content_of}
+use Rattle.edit_model.proofs.DomModel.Lists.{times-append}
+use Rattle.edit_model.proofs.DomModel.Links.{parent_count, times-children_of, eqb_refl_true}
+use Rattle.edit_model.proofs.DomModel.Move.{parent_apart}
+use Rattle.edit_model.specs.PointOrder.PointOrder.{is_within, is_in_document}
+use Rattle.edit_model.specs.State.{State}
+use Rattle.edit_model.specs.Confined.{is_open, may_go, may_move}
+use Rattle.edit_model.specs.Edit.{Move, edited}
+use Rattle.edit_model.specs.Valid.{IsValid}
+use Rattle.edit_model.specs.Moves.{move_last}
+use Rattle.edit_model.specs.Run.{final, edit, for_each}
+use Rattle.edit_model.proofs.CommandParts.{SameCommand, final_command}
+use Rattle.edit_model.proofs.Documents.{within_above, within_below}
+use Rattle.edit_model.proofs.Steps.{final-answer, final-bind, final-edit, for_each-cons, for_each-nil}
 use Rattle.edit_laws.proofs.Around.{self_one}
 use Rattle.edit_laws.proofs.Fronts.{child_by}
 use Rattle.edit_laws.proofs.Handing.{final_move_last}

@@ -5,27 +5,27 @@ use Rattle.std.specs.Prelude.{codes, bytes_eq}
 use Rattle.std.proofs.lemmas.Bool.{cases_Bool, ne_eqb}
 use Rattle.std.proofs.lemmas.Bool.Decides.{eqb_tells}
 use Rattle.std.proofs.lemmas.List.{append-nil}
-use Rattle.edit_commands.specs.DomModel.declared.Content.{Content}
-use Rattle.edit_commands.specs.DomModel.Contents.{name_in, has_name}
-use Rattle.edit_commands.specs.DomModel.Forest.{Forest, Seen, times, put_in, last_in, after_in, parent_of, children_of, next_of, content_of, link, unlink}
-use Rattle.edit_commands.proofs.DomModel.Lists.{times-append}
-use Rattle.edit_commands.proofs.DomModel.Neighbours.{parent_of-next}
-use Rattle.edit_commands.proofs.DomModel.Links.{child_of_parent, parent_count, times-children_of, children_of-link, children_of-unlink, eqb_refl_true}
-use Rattle.edit_commands.proofs.DomModel.Kept.{content_of-link, content_of-unlink}
-use Rattle.edit_commands.specs.EditModel.State.{State}
-use Rattle.edit_commands.specs.EditModel.Confined.{may_remove, may_move}
-use Rattle.edit_commands.specs.EditModel.Edit.{Insert, Remove, Move, is_made_edit, trees_after, edited}
-use Rattle.edit_commands.specs.EditModel.Valid.{IsValid}
-use Rattle.edit_commands.specs.EditModel.Moves.{move_last}
-use Rattle.edit_commands.specs.EditModel.Run.{Run, final, value, ◌>>=◌, answer, look, given, remove, for_each}
-use Rattle.edit_commands.proofs.EditModel.Forests.{forest-unlink, can_go}
-use Rattle.edit_commands.proofs.EditModel.IslandRuns.{trees_made, trees_left}
-use Rattle.edit_commands.proofs.EditModel.Steps.{final-answer, final-bind, final-look, final-edit, for_each-cons, for_each-nil}
-use Rattle.edit_commands.proofs.EditModel.Tests.{goes, removes, parent_there}
+use Rattle.edit_model.specs.DomModel.declared.Content.{Content}
+use Rattle.edit_model.specs.DomModel.Contents.{name_in, has_name}
+use Rattle.edit_model.specs.DomModel.Forest.{Forest, Seen, times, put_in, last_in, after_in, parent_of, children_of, next_of, content_of, link, unlink}
+use Rattle.edit_model.proofs.DomModel.Lists.{times-append}
+use Rattle.edit_model.proofs.DomModel.Neighbours.{parent_of-next}
+use Rattle.edit_model.proofs.DomModel.Links.{child_of_parent, parent_count, times-children_of, children_of-link, children_of-unlink, eqb_refl_true}
+use Rattle.edit_model.proofs.DomModel.Kept.{content_of-link, content_of-unlink}
+use Rattle.edit_model.specs.State.{State}
+use Rattle.edit_model.specs.Confined.{may_remove, may_move}
+use Rattle.edit_model.specs.Edit.{Insert, Remove, Move, is_made_edit, trees_after, edited}
+use Rattle.edit_model.specs.Valid.{IsValid}
+use Rattle.edit_model.specs.Moves.{move_last}
+use Rattle.edit_model.specs.Run.{Run, final, value, ◌>>=◌, answer, look, given, remove, for_each}
+use Rattle.edit_model.proofs.Forests.{forest-unlink, can_go}
+use Rattle.edit_model.proofs.IslandRuns.{trees_made, trees_left}
+use Rattle.edit_model.proofs.Steps.{final-answer, final-bind, final-look, final-edit, for_each-cons, for_each-nil}
+use Rattle.edit_model.proofs.Tests.{goes, removes, parent_there}
 use Rattle.edit_laws.proofs.Around.{self_one}
 use Rattle.edit_laws.proofs.Handing.{final_move_last}
 use Rattle.edit_laws.proofs.Lifting.{move_stays}
-use Rattle.edit_commands.specs.EditActions.Siblings.{members}
+use Rattle.inline_value.specs.EditActions.Siblings.{members}
 use Rattle.command_laws.proofs.Splitting.{parted}
 use Rattle.command_laws.proofs.SteadySplits.{valid_final}
 use Rattle.command_laws.proofs.Together.{dropped, dropped-append, dropped-absent, taken-dropped, parent-unlinked, parent-linked, members-append, members-one, members-other, members-same, members-few, Together, together-same, together_removed, together_put, put_in-end, next_edited}

@@ -2,21 +2,21 @@
 use Rattle.std.proofs.Common.{◌≡◌, ℕ, zero, suc, ◌<◌, Bool, true, false, ◌||◌, cond, List, [], ◌∷◌, map, Option, Some, None, refl, sym, ap, ◌∙◌, arith, true≢false}
 use Rattle.std.specs.List.{list_any}
 use Rattle.std.specs.Option.{option_map_or}
-use Rattle.edit_commands.specs.DomModel.declared.Content.{Content}
-use Rattle.edit_commands.specs.DomModel.Contents.{is_element}
-use Rattle.edit_commands.specs.DomModel.Editing.{is_true_state, is_false_state, editing_host, is_editable}
-use Rattle.edit_commands.specs.DomModel.Forest.{Forest, count_of, IsDistinct, parent_of, depth_of}
-use Rattle.edit_commands.proofs.DomModel.Hosts.{editing_host-root, editing_host-child}
-use Rattle.edit_commands.proofs.DomModel.Links.{parent_count}
-use Rattle.edit_commands.proofs.DomModel.Within.{depth_of-parent}
-use Rattle.edit_commands.specs.NodeStyles.Lineage.{Ancestor, lineage}
-use Rattle.edit_commands.proofs.NodeStyles.Lineages.{lineage-root, lineage-child}
-use Rattle.edit_commands.specs.EditModel.State.{State}
-use Rattle.edit_commands.specs.EditModel.Confined.{is_editable_for}
-use Rattle.edit_commands.specs.EditModel.Valid.{IsValid}
-use Rattle.edit_commands.proofs.EditModel.IslandRuns.{content_at}
-use Rattle.edit_commands.proofs.EditModel.Tests.{label_is}
-use Rattle.edit_commands.specs.InlineValue.Forcing.{above, ancestors}
+use Rattle.edit_model.specs.DomModel.declared.Content.{Content}
+use Rattle.edit_model.specs.DomModel.Contents.{is_element}
+use Rattle.edit_model.specs.DomModel.Editing.{is_true_state, is_false_state, editing_host, is_editable}
+use Rattle.edit_model.specs.DomModel.Forest.{Forest, count_of, IsDistinct, parent_of, depth_of}
+use Rattle.edit_model.proofs.DomModel.Hosts.{editing_host-root, editing_host-child}
+use Rattle.edit_model.proofs.DomModel.Links.{parent_count}
+use Rattle.edit_model.proofs.DomModel.Within.{depth_of-parent}
+use Rattle.inline_value.specs.NodeStyles.Lineage.{Ancestor, lineage}
+use Rattle.inline_value.proofs.NodeStyles.Lineages.{lineage-root, lineage-child}
+use Rattle.edit_model.specs.State.{State}
+use Rattle.edit_model.specs.Confined.{is_editable_for}
+use Rattle.edit_model.specs.Valid.{IsValid}
+use Rattle.edit_model.proofs.IslandRuns.{content_at}
+use Rattle.edit_model.proofs.Tests.{label_is}
+use Rattle.inline_value.specs.Forcing.{above, ancestors}
 
 offered_is : (a b : Bool) (o : Option ℕ) (h : ℕ) → cond a None (cond b o None) ≡ Some h → o ≡ Some h
 offered_is true b o h e = absurd (let t : None ≡ Some h = e in cc)

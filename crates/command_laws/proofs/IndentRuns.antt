@@ -3,35 +3,35 @@ use Rattle.std.proofs.Common.{◌≡◌, ℕ, Bool, true, false, ◌==◌, ◌||
 use Rattle.std.specs.Prelude.{codes}
 use Rattle.std.specs.Option.{option_map_or}
 use Rattle.std.proofs.lemmas.List.{append-nil}
-use Rattle.edit_commands.specs.DomModel.Contents.{has_name, is_element_at}
-use Rattle.edit_commands.specs.DomModel.Forest.{first_in, parent_of, children_of}
-use Rattle.edit_commands.specs.HtmlNames.BoxNames.{box_names}
-use Rattle.edit_commands.specs.NodeStyles.NameClasses.{is_indentation, is_simple_indentation}
-use Rattle.edit_commands.specs.EditModel.State.{State}
-use Rattle.edit_commands.specs.EditModel.Compositions.{tag_of, set_tag_name}
-use Rattle.edit_commands.specs.EditModel.Valid.{IsValid}
-use Rattle.edit_commands.specs.EditModel.Run.{Run, final, value, ◌>>◌, done, look, given, for_each, remove, unset_attribute}
-use Rattle.edit_commands.proofs.EditModel.Steps.{final-answer, final-look}
+use Rattle.edit_model.specs.DomModel.Contents.{has_name, is_element_at}
+use Rattle.edit_model.specs.DomModel.Forest.{first_in, parent_of, children_of}
+use Rattle.edit_model.specs.HtmlNames.BoxNames.{box_names}
+use Rattle.inline_value.specs.NodeStyles.NameClasses.{is_indentation, is_simple_indentation}
+use Rattle.edit_model.specs.State.{State}
+use Rattle.edit_model.specs.Compositions.{tag_of, set_tag_name}
+use Rattle.edit_model.specs.Valid.{IsValid}
+use Rattle.edit_model.specs.Run.{Run, final, value, ◌>>◌, done, look, given, for_each, remove, unset_attribute}
+use Rattle.edit_model.proofs.Steps.{final-answer, final-look}
 use Rattle.edit_laws.specs.MoveLaws.{IsBare}
 use Rattle.edit_laws.specs.Steady.{Steady}
 use Rattle.edit_laws.specs.OrderPreserving.{OrderPreserving}
 use Rattle.edit_laws.proofs.Renaming.{tag_name_keeps}
 use Rattle.edit_laws.proofs.SteadyRuns.{steady_tag_name}
-use Rattle.edit_commands.specs.EditActions.Siblings.{until}
-use Rattle.edit_commands.specs.WrapSplit.declared.rule.Criterion.TheVariants.{Named, SimpleIndentation}
-use Rattle.edit_commands.specs.WrapSplit.declared.rule.Recipe.TheVariants.{Make}
-use Rattle.edit_commands.specs.WrapSplit.Split.{split_parent, remove_keeping_children}
-use Rattle.edit_commands.specs.WrapSplit.Target.{is_without_attributes}
-use Rattle.edit_commands.specs.WrapSplit.Wrap.{wrap, break_next}
-use Rattle.edit_commands.specs.InlineValue.Ancestors.{fix_ancestors}
-use Rattle.edit_commands.specs.InlineValue.Recording.{Recorded, record_values, restore_values}
-use Rattle.edit_commands.specs.InlineValue.Styling.{unset_style}
-use Rattle.edit_commands.specs.BlockExtend.Series.{is_next}
-use Rattle.edit_commands.specs.InlineValue.Wrappers.{bare}
-use Rattle.edit_commands.specs.ListIndent.Sublists.{is_list, is_in_list}
-use Rattle.edit_commands.specs.ListIndent.Indenting.{if_list, nested, fixed, quoted, indent_list}
-use Rattle.edit_commands.specs.ListIndent.Outdenting.{to_div, unboxed, unindented, if_indents, unwrapped, released, outdent_list, rest_after, siblings_after, part_around, part_level, part_levels, outdent_through, outdent_along, outdent_node}
-use Rattle.edit_commands.specs.ListIndent.Commands.{normalize_range, normalize_before, goes_on, indent_nodes, indent, is_lone, goes_on_items, split_items, outdent_series, outdent_nodes, outdent}
+use Rattle.inline_value.specs.EditActions.Siblings.{until}
+use Rattle.inline_value.specs.WrapSplit.declared.rule.Criterion.TheVariants.{Named, SimpleIndentation}
+use Rattle.inline_value.specs.WrapSplit.declared.rule.Recipe.TheVariants.{Make}
+use Rattle.inline_value.specs.WrapSplit.Split.{split_parent, remove_keeping_children}
+use Rattle.inline_value.specs.WrapSplit.Target.{is_without_attributes}
+use Rattle.inline_value.specs.WrapSplit.Wrap.{wrap, break_next}
+use Rattle.inline_value.specs.Ancestors.{fix_ancestors}
+use Rattle.inline_value.specs.Recording.{Recorded, record_values, restore_values}
+use Rattle.inline_value.specs.Styling.{unset_style}
+use Rattle.inline_value.specs.BlockExtend.Series.{is_next}
+use Rattle.inline_value.specs.Wrappers.{bare}
+use Rattle.list_indent.specs.Sublists.{is_list, is_in_list}
+use Rattle.list_indent.specs.Indenting.{if_list, nested, fixed, quoted, indent_list}
+use Rattle.list_indent.specs.Outdenting.{to_div, unboxed, unindented, if_indents, unwrapped, released, outdent_list, rest_after, siblings_after, part_around, part_level, part_levels, outdent_through, outdent_along, outdent_node}
+use Rattle.list_indent.specs.Commands.{normalize_range, normalize_before, goes_on, indent_nodes, indent, is_lone, goes_on_items, split_items, outdent_series, outdent_nodes, outdent}
 use Rattle.command_laws.proofs.Copies.{plain_tag}
 use Rattle.command_laws.proofs.Criteria.{first_part, named_bare, indentation_bare}
 use Rattle.command_laws.proofs.ListWalks.{FitAt, at_once, looking, onwards, then_fit, fit_seen, Consecutive, among, wrap_fits, split_fits, fit_series}

@@ -4,28 +4,28 @@ use Rattle.std.specs.Option.{option_map_or, option_and_then}
 use Rattle.std.specs.Prelude.{codes, bytes_eq}
 use Rattle.std.proofs.lemmas.Bool.{ne_eqb, eqb-true}
 use Rattle.std.proofs.lemmas.List.{append-nil}
-use Rattle.edit_commands.specs.DomModel.declared.Content.{Content}
-use Rattle.edit_commands.specs.DomModel.Contents.{has_name, name_in, name_of}
-use Rattle.edit_commands.specs.DomModel.Forest.{times, parent_of, children_of, content_of}
-use Rattle.edit_commands.proofs.DomModel.Lists.{times-append}
-use Rattle.edit_commands.proofs.DomModel.Links.{parent_count}
-use Rattle.edit_commands.proofs.DomModel.Move.{parent_apart}
-use Rattle.edit_commands.proofs.DomModel.Within.{within_self, within_child}
-use Rattle.edit_commands.proofs.CssValue.Names.{same-name}
-use Rattle.edit_commands.specs.EditModel.State.{State}
-use Rattle.edit_commands.specs.EditModel.Confined.{is_editable_for, is_inside, is_open}
-use Rattle.edit_commands.specs.EditModel.Compositions.{attribute_list_of, renamed, set_tag_name}
-use Rattle.edit_commands.specs.EditModel.Edit.{Insert, edited}
-use Rattle.edit_commands.specs.EditModel.Action.{made, element_content}
-use Rattle.edit_commands.specs.EditModel.Valid.{IsValid}
-use Rattle.edit_commands.specs.EditModel.Moves.{move_last, move_each_last}
-use Rattle.edit_commands.specs.EditModel.Run.{final, value, ◌>>=◌, answer, remove, for_each}
-use Rattle.edit_commands.proofs.EditModel.Steps.{final-bind, final-answer, final-look, final-edit, final-make_element, value-bind, value-answer, value-look, value-make_element}
-use Rattle.edit_commands.proofs.EditModel.Trees.{none_or_some}
+use Rattle.edit_model.specs.DomModel.declared.Content.{Content}
+use Rattle.edit_model.specs.DomModel.Contents.{has_name, name_in, name_of}
+use Rattle.edit_model.specs.DomModel.Forest.{times, parent_of, children_of, content_of}
+use Rattle.edit_model.proofs.DomModel.Lists.{times-append}
+use Rattle.edit_model.proofs.DomModel.Links.{parent_count}
+use Rattle.edit_model.proofs.DomModel.Move.{parent_apart}
+use Rattle.edit_model.proofs.DomModel.Within.{within_self, within_child}
+use Rattle.inline_value.proofs.CssValue.Names.{same-name}
+use Rattle.edit_model.specs.State.{State}
+use Rattle.edit_model.specs.Confined.{is_editable_for, is_inside, is_open}
+use Rattle.edit_model.specs.Compositions.{attribute_list_of, renamed, set_tag_name}
+use Rattle.edit_model.specs.Edit.{Insert, edited}
+use Rattle.edit_model.specs.Action.{made, element_content}
+use Rattle.edit_model.specs.Valid.{IsValid}
+use Rattle.edit_model.specs.Moves.{move_last, move_each_last}
+use Rattle.edit_model.specs.Run.{final, value, ◌>>=◌, answer, remove, for_each}
+use Rattle.edit_model.proofs.Steps.{final-bind, final-answer, final-look, final-edit, final-make_element, value-bind, value-answer, value-look, value-make_element}
+use Rattle.edit_model.proofs.Trees.{none_or_some}
 use Rattle.edit_laws.proofs.Fronts.{child_by}
 use Rattle.edit_laws.proofs.Hosts.{parent_inside}
 use Rattle.edit_laws.proofs.Slides.{parent_other}
-use Rattle.edit_commands.specs.EditActions.Siblings.{members}
+use Rattle.inline_value.specs.EditActions.Siblings.{members}
 use Rattle.command_laws.proofs.Together.{members-append, members-one, Together}
 use Rattle.command_laws.proofs.Widening.{pushed-last}
 use Rattle.command_laws.proofs.Growing.{Piece, Grown, Growing, growing_answer, growing_bind, growing_moves, growing_remove}

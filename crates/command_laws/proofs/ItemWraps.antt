@@ -4,37 +4,37 @@ use Rattle.std.specs.Option.{option_map_or}
 use Rattle.std.specs.Prelude.{codes}
 use Rattle.std.proofs.lemmas.Bool.{cases_Bool}
 use Rattle.std.proofs.lemmas.List.{append-nil}
-use Rattle.edit_commands.specs.DomModel.declared.Content.{Content}
-use Rattle.edit_commands.specs.DomModel.declared.Content.TheVariants.{Element}
-use Rattle.edit_commands.specs.DomModel.Contents.{is_parent_at, may_have_children}
-use Rattle.edit_commands.specs.DomModel.Forest.{times, either, first_in, last_in, parent_of, prev_of, next_of, children_of, content_of}
-use Rattle.edit_commands.proofs.DomModel.Lists.{times-append}
-use Rattle.edit_commands.proofs.DomModel.Links.{times-children_of}
-use Rattle.edit_commands.specs.NodeStyles.Blocks.{is_block}
-use Rattle.edit_commands.specs.PointOrder.PointOrder.{is_earlier}
-use Rattle.edit_commands.specs.EditModel.State.{State}
-use Rattle.edit_commands.specs.EditModel.Confined.{is_editable_for, is_inside, is_made, is_open, may_move}
-use Rattle.edit_commands.specs.EditModel.Edit.{Insert, Move, edited}
-use Rattle.edit_commands.specs.EditModel.Action.{made}
-use Rattle.edit_commands.specs.EditModel.Valid.{IsValid}
-use Rattle.edit_commands.specs.EditModel.Moves.{move_first, move_last, move_all_first, move_each_last}
-use Rattle.edit_commands.specs.EditModel.Run.{Run, final, value, ◌>>◌, answer, done, given, for_each}
-use Rattle.edit_commands.proofs.EditModel.CommandParts.{SameCommand, final_command}
-use Rattle.edit_commands.proofs.EditModel.Steps.{final-bind, final-answer, final-look, final-edit, final-make_element, value-bind, value-answer, value-look, value-make_element, final_next}
+use Rattle.edit_model.specs.DomModel.declared.Content.{Content}
+use Rattle.edit_model.specs.DomModel.declared.Content.TheVariants.{Element}
+use Rattle.edit_model.specs.DomModel.Contents.{is_parent_at, may_have_children}
+use Rattle.edit_model.specs.DomModel.Forest.{times, either, first_in, last_in, parent_of, prev_of, next_of, children_of, content_of}
+use Rattle.edit_model.proofs.DomModel.Lists.{times-append}
+use Rattle.edit_model.proofs.DomModel.Links.{times-children_of}
+use Rattle.inline_value.specs.NodeStyles.Blocks.{is_block}
+use Rattle.edit_model.specs.PointOrder.PointOrder.{is_earlier}
+use Rattle.edit_model.specs.State.{State}
+use Rattle.edit_model.specs.Confined.{is_editable_for, is_inside, is_made, is_open, may_move}
+use Rattle.edit_model.specs.Edit.{Insert, Move, edited}
+use Rattle.edit_model.specs.Action.{made}
+use Rattle.edit_model.specs.Valid.{IsValid}
+use Rattle.edit_model.specs.Moves.{move_first, move_last, move_all_first, move_each_last}
+use Rattle.edit_model.specs.Run.{Run, final, value, ◌>>◌, answer, done, given, for_each}
+use Rattle.edit_model.proofs.CommandParts.{SameCommand, final_command}
+use Rattle.edit_model.proofs.Steps.{final-bind, final-answer, final-look, final-edit, final-make_element, value-bind, value-answer, value-look, value-make_element, final_next}
 use Rattle.edit_laws.proofs.Adopting.{final_insert_before}
 use Rattle.edit_laws.proofs.Around.{self_one}
 use Rattle.edit_laws.proofs.Handing.{final_move_last}
 use Rattle.edit_laws.proofs.Lifting.{move_stays}
 use Rattle.edit_laws.proofs.Fronts.{child_by}
 use Rattle.edit_laws.proofs.Slides.{each_stays}
-use Rattle.edit_commands.specs.EditActions.Siblings.{first_parent, members}
-use Rattle.edit_commands.specs.WrapSplit.declared.rule.Criterion.TheVariants.{Never}
-use Rattle.edit_commands.specs.WrapSplit.declared.rule.Recipe.TheVariants.{Make}
-use Rattle.edit_commands.specs.WrapSplit.Breaks.{breaks_before, breaks_at_end, breaks_from}
-use Rattle.edit_commands.specs.WrapSplit.Target.{meets, if_fits, beside, blank_of, made_of, made_by, target}
-use Rattle.edit_commands.specs.WrapSplit.Walks.{turn_bound}
-use Rattle.edit_commands.specs.WrapSplit.Wrap.{all_hidden, if_hidden, list_on, extended_front, hidden_after, one_of, break_next, with_break, extended, extended_back, widened, first_visible, last_visible, append_break, prepend_break, needs_br, joins_front, separate_with_br, append_all, parted_front, prepend_all, moved_in, grow_at, insert_if_loose, drop_empty, drop_parent, merged, merge_next, filled_from, filled, into_target, wrap_ends, wrap_list, wrap_members, wrap}
-use Rattle.edit_commands.specs.InlineValue.Wrappers.{bare}
+use Rattle.inline_value.specs.EditActions.Siblings.{first_parent, members}
+use Rattle.inline_value.specs.WrapSplit.declared.rule.Criterion.TheVariants.{Never}
+use Rattle.inline_value.specs.WrapSplit.declared.rule.Recipe.TheVariants.{Make}
+use Rattle.inline_value.specs.WrapSplit.Breaks.{breaks_before, breaks_at_end, breaks_from}
+use Rattle.inline_value.specs.WrapSplit.Target.{meets, if_fits, beside, blank_of, made_of, made_by, target}
+use Rattle.inline_value.specs.WrapSplit.Walks.{turn_bound}
+use Rattle.inline_value.specs.WrapSplit.Wrap.{all_hidden, if_hidden, list_on, extended_front, hidden_after, one_of, break_next, with_break, extended, extended_back, widened, first_visible, last_visible, append_break, prepend_break, needs_br, joins_front, separate_with_br, append_all, parted_front, prepend_all, moved_in, grow_at, insert_if_loose, drop_empty, drop_parent, merged, merge_next, filled_from, filled, into_target, wrap_ends, wrap_list, wrap_members, wrap}
+use Rattle.inline_value.specs.Wrappers.{bare}
 use Rattle.command_laws.proofs.Sides.{before_list}
 use Rattle.command_laws.proofs.Splitting.{last_some, all_members}
 use Rattle.command_laws.proofs.SteadySplits.{valid_final}

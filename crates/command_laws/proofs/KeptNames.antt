@@ -3,25 +3,25 @@ use Rattle.std.proofs.Common.{◌≡◌, ◌≢◌, ℕ, ◌<◌, true, false, L
 use Rattle.std.specs.Option.{option_map, option_map_or, option_and_then}
 use Rattle.std.specs.Prelude.{bytes_eq}
 use Rattle.std.proofs.lemmas.Bool.{cases_Bool}
-use Rattle.edit_commands.specs.DomModel.declared.Content.{Content}
-use Rattle.edit_commands.specs.DomModel.Contents.{name_in, name_of, has_name}
-use Rattle.edit_commands.specs.DomModel.Forest.{Forest, Seen, count_of, seek, unlink, with_leaf}
-use Rattle.edit_commands.proofs.DomModel.Kept.{content_of-link, content_of-unlink, content_of-with_leaf_other}
-use Rattle.edit_commands.proofs.DomModel.Links.{found_count}
-use Rattle.edit_commands.specs.EditModel.State.{State}
-use Rattle.edit_commands.specs.EditModel.Edit.{Edit, Insert, Remove, Move, Replace, Set, Unset, is_made_edit, trees_after, changed, with_replaced, with_set, with_unset}
-use Rattle.edit_commands.specs.EditModel.Action as action
-use Rattle.edit_commands.specs.EditModel.Action.{Action, made, words_content, extended, acted, element_content}
-use Rattle.edit_commands.specs.EditModel.Run.{Reaches, here, onward, Run, final}
-use Rattle.edit_commands.specs.EditModel.Valid.{IsValid}
-use Rattle.edit_commands.proofs.EditModel.CommandParts.{command_along}
-use Rattle.edit_commands.proofs.EditModel.Forests.{forest-unlink, can_go, fresh}
-use Rattle.edit_commands.proofs.EditModel.IslandRuns.{trees_made, trees_left}
-use Rattle.edit_commands.proofs.EditModel.ValidRuns.{valid_along}
-use Rattle.edit_commands.proofs.EditModel.OutsideRuns.{trees-extended, trees-selected, trees-grown, trees-sent, trees-scratched}
-use Rattle.edit_commands.proofs.EditModel.TailSteps.{extracted_off}
-use Rattle.edit_commands.proofs.EditModel.Things.{name-replaced, name-set, name-unset, name_of-revised}
-use Rattle.edit_commands.proofs.EditModel.Tests.{inserts, removes, goes, parent_there}
+use Rattle.edit_model.specs.DomModel.declared.Content.{Content}
+use Rattle.edit_model.specs.DomModel.Contents.{name_in, name_of, has_name}
+use Rattle.edit_model.specs.DomModel.Forest.{Forest, Seen, count_of, seek, unlink, with_leaf}
+use Rattle.edit_model.proofs.DomModel.Kept.{content_of-link, content_of-unlink, content_of-with_leaf_other}
+use Rattle.edit_model.proofs.DomModel.Links.{found_count}
+use Rattle.edit_model.specs.State.{State}
+use Rattle.edit_model.specs.Edit.{Edit, Insert, Remove, Move, Replace, Set, Unset, is_made_edit, trees_after, changed, with_replaced, with_set, with_unset}
+use Rattle.edit_model.specs.Action as action
+use Rattle.edit_model.specs.Action.{Action, made, words_content, extended, acted, element_content}
+use Rattle.edit_model.specs.Run.{Reaches, here, onward, Run, final}
+use Rattle.edit_model.specs.Valid.{IsValid}
+use Rattle.edit_model.proofs.CommandParts.{command_along}
+use Rattle.edit_model.proofs.Forests.{forest-unlink, can_go, fresh}
+use Rattle.edit_model.proofs.IslandRuns.{trees_made, trees_left}
+use Rattle.edit_model.proofs.ValidRuns.{valid_along}
+use Rattle.edit_model.proofs.OutsideRuns.{trees-extended, trees-selected, trees-grown, trees-sent, trees-scratched}
+use Rattle.edit_model.proofs.TailSteps.{extracted_off}
+use Rattle.edit_model.proofs.Things.{name-replaced, name-set, name-unset, name_of-revised}
+use Rattle.edit_model.proofs.Tests.{inserts, removes, goes, parent_there}
 use Rattle.edit_laws.specs.Order.{IsKeeping}
 
 named_there : (f : Forest Content) (l : ℕ) (name : List ℕ) → name_of f l ≡ Some name → 0 < count_of f l

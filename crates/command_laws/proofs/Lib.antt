@@ -56,4 +56,3 @@ pub mod NoStates
 pub mod NewWraps
 pub mod TypingRuns
 pub mod ObjectRuns
-pub use Rattle.edit_laws.proofs as EditLaws

@@ -4,8 +4,8 @@ use Rattle.edit_laws.specs.Steady.{Steady}
 use Rattle.edit_laws.specs.OrderPreserving.{OrderPreserving}
 use Rattle.edit_laws.proofs.SteadyRuns.{steady_parts}
 use Rattle.edit_laws.proofs.OrderPreserving.{order_preserving}
-use Rattle.edit_commands.specs.InlineCommands.Linking.{relink, relink_range, link_range, link_to, create_link}
-use Rattle.edit_commands.specs.InlineCommands.Unlink.{clear_links, unlink}
+use Rattle.inline_commands.specs.Linking.{relink, relink_range, link_range, link_to, create_link}
+use Rattle.inline_commands.specs.Unlink.{clear_links, unlink}
 use Rattle.command_laws.proofs.Fits.{Fit, fit, fits, fit_answer}
 use Rattle.command_laws.proofs.SelectionRuns.{fit_clear_one, fit_set_value}
 

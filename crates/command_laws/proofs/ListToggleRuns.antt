@@ -5,25 +5,25 @@ use Rattle.std.specs.List.{AllByRecursion, list_any, list_all}
 use Rattle.std.specs.Option.{option_map_or}
 use Rattle.std.proofs.lemmas.Bool.Decides.{eqb_tells}
 use Rattle.std.proofs.lemmas.List.{append-nil}
-use Rattle.edit_commands.specs.DomModel.declared.Content.{Content}
-use Rattle.edit_commands.specs.DomModel.Contents.{has_name, name_of, is_element_at}
-use Rattle.edit_commands.specs.DomModel.Editing.{editing_host, is_editable}
-use Rattle.edit_commands.specs.DomModel.Forest.{Forest, times, either, first_in, parent_of, children_of}
-use Rattle.edit_commands.proofs.DomModel.Hosts.{editing_host-root}
-use Rattle.edit_commands.proofs.DomModel.Links.{parent_count}
-use Rattle.edit_commands.specs.LiveRange.declared.places.Pair.{Pair}
-use Rattle.edit_commands.specs.LiveRange.declared.places.Point.{Point}
-use Rattle.edit_commands.specs.NodeTests.Ranges.{contained_nodes}
-use Rattle.edit_commands.specs.PointOrder.PointOrder.{is_ancestor}
-use Rattle.edit_commands.specs.EditModel.State.{State}
-use Rattle.edit_commands.specs.EditModel.Action.{Scratch}
-use Rattle.edit_commands.specs.EditModel.Compositions.{set_tag_name}
-use Rattle.edit_commands.specs.EditModel.Confined.{is_editable_for}
-use Rattle.edit_commands.specs.EditModel.Kept.{is_thing}
-use Rattle.edit_commands.specs.EditModel.Valid.{IsValid}
-use Rattle.edit_commands.specs.EditModel.Run.{Run, final, ◌>>=◌, ◌>>◌, answer, done, look, given, while_at_most, for_each, set_scratch}
-use Rattle.edit_commands.proofs.EditModel.Steps.{final-bind, final-answer, final-look, value-bind, value-answer, for_each-cons, for_each-nil, final_next}
-use Rattle.edit_commands.proofs.EditModel.Tests.{label_is}
+use Rattle.edit_model.specs.DomModel.declared.Content.{Content}
+use Rattle.edit_model.specs.DomModel.Contents.{has_name, name_of, is_element_at}
+use Rattle.edit_model.specs.DomModel.Editing.{editing_host, is_editable}
+use Rattle.edit_model.specs.DomModel.Forest.{Forest, times, either, first_in, parent_of, children_of}
+use Rattle.edit_model.proofs.DomModel.Hosts.{editing_host-root}
+use Rattle.edit_model.proofs.DomModel.Links.{parent_count}
+use Rattle.edit_model.specs.LiveRange.declared.places.Pair.{Pair}
+use Rattle.edit_model.specs.LiveRange.declared.places.Point.{Point}
+use Rattle.inline_value.specs.NodeTests.Ranges.{contained_nodes}
+use Rattle.edit_model.specs.PointOrder.PointOrder.{is_ancestor}
+use Rattle.edit_model.specs.State.{State}
+use Rattle.edit_model.specs.Action.{Scratch}
+use Rattle.edit_model.specs.Compositions.{set_tag_name}
+use Rattle.edit_model.specs.Confined.{is_editable_for}
+use Rattle.edit_model.specs.Kept.{is_thing}
+use Rattle.edit_model.specs.Valid.{IsValid}
+use Rattle.edit_model.specs.Run.{Run, final, ◌>>=◌, ◌>>◌, answer, done, look, given, while_at_most, for_each, set_scratch}
+use Rattle.edit_model.proofs.Steps.{final-bind, final-answer, final-look, value-bind, value-answer, for_each-cons, for_each-nil, final_next}
+use Rattle.edit_model.proofs.Tests.{label_is}
 use Rattle.edit_laws.specs.MoveLaws.{IsBare}
 use Rattle.edit_laws.specs.Order.{KeepsOrder, IsKeeping}
 use Rattle.edit_laws.specs.Steady.{Steady}
@@ -35,24 +35,24 @@ use Rattle.edit_laws.proofs.Slides.{parent_other}
 use Rattle.edit_laws.proofs.SteadyRuns.{steady_parts, steady_perform}
 use Rattle.edit_laws.proofs.Subsequences.{keeps_refl, keeps_trans}
 use Rattle.edit_laws.proofs.OrderPreserving.{order_preserving_answer, order_preserving_perform}
-use Rattle.edit_commands.specs.EditActions.Siblings.{first_parent, members}
-use Rattle.edit_commands.specs.BlockExtend.Gather.{gather, gather_on, gathered}
-use Rattle.edit_commands.specs.BlockExtend.Series.{is_next}
-use Rattle.edit_commands.specs.BlockCommands.Series.{has_members, in_turns}
-use Rattle.edit_commands.specs.WrapSplit.declared.rule.Recipe.TheVariants.{Nothing}
-use Rattle.edit_commands.specs.WrapSplit.Split.{split_parent, split_members}
-use Rattle.edit_commands.specs.WrapSplit.Walks.{turn_bound}
-use Rattle.edit_commands.specs.WrapSplit.Wrap.{wrap}
-use Rattle.edit_commands.specs.ListIndent.Commands.{split_items}
-use Rattle.edit_commands.specs.ListIndent.Indenting.{fixed}
-use Rattle.edit_commands.specs.ListIndent.Outdenting.{outdent_node}
-use Rattle.edit_commands.specs.ListIndent.Sublists.{is_list}
-use Rattle.edit_commands.specs.ListToggle.Collecting.{Collected, collect_items}
-use Rattle.edit_commands.specs.ListToggle.Converting.{of_kind, is_beside_fit, move_items, convert_list, convert_each, convert_lists}
-use Rattle.edit_commands.specs.EditQuery.ListStates.{list_name, is_list_of, is_child_of, is_member, members_in}
-use Rattle.edit_commands.specs.ListToggle.Ranges.{RangeEnds, extended_range, keep_range, kept_range, is_other_list, other_lists, range_members, is_line, range_lines}
-use Rattle.edit_commands.specs.ListToggle.declared.toggling.ListKind.{ListKind}
-use Rattle.edit_commands.specs.ListToggle.Toggle.{goes_on_out, release_series, release_all, new_list, place_items, enlist_next, toggle_off, toggle_on, toggle_lists}
+use Rattle.inline_value.specs.EditActions.Siblings.{first_parent, members}
+use Rattle.inline_value.specs.BlockExtend.Gather.{gather, gather_on, gathered}
+use Rattle.inline_value.specs.BlockExtend.Series.{is_next}
+use Rattle.block_commands.specs.Series.{has_members, in_turns}
+use Rattle.inline_value.specs.WrapSplit.declared.rule.Recipe.TheVariants.{Nothing}
+use Rattle.inline_value.specs.WrapSplit.Split.{split_parent, split_members}
+use Rattle.inline_value.specs.WrapSplit.Walks.{turn_bound}
+use Rattle.inline_value.specs.WrapSplit.Wrap.{wrap}
+use Rattle.list_indent.specs.Commands.{split_items}
+use Rattle.list_indent.specs.Indenting.{fixed}
+use Rattle.list_indent.specs.Outdenting.{outdent_node}
+use Rattle.list_indent.specs.Sublists.{is_list}
+use Rattle.list_toggle.specs.Collecting.{Collected, collect_items}
+use Rattle.list_toggle.specs.Converting.{of_kind, is_beside_fit, move_items, convert_list, convert_each, convert_lists}
+use Rattle.inline_value.specs.EditQuery.ListStates.{list_name, is_list_of, is_child_of, is_member, members_in}
+use Rattle.list_toggle.specs.Ranges.{RangeEnds, extended_range, keep_range, kept_range, is_other_list, other_lists, range_members, is_line, range_lines}
+use Rattle.list_toggle.specs.declared.toggling.ListKind.{ListKind}
+use Rattle.list_toggle.specs.Toggle.{goes_on_out, release_series, release_all, new_list, place_items, enlist_next, toggle_off, toggle_on, toggle_lists}
 use Rattle.command_laws.proofs.Criteria.{first_part, second_part, named_bare}
 use Rattle.command_laws.proofs.ListWalks.{FitAt, at_once, looking, Consecutive, fit_series}
 use Rattle.command_laws.proofs.PushingRuns.{steady_record_values, steady_restore_values, order_preserving_restore_values}

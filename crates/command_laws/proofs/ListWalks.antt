@@ -2,24 +2,24 @@
 -- siblings, which are consecutive when their turn comes.
 use Rattle.std.proofs.Common.{◌≡◌, ℕ, ◌+◌, zero, suc, Bool, true, false, if◌then◌else◌, List, [], ◌∷◌, ◌++◌, length, take, Option, Some, None, refl, sym, ap, subst, ◌∙◌, arith, append_assoc, add-one}
 use Rattle.std.specs.Option.{option_map_or, option_and_then}
-use Rattle.edit_commands.specs.DomModel.declared.Content.{Content}
-use Rattle.edit_commands.specs.DomModel.Forest.{Seen, last_in, after_in, parent_of, children_of, next_of}
-use Rattle.edit_commands.proofs.DomModel.Links.{child_of_parent}
-use Rattle.edit_commands.specs.EditModel.State.{State}
-use Rattle.edit_commands.specs.EditModel.Valid.{IsValid}
-use Rattle.edit_commands.specs.EditModel.Run.{Run, final, value, ◌>>=◌, look}
-use Rattle.edit_commands.proofs.EditModel.Steps.{final-bind, final-look}
-use Rattle.edit_commands.proofs.EditModel.Tests.{label_is}
+use Rattle.edit_model.specs.DomModel.declared.Content.{Content}
+use Rattle.edit_model.specs.DomModel.Forest.{Seen, last_in, after_in, parent_of, children_of, next_of}
+use Rattle.edit_model.proofs.DomModel.Links.{child_of_parent}
+use Rattle.edit_model.specs.State.{State}
+use Rattle.edit_model.specs.Valid.{IsValid}
+use Rattle.edit_model.specs.Run.{Run, final, value, ◌>>=◌, look}
+use Rattle.edit_model.proofs.Steps.{final-bind, final-look}
+use Rattle.edit_model.proofs.Tests.{label_is}
 use Rattle.edit_laws.specs.Steady.{SteadyOn}
 use Rattle.edit_laws.specs.Order.{KeepsOrder, IsKeeping}
 use Rattle.edit_laws.proofs.QuietActions.{keeping_final}
 use Rattle.edit_laws.proofs.Subsequences.{keeps_trans}
-use Rattle.edit_commands.specs.WrapSplit.declared.rule.Criterion.{Criterion}
-use Rattle.edit_commands.specs.WrapSplit.declared.rule.Recipe.{Recipe}
-use Rattle.edit_commands.specs.WrapSplit.Split.{split_parent}
-use Rattle.edit_commands.specs.WrapSplit.Wrap.{wrap}
-use Rattle.edit_commands.specs.BlockExtend.Series.{count_after, is_next}
-use Rattle.edit_commands.specs.ListIndent.Series.{take_series, series_at_most, for_series}
+use Rattle.inline_value.specs.WrapSplit.declared.rule.Criterion.{Criterion}
+use Rattle.inline_value.specs.WrapSplit.declared.rule.Recipe.{Recipe}
+use Rattle.inline_value.specs.WrapSplit.Split.{split_parent}
+use Rattle.inline_value.specs.WrapSplit.Wrap.{wrap}
+use Rattle.inline_value.specs.BlockExtend.Series.{count_after, is_next}
+use Rattle.list_indent.specs.Series.{take_series, series_at_most, for_series}
 use Rattle.command_laws.specs.WrapLaws.{NamesNoThing, MakesNoThing, MakesNoState}
 use Rattle.command_laws.proofs.Splitting.{parted, split_keeps, order_preserving_split_one}
 use Rattle.command_laws.proofs.SteadySplits.{at_bind, at_look, valid_final, steady_split}

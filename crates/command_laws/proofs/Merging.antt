@@ -2,13 +2,13 @@
 use Rattle.std.proofs.Common.{◌≡◌, ◌≢◌, ℕ, Bool, true, false, ◌&&◌, if◌then◌else◌, [], Option, Some, None, refl, sym, ap, ◌∙◌}
 use Rattle.std.specs.Option.{option_and_then}
 use Rattle.std.proofs.lemmas.List.{append-nil}
-use Rattle.edit_commands.specs.DomModel.Forest.{first_of, last_of, parent_of, next_of, children_of, after_in}
-use Rattle.edit_commands.proofs.DomModel.Links.{parent_count}
-use Rattle.edit_commands.proofs.DomModel.Neighbours.{parent_of-next}
-use Rattle.edit_commands.specs.EditModel.State.{State}
-use Rattle.edit_commands.specs.EditModel.Confined.{is_editable_for}
-use Rattle.edit_commands.specs.EditModel.Run.{final, done, answer, given, ◌>>◌, remove}
-use Rattle.edit_commands.proofs.EditModel.Steps.{final-bind, final-answer, final-look}
+use Rattle.edit_model.specs.DomModel.Forest.{first_of, last_of, parent_of, next_of, children_of, after_in}
+use Rattle.edit_model.proofs.DomModel.Links.{parent_count}
+use Rattle.edit_model.proofs.DomModel.Neighbours.{parent_of-next}
+use Rattle.edit_model.specs.State.{State}
+use Rattle.edit_model.specs.Confined.{is_editable_for}
+use Rattle.edit_model.specs.Run.{final, done, answer, given, ◌>>◌, remove}
+use Rattle.edit_model.proofs.Steps.{final-bind, final-answer, final-look}
 use Rattle.edit_laws.specs.Order.{KeepsOrder, IsKeeping}
 use Rattle.edit_laws.specs.MoveLaws.{IsBare}
 use Rattle.edit_laws.specs.OrderPreserving.{OrderPreserving}
@@ -17,10 +17,10 @@ use Rattle.edit_laws.proofs.QuietActions.{keeping_final}
 use Rattle.edit_laws.proofs.Slides.{parent_other}
 use Rattle.edit_laws.proofs.Subsequences.{keeps_refl, keeps_trans}
 use Rattle.edit_laws.proofs.OrderPreserving.{order_preserving, order_preserving_answer, order_preserving_bind, order_preserving_remove}
-use Rattle.edit_commands.specs.WrapSplit.declared.rule.Criterion.{Criterion}
-use Rattle.edit_commands.specs.WrapSplit.Breaks.{breaks_from}
-use Rattle.edit_commands.specs.WrapSplit.Target.{if_fits, meets}
-use Rattle.edit_commands.specs.WrapSplit.Wrap.{append_break, needs_br, separate_with_br, drop_empty, drop_parent, move_children, merged, merge_next}
+use Rattle.inline_value.specs.WrapSplit.declared.rule.Criterion.{Criterion}
+use Rattle.inline_value.specs.WrapSplit.Breaks.{breaks_from}
+use Rattle.inline_value.specs.WrapSplit.Target.{if_fits, meets}
+use Rattle.inline_value.specs.WrapSplit.Wrap.{append_break, needs_br, separate_with_br, drop_empty, drop_parent, move_children, merged, merge_next}
 use Rattle.command_laws.specs.WrapLaws.{NamesNoThing}
 use Rattle.command_laws.proofs.Breaks.{order_preserving_breaks_from}
 use Rattle.command_laws.proofs.Criteria.{meets_bare}

@@ -1,13 +1,13 @@
 -- A list goes into the sibling before it, or into the bare sibling after it, or nowhere where the node isn't in the document.
 use Rattle.std.proofs.Common.{◌≡◌, ◌≢◌, ℕ, ◌<◌, Bool, true, false, if◌then◌else◌, List, ◌∷◌, ◌++◌, reverse, Some, sym, ap, ◌∙◌, arith}
-use Rattle.edit_commands.specs.DomModel.Forest.{times, first_in, children_of}
-use Rattle.edit_commands.proofs.DomModel.Lists.{times-append}
-use Rattle.edit_commands.proofs.DomModel.Links.{parent_count}
-use Rattle.edit_commands.specs.PointOrder.PointOrder.{is_earlier}
-use Rattle.edit_commands.specs.EditModel.State.{State}
-use Rattle.edit_commands.specs.EditModel.Run.{final, done, for_each}
-use Rattle.edit_commands.specs.EditModel.Moves.{move_first, move_last, move_all_first, move_each_last}
-use Rattle.edit_commands.proofs.EditModel.Steps.{final-bind, final-look}
+use Rattle.edit_model.specs.DomModel.Forest.{times, first_in, children_of}
+use Rattle.edit_model.proofs.DomModel.Lists.{times-append}
+use Rattle.edit_model.proofs.DomModel.Links.{parent_count}
+use Rattle.edit_model.specs.PointOrder.PointOrder.{is_earlier}
+use Rattle.edit_model.specs.State.{State}
+use Rattle.edit_model.specs.Run.{final, done, for_each}
+use Rattle.edit_model.specs.Moves.{move_first, move_last, move_all_first, move_each_last}
+use Rattle.edit_model.proofs.Steps.{final-bind, final-look}
 use Rattle.edit_laws.specs.Order.{KeepsOrder, IsKeeping}
 use Rattle.edit_laws.specs.MoveLaws.{IsBare}
 use Rattle.edit_laws.proofs.Around.{self_one}
@@ -17,7 +17,7 @@ use Rattle.edit_laws.proofs.MoveLaws.{go_in, go_front}
 use Rattle.edit_laws.proofs.QuietActions.{same_document}
 use Rattle.edit_laws.proofs.Slides.{parent_other}
 use Rattle.edit_laws.proofs.Subsequences.{keeps_trans}
-use Rattle.edit_commands.specs.WrapSplit.Wrap.{append_break, prepend_break, needs_br, joins_front, first_visible, last_visible, separate_with_br, append_all, parted_front, prepend_all, moved_in}
+use Rattle.inline_value.specs.WrapSplit.Wrap.{append_break, prepend_break, needs_br, joins_front, first_visible, last_visible, separate_with_br, append_all, parted_front, prepend_all, moved_in}
 use Rattle.command_laws.proofs.NewBreaks.{Spared, appended, prepended}
 use Rattle.command_laws.proofs.Sides.{before_list, after_list}
 use Rattle.command_laws.proofs.Widening.{first_parted}

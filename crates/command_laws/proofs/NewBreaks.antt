@@ -3,30 +3,30 @@ use Rattle.std.proofs.Common.{◌≡◌, ◌≢◌, ℕ, ◌<◌, Bool, true, fa
 use Rattle.std.specs.Option.{option_and_then}
 use Rattle.std.specs.Prelude.{codes}
 use Rattle.std.proofs.lemmas.Bool.{cases_Bool, ne_eqb}
-use Rattle.edit_commands.specs.DomModel.declared.Content.{Content}
-use Rattle.edit_commands.specs.DomModel.declared.Content.TheVariants.{Element}
-use Rattle.edit_commands.specs.DomModel.Forest.{Seen, count_of, parent_of, children_of, first_of, content_of, tree_of, link}
-use Rattle.edit_commands.proofs.DomModel.Totals.{put_under_nowhere}
-use Rattle.edit_commands.proofs.DomModel.Links.{seen, parent_count, parent_of-with_leaf, children_of-with_leaf, parent_of-link, children_of-link}
-use Rattle.edit_commands.proofs.DomModel.Kept.{content_of-link, content_of-with_leaf_other}
-use Rattle.edit_commands.specs.EditModel.State.{State}
-use Rattle.edit_commands.specs.EditModel.Confined.{may_insert}
-use Rattle.edit_commands.specs.EditModel.Edit.{Insert, is_made_edit, trees_after, edited}
-use Rattle.edit_commands.specs.EditModel.Action.{made}
-use Rattle.edit_commands.specs.EditModel.History.{document_of}
-use Rattle.edit_commands.specs.EditModel.Run.{final, done}
-use Rattle.edit_commands.proofs.EditModel.Documents.{document-link, document-with_leaf}
-use Rattle.edit_commands.proofs.EditModel.IslandRuns.{trees_made, trees_left}
-use Rattle.edit_commands.proofs.EditModel.Steps.{final-bind, final-answer, final-look, final-edit, final-make_element, value-make_element}
-use Rattle.edit_commands.proofs.EditModel.Tests.{inserts}
+use Rattle.edit_model.specs.DomModel.declared.Content.{Content}
+use Rattle.edit_model.specs.DomModel.declared.Content.TheVariants.{Element}
+use Rattle.edit_model.specs.DomModel.Forest.{Seen, count_of, parent_of, children_of, first_of, content_of, tree_of, link}
+use Rattle.edit_model.proofs.DomModel.Totals.{put_under_nowhere}
+use Rattle.edit_model.proofs.DomModel.Links.{seen, parent_count, parent_of-with_leaf, children_of-with_leaf, parent_of-link, children_of-link}
+use Rattle.edit_model.proofs.DomModel.Kept.{content_of-link, content_of-with_leaf_other}
+use Rattle.edit_model.specs.State.{State}
+use Rattle.edit_model.specs.Confined.{may_insert}
+use Rattle.edit_model.specs.Edit.{Insert, is_made_edit, trees_after, edited}
+use Rattle.edit_model.specs.Action.{made}
+use Rattle.edit_model.specs.History.{document_of}
+use Rattle.edit_model.specs.Run.{final, done}
+use Rattle.edit_model.proofs.Documents.{document-link, document-with_leaf}
+use Rattle.edit_model.proofs.IslandRuns.{trees_made, trees_left}
+use Rattle.edit_model.proofs.Steps.{final-bind, final-answer, final-look, final-edit, final-make_element, value-make_element}
+use Rattle.edit_model.proofs.Tests.{inserts}
 use Rattle.edit_laws.specs.Order.{KeepsOrder, IsKeeping}
 use Rattle.edit_laws.proofs.Subsequences.{keeps_refl, keeps_trans}
 use Rattle.edit_laws.proofs.QuietActions.{keeping_edited, bare_insert_keeps}
 use Rattle.edit_laws.proofs.Renaming.{made_trees, new_absent, new_other, keeping_made, keeps_made}
 use Rattle.edit_laws.proofs.NewElements.{new_bare}
 use Rattle.edit_laws.proofs.Loose.{IsLoose}
-use Rattle.edit_commands.specs.EditModel.Moves.{make_break}
-use Rattle.edit_commands.specs.WrapSplit.Wrap.{append_break, prepend_break}
+use Rattle.edit_model.specs.Moves.{make_break}
+use Rattle.inline_value.specs.WrapSplit.Wrap.{append_break, prepend_break}
 
 -- what stays where p alone may get children
 pub record Spared (s t : State) (p : ℕ) : Type 0 where

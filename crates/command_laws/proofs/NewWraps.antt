@@ -1,16 +1,16 @@
 -- What a wrap answers is new, where no sibling is asked for.
 use Rattle.std.proofs.Common.{◌≡◌, ℕ, ◌≤◌, Bool, true, false, ◌&&◌, if◌then◌else◌, List, Option, Some, None, refl, sym, ◌∙◌, arith}
-use Rattle.edit_commands.specs.DomModel.Forest.{prev_of, next_of}
-use Rattle.edit_commands.specs.EditModel.State.{State}
-use Rattle.edit_commands.specs.EditModel.Confined.{is_editable_for}
-use Rattle.edit_commands.specs.EditModel.Run.{Run, final, value, answer, look, given}
-use Rattle.edit_commands.proofs.EditModel.Steps.{value-bind, value-answer, value-look, value-make_element}
-use Rattle.edit_commands.specs.WrapSplit.declared.rule.Blank.{Blank}
-use Rattle.edit_commands.specs.WrapSplit.declared.rule.Criterion.{Criterion}
-use Rattle.edit_commands.specs.WrapSplit.declared.rule.Criterion.TheVariants.{Never}
-use Rattle.edit_commands.specs.WrapSplit.declared.rule.Recipe.TheVariants.{Make}
-use Rattle.edit_commands.specs.WrapSplit.Target.{meets, if_fits, beside, blank_of, made_of, made_by, target}
-use Rattle.edit_commands.specs.WrapSplit.Wrap.{filled_from, filled, into_target, wrap_ends, wrap_list, wrap_members, wrap}
+use Rattle.edit_model.specs.DomModel.Forest.{prev_of, next_of}
+use Rattle.edit_model.specs.State.{State}
+use Rattle.edit_model.specs.Confined.{is_editable_for}
+use Rattle.edit_model.specs.Run.{Run, final, value, answer, look, given}
+use Rattle.edit_model.proofs.Steps.{value-bind, value-answer, value-look, value-make_element}
+use Rattle.inline_value.specs.WrapSplit.declared.rule.Blank.{Blank}
+use Rattle.inline_value.specs.WrapSplit.declared.rule.Criterion.{Criterion}
+use Rattle.inline_value.specs.WrapSplit.declared.rule.Criterion.TheVariants.{Never}
+use Rattle.inline_value.specs.WrapSplit.declared.rule.Recipe.TheVariants.{Make}
+use Rattle.inline_value.specs.WrapSplit.Target.{meets, if_fits, beside, blank_of, made_of, made_by, target}
+use Rattle.inline_value.specs.WrapSplit.Wrap.{filled_from, filled, into_target, wrap_ends, wrap_list, wrap_members, wrap}
 
 -- the node that a run answers, if it does, is not there before
 pub record IsNew (s : State) (m : Run (Option ℕ)) : Type 0 where

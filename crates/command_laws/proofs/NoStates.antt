@@ -5,22 +5,22 @@ use Rattle.std.specs.Prelude.{bytes_eq, codes, unwrap_or}
 use Rattle.std.specs.Option.{option_map, option_and_then}
 use Rattle.std.proofs.lemmas.Bool.{cases_Bool}
 use Rattle.std.proofs.lemmas.Slice.Eq.{bytes_eq-Decides}
-use Rattle.edit_commands.specs.DomModel.declared.Content.{Content}
-use Rattle.edit_commands.specs.DomModel.declared.Content.TheVariants.{Document, Element, Words, Remark}
-use Rattle.edit_commands.specs.DomModel.declared.attributes.Attribute.{Attribute}
-use Rattle.edit_commands.specs.DomModel.AttributeList.{value_of, unset_in}
-use Rattle.edit_commands.specs.DomModel.Contents.{attributes_in}
-use Rattle.edit_commands.specs.DomModel.Editing.{contenteditable}
-use Rattle.edit_commands.specs.DomModel.Forest.{content_of}
-use Rattle.edit_commands.specs.EditModel.State.{State}
-use Rattle.edit_commands.specs.EditModel.Action.{MakeElement}
-use Rattle.edit_commands.specs.EditModel.Compositions.{attribute_list_of}
-use Rattle.edit_commands.specs.EditModel.Confined.{is_editable_for}
-use Rattle.edit_commands.specs.EditModel.Laws.{LeavesStates}
-use Rattle.edit_commands.specs.EditModel.Valid.{IsValid}
-use Rattle.edit_commands.specs.EditModel.Run.{Run, final}
-use Rattle.edit_commands.proofs.EditModel.Each.{copy_stateless}
-use Rattle.edit_commands.proofs.EditModel.States.{stated_value, states_along}
+use Rattle.edit_model.specs.DomModel.declared.Content.{Content}
+use Rattle.edit_model.specs.DomModel.declared.Content.TheVariants.{Document, Element, Words, Remark}
+use Rattle.edit_model.specs.DomModel.declared.attributes.Attribute.{Attribute}
+use Rattle.edit_model.specs.DomModel.AttributeList.{value_of, unset_in}
+use Rattle.edit_model.specs.DomModel.Contents.{attributes_in}
+use Rattle.edit_model.specs.DomModel.Editing.{contenteditable}
+use Rattle.edit_model.specs.DomModel.Forest.{content_of}
+use Rattle.edit_model.specs.State.{State}
+use Rattle.edit_model.specs.Action.{MakeElement}
+use Rattle.edit_model.specs.Compositions.{attribute_list_of}
+use Rattle.edit_model.specs.Confined.{is_editable_for}
+use Rattle.edit_model.specs.Laws.{LeavesStates}
+use Rattle.edit_model.specs.Valid.{IsValid}
+use Rattle.edit_model.specs.Run.{Run, final}
+use Rattle.edit_model.proofs.Each.{copy_stateless}
+use Rattle.edit_model.proofs.States.{stated_value, states_along}
 use Rattle.edit_laws.specs.Steady.{Steady}
 use Rattle.edit_laws.proofs.SteadyRuns.{states_on}
 

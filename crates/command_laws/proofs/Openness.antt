@@ -1,17 +1,17 @@
 -- Where one node comes to stand elsewhere, those that don't stand below it have the host that they had, and are open where they were.
 use Rattle.std.proofs.Common.{◌≡◌, ◌≢◌, ℕ, ◌<◌, zero, suc, cond, Option, Some, None, refl, sym, ap, ◌∙◌, arith}
-use Rattle.edit_commands.specs.DomModel.declared.Content.{Content}
-use Rattle.edit_commands.specs.DomModel.Contents.{is_element}
-use Rattle.edit_commands.specs.DomModel.Editing.{is_true_state, host_by, editing_host}
-use Rattle.edit_commands.specs.DomModel.Forest.{Forest, count_of, IsDistinct, IsWithin, parent_of, depth_of, content_of}
-use Rattle.edit_commands.proofs.DomModel.Hosts.{editing_host-root, editing_host-child}
-use Rattle.edit_commands.proofs.DomModel.Links.{parent_count}
-use Rattle.edit_commands.proofs.DomModel.Within.{depth_of-parent, within_at, within_child}
-use Rattle.edit_commands.specs.EditModel.State.{State}
-use Rattle.edit_commands.specs.EditModel.Confined.{is_editable_for, is_inside, is_made, is_open}
-use Rattle.edit_commands.specs.EditModel.Valid.{IsValid}
-use Rattle.edit_commands.proofs.EditModel.CommandParts.{SameCommand}
-use Rattle.edit_commands.proofs.EditModel.IslandRuns.{content_at}
+use Rattle.edit_model.specs.DomModel.declared.Content.{Content}
+use Rattle.edit_model.specs.DomModel.Contents.{is_element}
+use Rattle.edit_model.specs.DomModel.Editing.{is_true_state, host_by, editing_host}
+use Rattle.edit_model.specs.DomModel.Forest.{Forest, count_of, IsDistinct, IsWithin, parent_of, depth_of, content_of}
+use Rattle.edit_model.proofs.DomModel.Hosts.{editing_host-root, editing_host-child}
+use Rattle.edit_model.proofs.DomModel.Links.{parent_count}
+use Rattle.edit_model.proofs.DomModel.Within.{depth_of-parent, within_at, within_child}
+use Rattle.edit_model.specs.State.{State}
+use Rattle.edit_model.specs.Confined.{is_editable_for, is_inside, is_made, is_open}
+use Rattle.edit_model.specs.Valid.{IsValid}
+use Rattle.edit_model.proofs.CommandParts.{SameCommand}
+use Rattle.edit_model.proofs.IslandRuns.{content_at}
 
 -- ---- hosts, where the parent of one node changes
 

@@ -3,11 +3,11 @@ use Rattle.std.proofs.Common.{◌≡◌, ℕ, ◌+◌, ◌<◌, zero, suc, Bool,
 use Rattle.std.specs.Option.{option_map_or, option_and_then}
 use Rattle.std.proofs.lemmas.Bool.{lt-ltb}
 use Rattle.std.proofs.lemmas.Bool.Decides.{eqb_tells}
-use Rattle.edit_commands.specs.DomModel.declared.Content.{Content}
-use Rattle.edit_commands.specs.DomModel.Forest.{Forest, Seen, times, tops, total, before_from, before_in, count_of, IsDistinct, IsWithin, parent_of, prev_of, children_of, join}
-use Rattle.edit_commands.specs.DomModel.Forest.Forest.{Nil, Tree}
-use Rattle.edit_commands.proofs.DomModel.Stands.{times-tops}
-use Rattle.edit_commands.proofs.DomModel.Links.{child_of_parent, parent_count, eqb_refl_true}
+use Rattle.edit_model.specs.DomModel.declared.Content.{Content}
+use Rattle.edit_model.specs.DomModel.Forest.{Forest, Seen, times, tops, total, before_from, before_in, count_of, IsDistinct, IsWithin, parent_of, prev_of, children_of, join}
+use Rattle.edit_model.specs.DomModel.Forest.Forest.{Nil, Tree}
+use Rattle.edit_model.proofs.DomModel.Stands.{times-tops}
+use Rattle.edit_model.proofs.DomModel.Links.{child_of_parent, parent_count, eqb_refl_true}
 use Rattle.edit_laws.proofs.Around.{off_by, self_one, Around, Here, Below, Past, fill, count_around, count-fill, Spot, spot_here, spot_count, spot_distinct, spot_tree, spot_top, spot_as}
 use Rattle.edit_laws.proofs.Patterns.{count-join, take_one}
 

@@ -1,12 +1,12 @@
 -- Pushing values down, and restoring recorded values, keep the order, and leave the states of contenteditable.
 use Rattle.std.proofs.Common.{ℕ, List, [], ◌∷◌, Option, Some, None}
-use Rattle.edit_commands.specs.DomModel.Forest.{first_in}
-use Rattle.edit_commands.specs.HtmlNames.declared.commands.Command.{Command}
-use Rattle.edit_commands.specs.CommandValue.SpecifiedValues.{specified}
+use Rattle.edit_model.specs.DomModel.Forest.{first_in}
+use Rattle.edit_model.specs.HtmlNames.declared.commands.Command.{Command}
+use Rattle.inline_value.specs.CommandValue.SpecifiedValues.{specified}
 use Rattle.edit_laws.specs.Steady.{Steady}
 use Rattle.edit_laws.specs.OrderPreserving.{OrderPreserving}
-use Rattle.edit_commands.specs.InlineValue.Pushing.{push_to, clear_level, push_level, own_or, push_levels, push_from, push_listed, push_down}
-use Rattle.edit_commands.specs.InlineValue.Recording.{Recorded, restored_to, restore_value, restore_values, record_values}
+use Rattle.inline_value.specs.Pushing.{push_to, clear_level, push_level, own_or, push_levels, push_from, push_listed, push_down}
+use Rattle.inline_value.specs.Recording.{Recorded, restored_to, restore_value, restore_values, record_values}
 use Rattle.command_laws.proofs.ClearingRuns.{fit_clear_value}
 use Rattle.command_laws.proofs.Fits.{Fit, fits, fit_answer, fit_bind, fit_look}
 use Rattle.command_laws.proofs.ForcingRuns.{fit_force}

@@ -2,30 +2,30 @@
 use Rattle.std.proofs.Common.{◌≡◌, ◌≢◌, ℕ, ◌<◌, ◌≤◌, Bool, true, false, not, cond, eqb, List, [], ◌∷◌, ◌++◌, Option, Some, None, is_none, refl, sym, ap, subst, ◌∙◌, arith, nat_lt, nat_le}
 use Rattle.std.specs.Option.{option_map_or, option_and_then}
 use Rattle.std.proofs.lemmas.Bool.{ne_eqb, lt-ltb, le-leb}
-use Rattle.edit_commands.specs.DomModel.declared.Content.{Content}
-use Rattle.edit_commands.specs.DomModel.declared.attributes.Attribute.{Attribute}
-use Rattle.edit_commands.specs.DomModel.Contents.{is_parent_at, may_have_children}
-use Rattle.edit_commands.specs.DomModel.Editing.{editing_host}
-use Rattle.edit_commands.specs.DomModel.Forest.{Seen, times, put_in, count_of, parent_of, children_of, content_of, tree_of, link}
-use Rattle.edit_commands.specs.DomModel.Forest.Forest.{Nil, Tree}
-use Rattle.edit_commands.proofs.DomModel.Totals.{total-without}
-use Rattle.edit_commands.proofs.DomModel.Lists.{times-append}
-use Rattle.edit_commands.proofs.DomModel.Stands.{seek_absent}
-use Rattle.edit_commands.proofs.DomModel.Links.{parent_count, times-children_of, parent_of-with_leaf, children_of-with_leaf, children_of-link, eqb_refl_true}
-use Rattle.edit_commands.proofs.DomModel.Kept.{content_of-link, content_of-with_leaf_other, content_of-with_leaf_new}
-use Rattle.edit_commands.specs.EditModel.State.{State}
-use Rattle.edit_commands.specs.EditModel.Confined.{is_editable_for, is_inside, is_made, is_open, may_insert}
-use Rattle.edit_commands.specs.EditModel.Edit.{Insert, is_made_edit, trees_after, edited}
-use Rattle.edit_commands.specs.EditModel.Action.{made, element_content}
-use Rattle.edit_commands.specs.EditModel.Valid.{IsValid}
-use Rattle.edit_commands.specs.EditModel.Run.{insert, make_element}
-use Rattle.edit_commands.proofs.EditModel.CommandParts.{SameCommand, final_command}
-use Rattle.edit_commands.proofs.EditModel.Documents.{has_children}
-use Rattle.edit_commands.proofs.EditModel.Forests.{fresh}
-use Rattle.edit_commands.proofs.EditModel.Giving.{edited-left}
-use Rattle.edit_commands.proofs.EditModel.IslandRuns.{trees_made}
-use Rattle.edit_commands.proofs.EditModel.Steps.{final-edit, final-make_element, final_next}
-use Rattle.edit_commands.proofs.EditModel.Tests.{inserts}
+use Rattle.edit_model.specs.DomModel.declared.Content.{Content}
+use Rattle.edit_model.specs.DomModel.declared.attributes.Attribute.{Attribute}
+use Rattle.edit_model.specs.DomModel.Contents.{is_parent_at, may_have_children}
+use Rattle.edit_model.specs.DomModel.Editing.{editing_host}
+use Rattle.edit_model.specs.DomModel.Forest.{Seen, times, put_in, count_of, parent_of, children_of, content_of, tree_of, link}
+use Rattle.edit_model.specs.DomModel.Forest.Forest.{Nil, Tree}
+use Rattle.edit_model.proofs.DomModel.Totals.{total-without}
+use Rattle.edit_model.proofs.DomModel.Lists.{times-append}
+use Rattle.edit_model.proofs.DomModel.Stands.{seek_absent}
+use Rattle.edit_model.proofs.DomModel.Links.{parent_count, times-children_of, parent_of-with_leaf, children_of-with_leaf, children_of-link, eqb_refl_true}
+use Rattle.edit_model.proofs.DomModel.Kept.{content_of-link, content_of-with_leaf_other, content_of-with_leaf_new}
+use Rattle.edit_model.specs.State.{State}
+use Rattle.edit_model.specs.Confined.{is_editable_for, is_inside, is_made, is_open, may_insert}
+use Rattle.edit_model.specs.Edit.{Insert, is_made_edit, trees_after, edited}
+use Rattle.edit_model.specs.Action.{made, element_content}
+use Rattle.edit_model.specs.Valid.{IsValid}
+use Rattle.edit_model.specs.Run.{insert, make_element}
+use Rattle.edit_model.proofs.CommandParts.{SameCommand, final_command}
+use Rattle.edit_model.proofs.Documents.{has_children}
+use Rattle.edit_model.proofs.Forests.{fresh}
+use Rattle.edit_model.proofs.Giving.{edited-left}
+use Rattle.edit_model.proofs.IslandRuns.{trees_made}
+use Rattle.edit_model.proofs.Steps.{final-edit, final-make_element, final_next}
+use Rattle.edit_model.proofs.Tests.{inserts}
 use Rattle.edit_laws.proofs.Around.{self_one}
 use Rattle.edit_laws.proofs.Hosts.{host_from-join}
 use Rattle.edit_laws.proofs.Patterns.{tree_of-join}

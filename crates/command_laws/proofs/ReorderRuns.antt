@@ -1,16 +1,16 @@
 -- Reordering modifiable descendants keeps the order, and leaves the states of contenteditable.
 use Rattle.std.proofs.Common.{◌≡◌, ◌≢◌, ◌⊎◌, ℕ, ◌<◌, Bool, true, false, ◌&&◌, ◌||◌, not, eqb, if◌then◌else◌, List, Option, Some, None, is_none, refl, sym, subst, inl, inr}
 use Rattle.std.proofs.lemmas.Bool.{eqb-false}
-use Rattle.edit_commands.specs.DomModel.Forest.{IsWithin, count_of, parent_of, next_of, first_of}
-use Rattle.edit_commands.proofs.DomModel.Links.{parent_count}
-use Rattle.edit_commands.proofs.DomModel.Neighbours.{parent_of-first}
-use Rattle.edit_commands.proofs.DomModel.Within.{within_self, within_child}
-use Rattle.edit_commands.specs.HtmlNames.declared.commands.Command.{Command}
-use Rattle.edit_commands.specs.CommandValue.Modifiable.{is_modifiable, is_simple_modifiable, meets_value}
-use Rattle.edit_commands.specs.EditModel.State.{State}
-use Rattle.edit_commands.specs.EditModel.Valid.{IsValid}
-use Rattle.edit_commands.specs.EditModel.Run.{final, done}
-use Rattle.edit_commands.proofs.EditModel.Steps.{final-look}
+use Rattle.edit_model.specs.DomModel.Forest.{IsWithin, count_of, parent_of, next_of, first_of}
+use Rattle.edit_model.proofs.DomModel.Links.{parent_count}
+use Rattle.edit_model.proofs.DomModel.Neighbours.{parent_of-first}
+use Rattle.edit_model.proofs.DomModel.Within.{within_self, within_child}
+use Rattle.edit_model.specs.HtmlNames.declared.commands.Command.{Command}
+use Rattle.inline_value.specs.CommandValue.Modifiable.{is_modifiable, is_simple_modifiable, meets_value}
+use Rattle.edit_model.specs.State.{State}
+use Rattle.edit_model.specs.Valid.{IsValid}
+use Rattle.edit_model.specs.Run.{final, done}
+use Rattle.edit_model.proofs.Steps.{final-look}
 use Rattle.edit_laws.specs.Order.{KeepsOrder, IsKeeping}
 use Rattle.edit_laws.specs.Steady.{Steady}
 use Rattle.edit_laws.specs.OrderPreserving.{OrderPreserving}
@@ -18,8 +18,8 @@ use Rattle.edit_laws.proofs.Lines.{holder_there}
 use Rattle.edit_laws.proofs.SteadyRuns.{steady_parts}
 use Rattle.edit_laws.proofs.Swapping.{change_places}
 use Rattle.edit_laws.proofs.OrderPreserving.{order_preserving_answer}
-use Rattle.edit_commands.specs.WrapSplit.Walks.{turn_bound}
-use Rattle.edit_commands.specs.InlineValue.Reordering.{gives_value, if_sole, sole_child, reorder_step, reordered, swapped, reorder_with, reorder}
+use Rattle.inline_value.specs.WrapSplit.Walks.{turn_bound}
+use Rattle.inline_value.specs.Reordering.{gives_value, if_sole, sole_child, reorder_step, reordered, swapped, reorder_with, reorder}
 use Rattle.command_laws.proofs.Cleared.{walk_keeps}
 use Rattle.command_laws.proofs.SteadyMoves.{steady_moves}
 use Rattle.command_laws.proofs.Criteria.{first_part, modifiable_bare, modifiable_no_break}

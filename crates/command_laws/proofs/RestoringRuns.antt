@@ -1,14 +1,14 @@
 -- Restoring states and values keeps the order, and leaves the states of contenteditable.
 use Rattle.std.proofs.Common.{ℕ, List}
-use Rattle.edit_commands.specs.HtmlNames.declared.commands.Command.{Command}
-use Rattle.edit_commands.specs.HtmlNames.declared.commands.Command.TheVariants as command
-use Rattle.edit_commands.specs.EditModel.Action.{Override}
-use Rattle.edit_commands.specs.EditModel.declared.settings.Setting.{Setting}
-use Rattle.edit_commands.specs.EditModel.declared.settings.Setting.TheVariants.{On, Off, Text, Absent}
+use Rattle.edit_model.specs.HtmlNames.declared.commands.Command.{Command}
+use Rattle.edit_model.specs.HtmlNames.declared.commands.Command.TheVariants as command
+use Rattle.edit_model.specs.Action.{Override}
+use Rattle.edit_model.specs.declared.settings.Setting.{Setting}
+use Rattle.edit_model.specs.declared.settings.Setting.TheVariants.{On, Off, Text, Absent}
 use Rattle.edit_laws.specs.Steady.{Steady}
 use Rattle.edit_laws.specs.OrderPreserving.{OrderPreserving}
-use Rattle.edit_commands.specs.InlineValue.declared.overrides.Override as overrides
-use Rattle.edit_commands.specs.InlineCommands.RestoringStates.{override_by, set_override, turn_round, toggle_state, restore_on, restore_off, restore_shown, restore_link, restore_size, restore_text, restore_setting, restore_entry, restore_states}
+use Rattle.inline_value.specs.declared.overrides.Override as overrides
+use Rattle.inline_commands.specs.RestoringStates.{override_by, set_override, turn_round, toggle_state, restore_on, restore_off, restore_shown, restore_link, restore_size, restore_text, restore_setting, restore_entry, restore_states}
 use Rattle.command_laws.proofs.Fits.{Fit, fits, fit_answer, fit_perform}
 use Rattle.command_laws.proofs.LinkingRuns.{fit_create_link}
 use Rattle.command_laws.proofs.TogglingRuns.{fit_toggle_style, fit_toggle_script, fit_apply_value}

@@ -1,16 +1,16 @@
 -- The members of a series of the block commands stand side by side, in order.
 use Rattle.std.proofs.Common.{◌≡◌, ℕ, Bool, true, List, [], ◌∷◌, take, Some, refl, add-one}
-use Rattle.edit_commands.specs.DomModel.Forest.{next_of}
-use Rattle.edit_commands.specs.EditModel.State.{State}
-use Rattle.edit_commands.specs.EditModel.Run.{final}
-use Rattle.edit_commands.proofs.EditModel.Tests.{label_is}
+use Rattle.edit_model.specs.DomModel.Forest.{next_of}
+use Rattle.edit_model.specs.State.{State}
+use Rattle.edit_model.specs.Run.{final}
+use Rattle.edit_model.proofs.Tests.{label_is}
 use Rattle.edit_laws.specs.Order.{KeepsOrder, IsKeeping}
-use Rattle.edit_commands.specs.EditActions.Siblings.{first_parent}
-use Rattle.edit_commands.specs.WrapSplit.declared.rule.Criterion.{Criterion}
-use Rattle.edit_commands.specs.WrapSplit.declared.rule.Recipe.{Recipe}
-use Rattle.edit_commands.specs.WrapSplit.Wrap.{wrap}
-use Rattle.edit_commands.specs.BlockExtend.Series.{count_series, is_next}
-use Rattle.edit_commands.specs.BlockCommands.FormatBlock.{is_next_on_line}
+use Rattle.inline_value.specs.EditActions.Siblings.{first_parent}
+use Rattle.inline_value.specs.WrapSplit.declared.rule.Criterion.{Criterion}
+use Rattle.inline_value.specs.WrapSplit.declared.rule.Recipe.{Recipe}
+use Rattle.inline_value.specs.WrapSplit.Wrap.{wrap}
+use Rattle.inline_value.specs.BlockExtend.Series.{count_series, is_next}
+use Rattle.block_commands.specs.FormatBlock.{is_next_on_line}
 use Rattle.command_laws.specs.WrapLaws.{NamesNoThing, MakesNoThing}
 use Rattle.command_laws.proofs.Criteria.{first_part}
 use Rattle.command_laws.proofs.ListWalks.{consecutive_keeps, series_consecutive}

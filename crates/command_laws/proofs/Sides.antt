@@ -1,16 +1,16 @@
 -- Of two children of a node, the one that stands first in the list of its children comes first in tree order.
 use Rattle.std.proofs.Common.{◌≡◌, ◌≢◌, ℕ, ◌+◌, ◌<◌, Bool, true, false, ◌&&◌, ◌||◌, eqb, if◌then◌else◌, List, [], ◌∷◌, ◌++◌, Option, Some, refl, sym, ap, ◌∙◌, arith, nat_lt}
 use Rattle.std.proofs.lemmas.Bool.{ne_eqb, lt-ltb}
-use Rattle.edit_commands.specs.DomModel.declared.Content.{Content}
-use Rattle.edit_commands.specs.DomModel.Forest.{Forest, is_label, times, tops, count_of, IsDistinct, children_of, preorder_onto, join}
-use Rattle.edit_commands.specs.DomModel.Forest.Forest.{Nil, Tree}
-use Rattle.edit_commands.specs.DomModel.Places.{first_among, first_of_two}
-use Rattle.edit_commands.proofs.DomModel.Lists.{times-append}
-use Rattle.edit_commands.proofs.DomModel.Stands.{times-tops}
-use Rattle.edit_commands.proofs.DomModel.Links.{parent_count, times-children_of, eqb_refl_true}
-use Rattle.edit_commands.specs.PointOrder.PointOrder.{is_earlier}
-use Rattle.edit_commands.specs.EditModel.State.{State}
-use Rattle.edit_commands.specs.EditModel.Valid.{IsValid}
+use Rattle.edit_model.specs.DomModel.declared.Content.{Content}
+use Rattle.edit_model.specs.DomModel.Forest.{Forest, is_label, times, tops, count_of, IsDistinct, children_of, preorder_onto, join}
+use Rattle.edit_model.specs.DomModel.Forest.Forest.{Nil, Tree}
+use Rattle.edit_model.specs.DomModel.Places.{first_among, first_of_two}
+use Rattle.edit_model.proofs.DomModel.Lists.{times-append}
+use Rattle.edit_model.proofs.DomModel.Stands.{times-tops}
+use Rattle.edit_model.proofs.DomModel.Links.{parent_count, times-children_of, eqb_refl_true}
+use Rattle.edit_model.specs.PointOrder.PointOrder.{is_earlier}
+use Rattle.edit_model.specs.State.{State}
+use Rattle.edit_model.specs.Valid.{IsValid}
 use Rattle.edit_laws.proofs.Around.{Around, Here, Below, Past, fill, count_around, count-fill, Spot, spot_here, spot_count, spot_top, self_one, off_by}
 use Rattle.edit_laws.proofs.Fronts.{child_by}
 use Rattle.edit_laws.proofs.Patterns.{count-join}

@@ -5,24 +5,24 @@ use Rattle.std.specs.Option.{option_and_then}
 use Rattle.std.proofs.lemmas.Bool.{ne_eqb}
 use Rattle.std.proofs.lemmas.Bool.Decides.{eqb_tells}
 use Rattle.std.proofs.lemmas.List.{append-nil, reverse-append, reverse-reverse}
-use Rattle.edit_commands.specs.DomModel.Forest.{is_label, times, put_in, first_in, after_in, parent_of, children_of, next_of}
-use Rattle.edit_commands.proofs.DomModel.Lists.{times-append, after_in-middle}
-use Rattle.edit_commands.proofs.DomModel.Links.{times-children_of, eqb_refl_true}
-use Rattle.edit_commands.specs.EditModel.State.{State}
-use Rattle.edit_commands.specs.EditModel.Confined.{may_move}
-use Rattle.edit_commands.specs.EditModel.Edit.{Move, edited}
-use Rattle.edit_commands.specs.EditModel.Valid.{IsValid}
-use Rattle.edit_commands.specs.EditModel.Moves.{move_before, move_after, move_all_before, move_all_after}
-use Rattle.edit_commands.specs.EditModel.Run.{final, edit, for_each}
-use Rattle.edit_commands.proofs.EditModel.Steps.{final-answer, final-bind, final-edit, final_next, for_each-cons, for_each-nil}
-use Rattle.edit_commands.proofs.EditModel.Tests.{label_is}
-use Rattle.edit_commands.proofs.EditModel.Trees.{none_or_some}
+use Rattle.edit_model.specs.DomModel.Forest.{is_label, times, put_in, first_in, after_in, parent_of, children_of, next_of}
+use Rattle.edit_model.proofs.DomModel.Lists.{times-append, after_in-middle}
+use Rattle.edit_model.proofs.DomModel.Links.{times-children_of, eqb_refl_true}
+use Rattle.edit_model.specs.State.{State}
+use Rattle.edit_model.specs.Confined.{may_move}
+use Rattle.edit_model.specs.Edit.{Move, edited}
+use Rattle.edit_model.specs.Valid.{IsValid}
+use Rattle.edit_model.specs.Moves.{move_before, move_after, move_all_before, move_all_after}
+use Rattle.edit_model.specs.Run.{final, edit, for_each}
+use Rattle.edit_model.proofs.Steps.{final-answer, final-bind, final-edit, final_next, for_each-cons, for_each-nil}
+use Rattle.edit_model.proofs.Tests.{label_is}
+use Rattle.edit_model.proofs.Trees.{none_or_some}
 use Rattle.edit_laws.proofs.Around.{self_one}
 use Rattle.edit_laws.proofs.Fronts.{child_by}
 use Rattle.edit_laws.proofs.Lifting.{final_move_before, move_stays}
 use Rattle.edit_laws.proofs.Slides.{parent_other}
 use Rattle.edit_laws.proofs.ReversedBefore.{final_move_after}
-use Rattle.edit_commands.specs.EditActions.Siblings.{members}
+use Rattle.inline_value.specs.EditActions.Siblings.{members}
 use Rattle.command_laws.proofs.SteadySplits.{valid_final}
 use Rattle.command_laws.proofs.Together.{dropped, dropped-append, dropped-absent, members-append, members-one, members-other, members-same, Together, put_in-seam}
 use Rattle.command_laws.proofs.Widening.{Siblings}

@@ -1,13 +1,13 @@
 -- The parts of splitting a parent that move nothing.
 use Rattle.std.proofs.Common.{ℕ, Bool, ◌&&◌, not, [], Some, refl}
 use Rattle.std.specs.Prelude.{codes}
-use Rattle.edit_commands.specs.DomModel.Forest.{parent_of, next_of}
-use Rattle.edit_commands.specs.NodeTests.LineBreaks.{follows_break, precedes_break}
+use Rattle.edit_model.specs.DomModel.Forest.{parent_of, next_of}
+use Rattle.inline_value.specs.NodeTests.LineBreaks.{follows_break, precedes_break}
 use Rattle.edit_laws.specs.OrderPreserving.{OrderPreserving, OrderPreservingWith}
 use Rattle.edit_laws.proofs.OrderPreserving.{order_preserving, order_preserving_answer, order_preserving_look, order_preserving_if}
 use Rattle.edit_laws.proofs.NewElements.{order_preserving_new, with_look, with_given, with_bind, with_insert, with_order_preserving}
-use Rattle.edit_commands.specs.WrapSplit.Split.{break_before, break_after, drop_first_break, close, tidy_after}
-use Rattle.edit_commands.specs.EditModel.Moves.{insert_before, insert_after, make_break}
+use Rattle.inline_value.specs.WrapSplit.Split.{break_before, break_after, drop_first_break, close, tidy_after}
+use Rattle.edit_model.specs.Moves.{insert_before, insert_after, make_break}
 use Rattle.command_laws.proofs.Breaks.{order_preserving_breaks_before, order_preserving_breaks_at_end}
 
 pub with_before : (o x : ℕ) → OrderPreservingWith x (insert_before o x)

@@ -3,23 +3,23 @@ use Rattle.std.proofs.Common.{◌≡◌, ◌≢◌, ◌⊎◌, ℕ, ◌<◌, ◌
 use Rattle.std.specs.Prelude.{codes}
 use Rattle.std.specs.Option.{option_and_then}
 use Rattle.std.proofs.lemmas.Bool.{cases_Bool, ne_eqb}
-use Rattle.edit_commands.specs.DomModel.declared.Content.TheVariants.{Element}
-use Rattle.edit_commands.specs.DomModel.Forest.{is_label, times, put_in, first_in, last_in, after_in, parent_of, prev_of, children_of, next_of}
-use Rattle.edit_commands.proofs.DomModel.Lists.{times-append, after_in-middle}
-use Rattle.edit_commands.proofs.DomModel.Links.{times-children_of, eqb_refl_true}
-use Rattle.edit_commands.specs.NodeTests.SolidNeighbours.{is_extraneous_break}
-use Rattle.edit_commands.specs.NodeTests.LineBreaks.{follows_break, precedes_break}
-use Rattle.edit_commands.specs.EditModel.State.{State}
-use Rattle.edit_commands.specs.EditModel.Compositions.{tag_of, attribute_list_of}
-use Rattle.edit_commands.specs.EditModel.Confined.{is_editable_for, may_insert, may_remove, may_move}
-use Rattle.edit_commands.specs.EditModel.Edit.{Insert, Remove, Unset, Move, is_made_edit, trees_after, edited}
-use Rattle.edit_commands.specs.EditModel.Action.{made, element_content}
-use Rattle.edit_commands.specs.EditModel.Valid.{IsValid}
-use Rattle.edit_commands.specs.EditModel.Moves.{make_break, insert_before, insert_after, move_last, move_all_before, move_all_after, move_each_last}
-use Rattle.edit_commands.specs.EditModel.Run.{Run, final, value, ◌>>=◌, ◌>>◌, answer, done, look, given, edit, remove, make_element, for_each}
-use Rattle.edit_commands.proofs.EditModel.IslandRuns.{trees_made, trees_left}
-use Rattle.edit_commands.proofs.EditModel.Steps.{final-answer, final-bind, final-look, final-edit, final-make_element, value-make_element, for_each-cons, for_each-nil}
-use Rattle.edit_commands.proofs.EditModel.Tests.{label_is, inserts, removes}
+use Rattle.edit_model.specs.DomModel.declared.Content.TheVariants.{Element}
+use Rattle.edit_model.specs.DomModel.Forest.{is_label, times, put_in, first_in, last_in, after_in, parent_of, prev_of, children_of, next_of}
+use Rattle.edit_model.proofs.DomModel.Lists.{times-append, after_in-middle}
+use Rattle.edit_model.proofs.DomModel.Links.{times-children_of, eqb_refl_true}
+use Rattle.inline_value.specs.NodeTests.SolidNeighbours.{is_extraneous_break}
+use Rattle.inline_value.specs.NodeTests.LineBreaks.{follows_break, precedes_break}
+use Rattle.edit_model.specs.State.{State}
+use Rattle.edit_model.specs.Compositions.{tag_of, attribute_list_of}
+use Rattle.edit_model.specs.Confined.{is_editable_for, may_insert, may_remove, may_move}
+use Rattle.edit_model.specs.Edit.{Insert, Remove, Unset, Move, is_made_edit, trees_after, edited}
+use Rattle.edit_model.specs.Action.{made, element_content}
+use Rattle.edit_model.specs.Valid.{IsValid}
+use Rattle.edit_model.specs.Moves.{make_break, insert_before, insert_after, move_last, move_all_before, move_all_after, move_each_last}
+use Rattle.edit_model.specs.Run.{Run, final, value, ◌>>=◌, ◌>>◌, answer, done, look, given, edit, remove, make_element, for_each}
+use Rattle.edit_model.proofs.IslandRuns.{trees_made, trees_left}
+use Rattle.edit_model.proofs.Steps.{final-answer, final-bind, final-look, final-edit, final-make_element, value-make_element, for_each-cons, for_each-nil}
+use Rattle.edit_model.proofs.Tests.{label_is, inserts, removes}
 use Rattle.edit_laws.proofs.Adopting.{final_insert_before, final_insert_after, after_nothing}
 use Rattle.edit_laws.proofs.Around.{self_one}
 use Rattle.edit_laws.proofs.Handing.{final_move_last}
@@ -27,10 +27,10 @@ use Rattle.edit_laws.proofs.Lifting.{move_stays}
 use Rattle.edit_laws.proofs.Nesting.{shaped_unset}
 use Rattle.edit_laws.proofs.Fronts.{child_by}
 use Rattle.edit_laws.proofs.Slides.{parent_other}
-use Rattle.edit_commands.specs.EditActions.Siblings.{first_parent, members, until, starts_in, ends_in}
-use Rattle.edit_commands.specs.WrapSplit.Breaks as breaks
-use Rattle.edit_commands.specs.WrapSplit.Breaks.{breaks_before, breaks_at_end}
-use Rattle.edit_commands.specs.WrapSplit.Split.{break_before, break_after, clear_before, copied, copy_front, drop_first_break, close, tidy_after, split_end, split_rest, split_marked, is_void_thing, split_at, split_members, split_parent}
+use Rattle.inline_value.specs.EditActions.Siblings.{first_parent, members, until, starts_in, ends_in}
+use Rattle.inline_value.specs.WrapSplit.Breaks as breaks
+use Rattle.inline_value.specs.WrapSplit.Breaks.{breaks_before, breaks_at_end}
+use Rattle.inline_value.specs.WrapSplit.Split.{break_before, break_after, clear_before, copied, copy_front, drop_first_break, close, tidy_after, split_end, split_rest, split_marked, is_void_thing, split_at, split_members, split_parent}
 use Rattle.command_laws.proofs.Copies.{until_front}
 use Rattle.command_laws.proofs.Cleared.{cleared}
 use Rattle.command_laws.proofs.Splitting.{last_some}

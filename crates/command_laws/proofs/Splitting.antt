@@ -3,20 +3,20 @@ use Rattle.std.proofs.Common.{◌≡◌, ℕ, ◌+◌, ◌<◌, ◌≤◌, Bool,
 use Rattle.std.specs.Option.{option_map, option_map_or, option_and_then}
 use Rattle.std.proofs.lemmas.Bool.{cases_Bool, eq-eqb, eqb-true}
 use Rattle.std.proofs.lemmas.List.{append-nil}
-use Rattle.edit_commands.specs.DomModel.declared.Content.{Content}
-use Rattle.edit_commands.specs.DomModel.declared.Content.TheVariants.{Document, Element, Words, Remark}
-use Rattle.edit_commands.specs.DomModel.Contents.{may_have_children, name_in}
-use Rattle.edit_commands.specs.DomModel.Forest.{Seen, times, first_in, last_in, last_or, parent_of, children_of, first_of, content_of}
-use Rattle.edit_commands.proofs.DomModel.Lists.{times-append}
-use Rattle.edit_commands.proofs.DomModel.Links.{seen, times-children_of, child_of_parent, parent_count}
-use Rattle.edit_commands.specs.NodeTests.LineBreaks.{follows_break, precedes_break}
-use Rattle.edit_commands.specs.EditModel.State.{State}
-use Rattle.edit_commands.specs.EditModel.Kept.{borne_by, is_thing}
-use Rattle.edit_commands.specs.EditModel.Confined.{is_editable_for}
-use Rattle.edit_commands.specs.EditModel.Valid.{IsValid}
-use Rattle.edit_commands.specs.EditModel.Moves.{move_all_before, move_all_after}
-use Rattle.edit_commands.specs.EditModel.Run.{Run, final, value, ◌>>=◌, ◌>>◌, done, look, remove}
-use Rattle.edit_commands.proofs.EditModel.Steps.{final-bind, final-answer, final-look}
+use Rattle.edit_model.specs.DomModel.declared.Content.{Content}
+use Rattle.edit_model.specs.DomModel.declared.Content.TheVariants.{Document, Element, Words, Remark}
+use Rattle.edit_model.specs.DomModel.Contents.{may_have_children, name_in}
+use Rattle.edit_model.specs.DomModel.Forest.{Seen, times, first_in, last_in, last_or, parent_of, children_of, first_of, content_of}
+use Rattle.edit_model.proofs.DomModel.Lists.{times-append}
+use Rattle.edit_model.proofs.DomModel.Links.{seen, times-children_of, child_of_parent, parent_count}
+use Rattle.inline_value.specs.NodeTests.LineBreaks.{follows_break, precedes_break}
+use Rattle.edit_model.specs.State.{State}
+use Rattle.edit_model.specs.Kept.{borne_by, is_thing}
+use Rattle.edit_model.specs.Confined.{is_editable_for}
+use Rattle.edit_model.specs.Valid.{IsValid}
+use Rattle.edit_model.specs.Moves.{move_all_before, move_all_after}
+use Rattle.edit_model.specs.Run.{Run, final, value, ◌>>=◌, ◌>>◌, done, look, remove}
+use Rattle.edit_model.proofs.Steps.{final-bind, final-answer, final-look}
 use Rattle.edit_laws.specs.Order.{KeepsOrder, IsKeeping}
 use Rattle.edit_laws.specs.MoveLaws.{IsBare}
 use Rattle.edit_laws.specs.OrderPreserving.{OrderPreserving}
@@ -26,9 +26,9 @@ use Rattle.edit_laws.proofs.OrderPreserving.{order_preserving, order_preserving_
 use Rattle.edit_laws.proofs.Around.{self_one}
 use Rattle.edit_laws.proofs.Fronts.{child_by}
 use Rattle.edit_laws.proofs.MoveLaws.{go_before, go_after}
-use Rattle.edit_commands.specs.EditActions.Siblings.{first_parent, members, is_among, has, starts_in, ends_in}
-use Rattle.edit_commands.specs.WrapSplit.Breaks.{breaks_before, breaks_at_end}
-use Rattle.edit_commands.specs.WrapSplit.Split.{break_before, break_after, clear_before, copied, copy_front, drop_first_break, close, tidy_after, split_end, split_rest, split_marked, is_void_thing, split_at, split_members, split_parent, split_around, remove_keeping_children}
+use Rattle.inline_value.specs.EditActions.Siblings.{first_parent, members, is_among, has, starts_in, ends_in}
+use Rattle.inline_value.specs.WrapSplit.Breaks.{breaks_before, breaks_at_end}
+use Rattle.inline_value.specs.WrapSplit.Split.{break_before, break_after, clear_before, copied, copy_front, drop_first_break, close, tidy_after, split_end, split_rest, split_marked, is_void_thing, split_at, split_members, split_parent, split_around, remove_keeping_children}
 use Rattle.command_laws.proofs.Breaks.{order_preserving_breaks_before, order_preserving_breaks_at_end}
 use Rattle.command_laws.proofs.SplitParts.{order_preserving_break_before, order_preserving_break_after, order_preserving_drop_first_break, order_preserving_tidy_after, order_preserving_close}
 use Rattle.command_laws.proofs.Cleared.{cleared}

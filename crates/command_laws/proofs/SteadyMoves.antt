@@ -1,6 +1,6 @@
 -- Moves, and insertions of nodes that are there, leave the states of contenteditable.
 use Rattle.std.proofs.Common.{ℕ, List, refl}
-use Rattle.edit_commands.specs.EditModel.Moves.{insert_before, insert_after, move_before, move_after, move_first, move_all_before, move_all_after, move_all_first, move_each_last, make_break}
+use Rattle.edit_model.specs.Moves.{insert_before, insert_after, move_before, move_after, move_first, move_all_before, move_all_after, move_all_first, move_each_last, make_break}
 use Rattle.edit_laws.specs.Steady.{Steady}
 use Rattle.edit_laws.proofs.SteadyRuns.{steady_parts, steady_make_element}
 

@@ -1,21 +1,21 @@
 -- Splitting the parent of a list leaves the states of contenteditable: the parent is copied only where it is editable.
 use Rattle.std.proofs.Common.{◌≡◌, ℕ, Bool, true, false, ◌&&◌, ◌||◌, not, if◌then◌else◌, List, is_none, refl, sym, ap, ◌∙◌, true≢false}
 use Rattle.std.specs.Prelude.{codes}
-use Rattle.edit_commands.specs.DomModel.Forest.{first_in, parent_of, children_of}
-use Rattle.edit_commands.specs.NodeTests.LineBreaks.{follows_break, precedes_break}
-use Rattle.edit_commands.specs.EditModel.State.{State}
-use Rattle.edit_commands.specs.EditModel.Compositions.{tag_of, attribute_list_of}
-use Rattle.edit_commands.specs.EditModel.Confined.{is_editable_for}
-use Rattle.edit_commands.specs.EditModel.Valid.{IsValid}
-use Rattle.edit_commands.specs.EditModel.Moves.{insert_before, move_all_before, move_each_last}
-use Rattle.edit_commands.specs.EditModel.Run.{Reaches, here, onward, reaches_trans, Run, final, value, ◌>>=◌, ◌>>◌, done, look, make_element, unset_attribute}
-use Rattle.edit_commands.proofs.EditModel.ValidRuns.{valid_along}
-use Rattle.edit_commands.proofs.EditModel.Steps.{final-answer, final-look}
+use Rattle.edit_model.specs.DomModel.Forest.{first_in, parent_of, children_of}
+use Rattle.inline_value.specs.NodeTests.LineBreaks.{follows_break, precedes_break}
+use Rattle.edit_model.specs.State.{State}
+use Rattle.edit_model.specs.Compositions.{tag_of, attribute_list_of}
+use Rattle.edit_model.specs.Confined.{is_editable_for}
+use Rattle.edit_model.specs.Valid.{IsValid}
+use Rattle.edit_model.specs.Moves.{insert_before, move_all_before, move_each_last}
+use Rattle.edit_model.specs.Run.{Reaches, here, onward, reaches_trans, Run, final, value, ◌>>=◌, ◌>>◌, done, look, make_element, unset_attribute}
+use Rattle.edit_model.proofs.ValidRuns.{valid_along}
+use Rattle.edit_model.proofs.Steps.{final-answer, final-look}
 use Rattle.edit_laws.specs.Steady.{SteadyOn, Steady}
 use Rattle.edit_laws.proofs.SteadyRuns.{steady_parts, steady_answer, steady_bind, steady_copy}
-use Rattle.edit_commands.specs.EditActions.Siblings.{starts_in, ends_in, has, until}
-use Rattle.edit_commands.specs.WrapSplit.Breaks.{breaks_before, breaks_at_end, breaks_from}
-use Rattle.edit_commands.specs.WrapSplit.Split.{break_before, break_after, clear_before, copied, copy_front, drop_first_break, close, tidy_after, split_end, split_rest, split_marked, is_void_thing, split_at, split_members, split_parent, split_around, remove_keeping_children}
+use Rattle.inline_value.specs.EditActions.Siblings.{starts_in, ends_in, has, until}
+use Rattle.inline_value.specs.WrapSplit.Breaks.{breaks_before, breaks_at_end, breaks_from}
+use Rattle.inline_value.specs.WrapSplit.Split.{break_before, break_after, clear_before, copied, copy_front, drop_first_break, close, tidy_after, split_end, split_rest, split_marked, is_void_thing, split_at, split_members, split_parent, split_around, remove_keeping_children}
 use Rattle.command_laws.proofs.Cleared.{cleared}
 use Rattle.command_laws.proofs.SteadyMoves.{steady_moves}
 

@@ -2,11 +2,11 @@
 use Rattle.std.proofs.Common.{ℕ, List, Option}
 use Rattle.edit_laws.specs.Steady.{Steady}
 use Rattle.edit_laws.proofs.SteadyRuns.{steady_parts, steady_answer, steady_bind, steady_make_element}
-use Rattle.edit_commands.specs.WrapSplit.declared.rule.Criterion.{Criterion}
-use Rattle.edit_commands.specs.WrapSplit.declared.rule.Recipe.{Recipe}
-use Rattle.edit_commands.specs.WrapSplit.declared.rule.Recipe.TheVariants.{Nothing, Make}
-use Rattle.edit_commands.specs.WrapSplit.Target.{blank_of, made_of, made_by, target}
-use Rattle.edit_commands.specs.WrapSplit.Wrap.{append_break, prepend_break, separate_with_br, append_all, parted_front, prepend_all, moved_in, grow_at, insert_if_loose, drop_empty, drop_parent, move_children, merged, merge_next, filled_from, filled, into_target, wrap_ends, wrap_list, wrap_members, wrap}
+use Rattle.inline_value.specs.WrapSplit.declared.rule.Criterion.{Criterion}
+use Rattle.inline_value.specs.WrapSplit.declared.rule.Recipe.{Recipe}
+use Rattle.inline_value.specs.WrapSplit.declared.rule.Recipe.TheVariants.{Nothing, Make}
+use Rattle.inline_value.specs.WrapSplit.Target.{blank_of, made_of, made_by, target}
+use Rattle.inline_value.specs.WrapSplit.Wrap.{append_break, prepend_break, separate_with_br, append_all, parted_front, prepend_all, moved_in, grow_at, insert_if_loose, drop_empty, drop_parent, move_children, merged, merge_next, filled_from, filled, into_target, wrap_ends, wrap_list, wrap_members, wrap}
 use Rattle.command_laws.specs.WrapLaws.{MakesNoState}
 use Rattle.command_laws.proofs.SteadyMoves.{steady_moves}
 use Rattle.command_laws.proofs.SteadySplits.{steady_breaks_from}

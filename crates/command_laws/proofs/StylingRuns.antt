@@ -1,15 +1,15 @@
 -- Setting and unsetting a style keeps the order, the states of contenteditable, and the shape of the trees.
 use Rattle.std.proofs.Common.{ℕ, Bool, true, false, if◌then◌else◌, List, [], ◌∷◌, Option, Some, None}
-use Rattle.edit_commands.specs.EditModel.State.{State}
-use Rattle.edit_commands.specs.EditModel.Valid.{IsValid}
-use Rattle.edit_commands.specs.EditModel.Run.{Run, final, value, ◌>>=◌, answer, look, given, for_each, set_attribute, unset_attribute}
-use Rattle.edit_commands.proofs.EditModel.Steps.{final-bind, final-answer, final-look, final-edit}
+use Rattle.edit_model.specs.State.{State}
+use Rattle.edit_model.specs.Valid.{IsValid}
+use Rattle.edit_model.specs.Run.{Run, final, value, ◌>>=◌, answer, look, given, for_each, set_attribute, unset_attribute}
+use Rattle.edit_model.proofs.Steps.{final-bind, final-answer, final-look, final-edit}
 use Rattle.edit_laws.specs.Steady.{Steady}
 use Rattle.edit_laws.specs.OrderPreserving.{OrderPreserving}
 use Rattle.edit_laws.proofs.Nesting.{Shaped, shaped_refl, shaped_trans, shaped_set, shaped_unset}
 use Rattle.edit_laws.proofs.SteadyRuns.{steady_parts}
 use Rattle.edit_laws.proofs.OrderPreserving.{order_preserving}
-use Rattle.edit_commands.specs.InlineValue.Styling.{write_text, set_style, unset_style}
+use Rattle.inline_value.specs.Styling.{write_text, set_style, unset_style}
 use Rattle.command_laws.proofs.SteadySplits.{valid_final}
 
 -- ---- runs that leave the shape of the trees

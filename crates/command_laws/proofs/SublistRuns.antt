@@ -2,11 +2,11 @@
 -- to the front of the item that follows it.
 use Rattle.std.proofs.Common.{◌≡◌, ℕ, zero, suc, Bool, true, false, if◌then◌else◌, [], ◌∷◌, Option, Some, None, refl, ap, subst, ◌∙◌}
 use Rattle.std.specs.Prelude.{codes}
-use Rattle.edit_commands.specs.DomModel.Forest.{last_in, last_of}
-use Rattle.edit_commands.specs.EditModel.State.{State}
-use Rattle.edit_commands.specs.EditModel.Moves.{move_after, move_first, move_all_after}
-use Rattle.edit_commands.specs.EditModel.Run.{Run, final, value, ◌>>=◌, ◌>>◌, answer, done, look, given, while_at_most, for_each, make_element}
-use Rattle.edit_commands.proofs.EditModel.Steps.{final-bind, final-answer, final-look, final-make_element, value-bind, value-answer, value-look, value-make_element, for_each-cons, for_each-nil}
+use Rattle.edit_model.specs.DomModel.Forest.{last_in, last_of}
+use Rattle.edit_model.specs.State.{State}
+use Rattle.edit_model.specs.Moves.{move_after, move_first, move_all_after}
+use Rattle.edit_model.specs.Run.{Run, final, value, ◌>>=◌, ◌>>◌, answer, done, look, given, while_at_most, for_each, make_element}
+use Rattle.edit_model.proofs.Steps.{final-bind, final-answer, final-look, final-make_element, value-bind, value-answer, value-look, value-make_element, for_each-cons, for_each-nil}
 use Rattle.edit_laws.specs.Order.{KeepsOrder, IsKeeping}
 use Rattle.edit_laws.specs.Steady.{Steady}
 use Rattle.edit_laws.specs.OrderPreserving.{OrderPreserving}
@@ -15,8 +15,8 @@ use Rattle.edit_laws.proofs.QuietActions.{keeping_final}
 use Rattle.edit_laws.proofs.SteadyRuns.{steady_parts, steady_make_element}
 use Rattle.edit_laws.proofs.Subsequences.{keeps_refl, keeps_trans}
 use Rattle.edit_laws.proofs.OrderPreserving.{order_preserving_answer}
-use Rattle.edit_commands.specs.WrapSplit.Walks.{turn_bound}
-use Rattle.edit_commands.specs.ListIndent.Sublists.{has_sublist, leaves, make_follower, follower_of, handed_on, part_last, is_normalizable, normalize_sublists}
+use Rattle.inline_value.specs.WrapSplit.Walks.{turn_bound}
+use Rattle.list_indent.specs.Sublists.{has_sublist, leaves, make_follower, follower_of, handed_on, part_last, is_normalizable, normalize_sublists}
 use Rattle.command_laws.proofs.Followers.{Follows, goes_on, stands_after}
 use Rattle.command_laws.proofs.Splitting.{then_order_preserving}
 use Rattle.command_laws.proofs.SteadyMoves.{steady_moves, steady_move_after, steady_move_first}

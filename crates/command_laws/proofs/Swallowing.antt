@@ -4,17 +4,17 @@ use Rattle.std.specs.Prelude.{codes}
 use Rattle.std.proofs.lemmas.Bool.{ne_eqb, lt-ltb}
 use Rattle.std.proofs.lemmas.Bool.Decides.{eqb_tells}
 use Rattle.std.proofs.lemmas.List.{append-nil}
-use Rattle.edit_commands.specs.DomModel.Contents.{has_name}
-use Rattle.edit_commands.specs.DomModel.Forest.{is_label, times, first_in, parent_of, children_of, content_of}
-use Rattle.edit_commands.proofs.DomModel.Lists.{times-append}
-use Rattle.edit_commands.proofs.DomModel.Links.{times-children_of, eqb_refl_true}
-use Rattle.edit_commands.specs.EditModel.State.{State}
-use Rattle.edit_commands.specs.EditModel.Valid.{IsValid}
-use Rattle.edit_commands.proofs.EditModel.Trees.{none_or_some}
+use Rattle.edit_model.specs.DomModel.Contents.{has_name}
+use Rattle.edit_model.specs.DomModel.Forest.{is_label, times, first_in, parent_of, children_of, content_of}
+use Rattle.edit_model.proofs.DomModel.Lists.{times-append}
+use Rattle.edit_model.proofs.DomModel.Links.{times-children_of, eqb_refl_true}
+use Rattle.edit_model.specs.State.{State}
+use Rattle.edit_model.specs.Valid.{IsValid}
+use Rattle.edit_model.proofs.Trees.{none_or_some}
 use Rattle.edit_laws.proofs.Around.{self_one}
 use Rattle.edit_laws.proofs.Fronts.{child_by}
 use Rattle.edit_laws.proofs.Slides.{parent_other}
-use Rattle.edit_commands.specs.EditActions.Siblings.{members, until}
+use Rattle.inline_value.specs.EditActions.Siblings.{members, until}
 use Rattle.command_laws.proofs.Copies.{until_front}
 use Rattle.command_laws.proofs.Together.{members-append, members-one, members-other, members-same}
 use Rattle.command_laws.proofs.Widening.{Siblings, pushed-last}

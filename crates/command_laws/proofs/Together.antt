@@ -4,25 +4,25 @@ use Rattle.std.specs.Option.{option_map, option_and_then}
 use Rattle.std.proofs.lemmas.Bool.{cases_Bool, ne_eqb}
 use Rattle.std.proofs.lemmas.Bool.Decides.{eqb_tells}
 use Rattle.std.proofs.lemmas.List.{append-nil}
-use Rattle.edit_commands.specs.DomModel.declared.Content.{Content}
-use Rattle.edit_commands.specs.DomModel.Forest.{Forest, Seen, is_label, times, taken_from, put_in, first_in, count_of, IsDistinct, CanPut, seek, parent_of, children_of, link, unlink, relinked, unlinked}
-use Rattle.edit_commands.proofs.DomModel.Lists.{times-append}
-use Rattle.edit_commands.proofs.DomModel.Links.{missing_count, seek-link, seek-unlink, times-children_of, parent_of-with_leaf, children_of-link, children_of-unlink, children_of-with_leaf, eqb_refl_true}
-use Rattle.edit_commands.specs.EditModel.State.{State}
-use Rattle.edit_commands.specs.EditModel.Edit.{Edit, Insert, Remove, is_made_edit, trees_after, edited}
-use Rattle.edit_commands.specs.EditModel.Confined.{may_insert, may_remove}
-use Rattle.edit_commands.specs.EditModel.Valid.{IsValid}
-use Rattle.edit_commands.specs.EditModel.Action.{made}
-use Rattle.edit_commands.specs.EditModel.Moves.{insert_before}
-use Rattle.edit_commands.specs.EditModel.Run.{Run, final, value, ◌>>=◌, answer, look, given, edit, remove}
-use Rattle.edit_commands.proofs.EditModel.Forests.{fresh}
-use Rattle.edit_commands.proofs.EditModel.IslandRuns.{trees_made, trees_left}
-use Rattle.edit_commands.proofs.EditModel.Steps.{final-answer, final-bind, final-look, final-edit, final_next}
-use Rattle.edit_commands.proofs.EditModel.Tests.{inserts, removes}
+use Rattle.edit_model.specs.DomModel.declared.Content.{Content}
+use Rattle.edit_model.specs.DomModel.Forest.{Forest, Seen, is_label, times, taken_from, put_in, first_in, count_of, IsDistinct, CanPut, seek, parent_of, children_of, link, unlink, relinked, unlinked}
+use Rattle.edit_model.proofs.DomModel.Lists.{times-append}
+use Rattle.edit_model.proofs.DomModel.Links.{missing_count, seek-link, seek-unlink, times-children_of, parent_of-with_leaf, children_of-link, children_of-unlink, children_of-with_leaf, eqb_refl_true}
+use Rattle.edit_model.specs.State.{State}
+use Rattle.edit_model.specs.Edit.{Edit, Insert, Remove, is_made_edit, trees_after, edited}
+use Rattle.edit_model.specs.Confined.{may_insert, may_remove}
+use Rattle.edit_model.specs.Valid.{IsValid}
+use Rattle.edit_model.specs.Action.{made}
+use Rattle.edit_model.specs.Moves.{insert_before}
+use Rattle.edit_model.specs.Run.{Run, final, value, ◌>>=◌, answer, look, given, edit, remove}
+use Rattle.edit_model.proofs.Forests.{fresh}
+use Rattle.edit_model.proofs.IslandRuns.{trees_made, trees_left}
+use Rattle.edit_model.proofs.Steps.{final-answer, final-bind, final-look, final-edit, final_next}
+use Rattle.edit_model.proofs.Tests.{inserts, removes}
 use Rattle.edit_laws.proofs.Around.{self_one, off_by}
 use Rattle.edit_laws.proofs.Fronts.{child_by}
 use Rattle.edit_laws.proofs.Renaming.{made_trees}
-use Rattle.edit_commands.specs.EditActions.Siblings.{members}
+use Rattle.inline_value.specs.EditActions.Siblings.{members}
 use Rattle.command_laws.proofs.SteadySplits.{valid_final}
 use Rattle.command_laws.proofs.Widening.{Siblings}
 use Rattle.command_laws.proofs.Wrapping.{put_in-middle}

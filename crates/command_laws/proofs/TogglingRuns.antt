@@ -1,11 +1,11 @@
 -- The commands that toggle a style or a script, and those that take a value, keep the order, and leave the states of
 -- contenteditable.
 use Rattle.std.proofs.Common.{ℕ, Bool, List, Option}
-use Rattle.edit_commands.specs.HtmlNames.declared.commands.Command.{Command}
+use Rattle.edit_model.specs.HtmlNames.declared.commands.Command.{Command}
 use Rattle.edit_laws.specs.Steady.{Steady}
 use Rattle.edit_laws.specs.OrderPreserving.{OrderPreserving}
-use Rattle.edit_commands.specs.InlineCommands.Toggling.{set_toggled, toggle_style, set_unless, set_script, toggle_script}
-use Rattle.edit_commands.specs.InlineCommands.ValueCommands.{set_taken, take, apply_value}
+use Rattle.inline_commands.specs.Toggling.{set_toggled, toggle_style, set_unless, set_script, toggle_script}
+use Rattle.inline_commands.specs.ValueCommands.{set_taken, take, apply_value}
 use Rattle.command_laws.proofs.Fits.{Fit, fits}
 use Rattle.command_laws.proofs.SelectionRuns.{fit_set_value}
 

@@ -3,17 +3,17 @@ use Rattle.std.proofs.Common.{◌≡◌, ℕ, ◌<◌, if◌then◌else◌, List
 use Rattle.std.proofs.lemmas.Bool.{ne_eqb}
 use Rattle.std.proofs.lemmas.Bool.Decides.{eqb_tells}
 use Rattle.std.proofs.lemmas.List.{append-nil}
-use Rattle.edit_commands.specs.DomModel.Forest.{is_label, times, first_in, parent_of, children_of}
-use Rattle.edit_commands.proofs.DomModel.Links.{parent_count}
-use Rattle.edit_commands.specs.EditModel.State.{State}
-use Rattle.edit_commands.specs.EditModel.Valid.{IsValid}
-use Rattle.edit_commands.specs.EditModel.Run.{final, ◌>>◌, done, remove}
-use Rattle.edit_commands.proofs.EditModel.Steps.{final-look}
+use Rattle.edit_model.specs.DomModel.Forest.{is_label, times, first_in, parent_of, children_of}
+use Rattle.edit_model.proofs.DomModel.Links.{parent_count}
+use Rattle.edit_model.specs.State.{State}
+use Rattle.edit_model.specs.Valid.{IsValid}
+use Rattle.edit_model.specs.Run.{final, ◌>>◌, done, remove}
+use Rattle.edit_model.proofs.Steps.{final-look}
 use Rattle.edit_laws.proofs.Around.{self_one}
 use Rattle.edit_laws.proofs.Fronts.{child_by}
 use Rattle.edit_laws.proofs.Slides.{parent_other}
-use Rattle.edit_commands.specs.EditActions.Siblings.{members}
-use Rattle.edit_commands.specs.WrapSplit.Split.{split_parent, remove_keeping_children}
+use Rattle.inline_value.specs.EditActions.Siblings.{members}
+use Rattle.inline_value.specs.WrapSplit.Split.{split_parent, remove_keeping_children}
 use Rattle.command_laws.proofs.Growing.{piece_none, siblings_as, together_none}
 use Rattle.command_laws.proofs.Splitting.{all_members}
 use Rattle.command_laws.proofs.SplitTogether.{split_list_together}

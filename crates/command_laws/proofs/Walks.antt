@@ -1,8 +1,8 @@
 -- The algorithms that commands share keep the order and leave the states of contenteditable.
 use Rattle.std.proofs.Common.{ℕ, List}
-use Rattle.edit_commands.specs.WrapSplit.Split.{split_around, remove_keeping_children}
-use Rattle.edit_commands.specs.InlineValue.Ancestors.{fix_ancestors}
-use Rattle.edit_commands.specs.InlineValue.Styling.{unset_style}
+use Rattle.inline_value.specs.WrapSplit.Split.{split_around, remove_keeping_children}
+use Rattle.inline_value.specs.Ancestors.{fix_ancestors}
+use Rattle.inline_value.specs.Styling.{unset_style}
 use Rattle.command_laws.proofs.AncestorRuns.{order_preserving_fix_ancestors, steady_fix_ancestors}
 use Rattle.command_laws.proofs.Fits.{Fit, fit}
 use Rattle.command_laws.proofs.Splitting.{order_preserving_split_around, order_preserving_unwrap}

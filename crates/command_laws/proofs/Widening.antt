@@ -2,17 +2,17 @@
 use Rattle.std.proofs.Common.{◌≡◌, ℕ, ◌<◌, zero, suc, Bool, true, false, ◌&&◌, not, if◌then◌else◌, List, [], ◌∷◌, ◌++◌, Option, Some, None, refl, sym, ap, subst, ◌∙◌, arith, append_assoc}
 use Rattle.std.specs.Option.{option_and_then}
 use Rattle.std.proofs.lemmas.List.{append-nil}
-use Rattle.edit_commands.specs.DomModel.Forest.{times, first_in, last_in, last_or, before_from, before_in, after_in, parent_of, prev_of, next_of, children_of}
-use Rattle.edit_commands.proofs.DomModel.Lists.{times-append, after_in-middle}
-use Rattle.edit_commands.proofs.DomModel.Links.{times-children_of, eqb_refl_true}
-use Rattle.edit_commands.specs.NodeStyles.Blocks.{is_block}
-use Rattle.edit_commands.specs.EditModel.State.{State}
-use Rattle.edit_commands.specs.DomModel.Contents.{is_break}
-use Rattle.edit_commands.specs.EditModel.Valid.{IsValid}
+use Rattle.edit_model.specs.DomModel.Forest.{times, first_in, last_in, last_or, before_from, before_in, after_in, parent_of, prev_of, next_of, children_of}
+use Rattle.edit_model.proofs.DomModel.Lists.{times-append, after_in-middle}
+use Rattle.edit_model.proofs.DomModel.Links.{times-children_of, eqb_refl_true}
+use Rattle.inline_value.specs.NodeStyles.Blocks.{is_block}
+use Rattle.edit_model.specs.State.{State}
+use Rattle.edit_model.specs.DomModel.Contents.{is_break}
+use Rattle.edit_model.specs.Valid.{IsValid}
 use Rattle.edit_laws.proofs.Around.{self_one, off_by}
 use Rattle.edit_laws.proofs.Fronts.{child_by}
-use Rattle.edit_commands.specs.WrapSplit.Walks.{turn_bound, is_invisible}
-use Rattle.edit_commands.specs.WrapSplit.Wrap.{if_break, break_next, if_hidden, list_on, extended_front, hidden_after, one_of, with_break, extended, extended_back, widened}
+use Rattle.inline_value.specs.WrapSplit.Walks.{turn_bound, is_invisible}
+use Rattle.inline_value.specs.WrapSplit.Wrap.{if_break, break_next, if_hidden, list_on, extended_front, hidden_after, one_of, with_break, extended, extended_back, widened}
 
 -- ---- lists
 

@@ -2,16 +2,16 @@
 use Rattle.std.proofs.Common.{◌≡◌, ℕ, Bool, true, false, ◌||◌, if◌then◌else◌, List, [], Option, Some, None, IfSome, refl}
 use Rattle.std.specs.Prelude.{codes, bytes_eq, unwrap_or, not, ◌==◌}
 use Rattle.std.specs.Option.{option_and_then}
-use Rattle.edit_commands.specs.DomModel.declared.Content.TheVariants.{Element}
-use Rattle.edit_commands.specs.DomModel.declared.attributes.Attribute.{Attribute}
-use Rattle.edit_commands.specs.DomModel.Editing.{is_true_state, is_false_state}
-use Rattle.edit_commands.specs.CssValue.declared.colours.Colour.{Colour}
-use Rattle.edit_commands.specs.CssValue.Colours.{colour_of}
-use Rattle.edit_commands.specs.HtmlNames.declared.commands.Command.{Command}
-use Rattle.edit_commands.specs.HtmlNames.declared.commands.Command.TheVariants as command
-use Rattle.edit_commands.specs.EditModel.Kept.{is_thing}
-use Rattle.edit_commands.specs.WrapSplit.declared.rule.Blank.{Blank}
-use Rattle.edit_commands.specs.InlineValue.Wrappers.{bare, with_attribute, hex_text, size_of_keyword, font_of_size, size_font, script_element, colour_font_of, colour_font, presentational, unless_css, chosen, wrapper_for}
+use Rattle.edit_model.specs.DomModel.declared.Content.TheVariants.{Element}
+use Rattle.edit_model.specs.DomModel.declared.attributes.Attribute.{Attribute}
+use Rattle.edit_model.specs.DomModel.Editing.{is_true_state, is_false_state}
+use Rattle.inline_value.specs.CssValue.declared.colours.Colour.{Colour}
+use Rattle.inline_value.specs.CssValue.Colours.{colour_of}
+use Rattle.edit_model.specs.HtmlNames.declared.commands.Command.{Command}
+use Rattle.edit_model.specs.HtmlNames.declared.commands.Command.TheVariants as command
+use Rattle.edit_model.specs.Kept.{is_thing}
+use Rattle.inline_value.specs.WrapSplit.declared.rule.Blank.{Blank}
+use Rattle.inline_value.specs.Wrappers.{bare, with_attribute, hex_text, size_of_keyword, font_of_size, size_font, script_element, colour_font_of, colour_font, presentational, unless_css, chosen, wrapper_for}
 
 pub record IsPlain (b : Blank) : Type 0 where
   pub named : is_thing b.name ≡ false

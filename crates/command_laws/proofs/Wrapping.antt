@@ -2,24 +2,24 @@
 use Rattle.std.proofs.Common.{◌≡◌, ℕ, ◌<◌, Bool, true, false, ◌&&◌, eqb, if◌then◌else◌, List, [], ◌∷◌, ◌++◌, Option, Some, None, refl, sym, ap, ◌∙◌, inl, inr, arith}
 use Rattle.std.specs.Option.{option_map_or, option_and_then}
 use Rattle.std.proofs.lemmas.Bool.{cases_Bool}
-use Rattle.edit_commands.specs.DomModel.declared.Content.{Content}
-use Rattle.edit_commands.specs.DomModel.declared.attributes.Attribute.{Attribute}
-use Rattle.edit_commands.specs.DomModel.Forest.{Seen, either, times, first_in, last_in, put_in, parent_of, prev_of, next_of, children_of, count_of, link}
-use Rattle.edit_commands.specs.DomModel.Places.{index_of}
-use Rattle.edit_commands.proofs.DomModel.Lists.{times-append}
-use Rattle.edit_commands.proofs.DomModel.Stands.{seek_absent}
-use Rattle.edit_commands.proofs.DomModel.Links.{child_of_parent, times-children_of, parent_of-with_leaf, children_of-with_leaf, children_of-link, eqb_refl_true}
-use Rattle.edit_commands.specs.EditModel.State.{State}
-use Rattle.edit_commands.specs.EditModel.Kept.{is_thing}
-use Rattle.edit_commands.specs.EditModel.Confined.{is_editable_for, may_insert}
-use Rattle.edit_commands.specs.EditModel.Edit.{Insert, is_made_edit, trees_after, edited}
-use Rattle.edit_commands.specs.EditModel.Action.{made, element_content, acted}
-use Rattle.edit_commands.specs.EditModel.History.{document_of}
-use Rattle.edit_commands.specs.EditModel.Run.{Run, final, value, done, answer, given, grow}
-use Rattle.edit_commands.proofs.EditModel.IslandRuns.{trees_made, trees_left}
-use Rattle.edit_commands.proofs.EditModel.OutsideRuns.{trees-grown}
-use Rattle.edit_commands.proofs.EditModel.Steps.{final-bind, final-answer, final-look, final-perform, final-make_element, value-bind, value-answer, value-look, value-make_element}
-use Rattle.edit_commands.proofs.EditModel.Tests.{inserts}
+use Rattle.edit_model.specs.DomModel.declared.Content.{Content}
+use Rattle.edit_model.specs.DomModel.declared.attributes.Attribute.{Attribute}
+use Rattle.edit_model.specs.DomModel.Forest.{Seen, either, times, first_in, last_in, put_in, parent_of, prev_of, next_of, children_of, count_of, link}
+use Rattle.edit_model.specs.DomModel.Places.{index_of}
+use Rattle.edit_model.proofs.DomModel.Lists.{times-append}
+use Rattle.edit_model.proofs.DomModel.Stands.{seek_absent}
+use Rattle.edit_model.proofs.DomModel.Links.{child_of_parent, times-children_of, parent_of-with_leaf, children_of-with_leaf, children_of-link, eqb_refl_true}
+use Rattle.edit_model.specs.State.{State}
+use Rattle.edit_model.specs.Kept.{is_thing}
+use Rattle.edit_model.specs.Confined.{is_editable_for, may_insert}
+use Rattle.edit_model.specs.Edit.{Insert, is_made_edit, trees_after, edited}
+use Rattle.edit_model.specs.Action.{made, element_content, acted}
+use Rattle.edit_model.specs.History.{document_of}
+use Rattle.edit_model.specs.Run.{Run, final, value, done, answer, given, grow}
+use Rattle.edit_model.proofs.IslandRuns.{trees_made, trees_left}
+use Rattle.edit_model.proofs.OutsideRuns.{trees-grown}
+use Rattle.edit_model.proofs.Steps.{final-bind, final-answer, final-look, final-perform, final-make_element, value-bind, value-answer, value-look, value-make_element}
+use Rattle.edit_model.proofs.Tests.{inserts}
 use Rattle.edit_laws.specs.Order.{KeepsOrder, IsKeeping}
 use Rattle.edit_laws.specs.OrderPreserving.{OrderPreserving}
 use Rattle.edit_laws.proofs.Adopting.{final_insert_before}
@@ -31,12 +31,12 @@ use Rattle.edit_laws.proofs.QuietActions.{keeping_edited, keeping_final, bare_in
 use Rattle.edit_laws.proofs.Renaming.{made_trees, new_absent, new_loose, keeping_made, keeps_made}
 use Rattle.edit_laws.proofs.Subsequences.{keeps_refl, keeps_trans}
 use Rattle.edit_laws.proofs.OrderPreserving.{order_preserving}
-use Rattle.edit_commands.specs.WrapSplit.declared.rule.Criterion.{Criterion}
-use Rattle.edit_commands.specs.WrapSplit.declared.rule.Recipe.{Recipe}
-use Rattle.edit_commands.specs.WrapSplit.declared.rule.Recipe.TheVariants.{Nothing, Make}
-use Rattle.edit_commands.specs.EditActions.Siblings.{first_parent, members}
-use Rattle.edit_commands.specs.WrapSplit.Target.{meets, if_fits, beside, blank_of, made_of, made_by, target}
-use Rattle.edit_commands.specs.WrapSplit.Wrap.{all_hidden, widened, moved_in, grow_at, insert_if_loose, filled_from, filled, into_target, wrap_ends, wrap_list, wrap_members, wrap}
+use Rattle.inline_value.specs.WrapSplit.declared.rule.Criterion.{Criterion}
+use Rattle.inline_value.specs.WrapSplit.declared.rule.Recipe.{Recipe}
+use Rattle.inline_value.specs.WrapSplit.declared.rule.Recipe.TheVariants.{Nothing, Make}
+use Rattle.inline_value.specs.EditActions.Siblings.{first_parent, members}
+use Rattle.inline_value.specs.WrapSplit.Target.{meets, if_fits, beside, blank_of, made_of, made_by, target}
+use Rattle.inline_value.specs.WrapSplit.Wrap.{all_hidden, widened, moved_in, grow_at, insert_if_loose, filled_from, filled, into_target, wrap_ends, wrap_list, wrap_members, wrap}
 use Rattle.command_laws.specs.WrapLaws.{NamesNoThing, MakesNoThing}
 use Rattle.command_laws.proofs.Criteria.{meets_bare}
 use Rattle.command_laws.proofs.Merging.{order_preserving_rest}

@@ -3,8 +3,8 @@
 use Rattle.std.specs.Prelude.{ℕ, List}
 use Rattle.edit_laws.specs.Steady.{Steady}
 use Rattle.edit_laws.specs.OrderPreserving.{OrderPreserving}
-use Rattle.edit_commands.specs.BlockCommands.FormatBlock.{format_block}
-use Rattle.edit_commands.specs.BlockCommands.Justify.{justify}
+use Rattle.block_commands.specs.FormatBlock.{format_block}
+use Rattle.block_commands.specs.Justify.{justify}
 
 abbrev pub BlocksKeepOrder : Type 0
 BlocksKeepOrder = (v : List ℕ) → OrderPreserving (format_block v)

@@ -1,7 +1,7 @@
 -- The laws of order of removing line breaks.
 use Rattle.std.specs.Prelude.{ℕ}
 use Rattle.edit_laws.specs.OrderPreserving.{OrderPreserving}
-use Rattle.edit_commands.specs.WrapSplit.Breaks.{breaks_before, breaks_at_end, breaks_from}
+use Rattle.inline_value.specs.WrapSplit.Breaks.{breaks_before, breaks_at_end, breaks_from}
 
 abbrev pub BreaksBeforeGo : Type 0
 BreaksBeforeGo = (n : ℕ) → OrderPreserving (breaks_before n)

@@ -2,7 +2,7 @@
 -- contenteditable.
 use Rattle.edit_laws.specs.Steady.{Steady}
 use Rattle.edit_laws.specs.OrderPreserving.{OrderPreserving}
-use Rattle.edit_commands.specs.ListIndent.Commands.{indent, outdent}
+use Rattle.list_indent.specs.Commands.{indent, outdent}
 
 abbrev pub IndentKeepsOrder : Type 0
 IndentKeepsOrder = OrderPreserving indent

@@ -8,4 +8,3 @@ pub mod Deletion
 pub mod Typing
 pub mod Objects
 pub mod ListToggles
-pub use Rattle.edit_laws.specs as EditLaws

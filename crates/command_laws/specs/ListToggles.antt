@@ -2,8 +2,8 @@
 -- states of contenteditable.
 use Rattle.edit_laws.specs.Steady.{Steady}
 use Rattle.edit_laws.specs.OrderPreserving.{OrderPreserving}
-use Rattle.edit_commands.specs.ListToggle.Toggle.{toggle_lists}
-use Rattle.edit_commands.specs.ListToggle.declared.toggling.ListKind.{ListKind}
+use Rattle.list_toggle.specs.Toggle.{toggle_lists}
+use Rattle.list_toggle.specs.declared.toggling.ListKind.{ListKind}
 
 -- insertOrderedList, and insertUnorderedList
 abbrev pub ListTogglesKeepOrder : Type 0

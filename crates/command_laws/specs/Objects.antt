@@ -2,9 +2,9 @@
 -- contenteditable. All erase what is selected, so there is no law of order.
 use Rattle.std.specs.Prelude.{ℕ, List}
 use Rattle.edit_laws.specs.Steady.{Steady}
-use Rattle.edit_commands.specs.InsertObjects.Image.{insert_image}
-use Rattle.edit_commands.specs.InsertObjects.LineBreak.{insert_line_break}
-use Rattle.edit_commands.specs.InsertObjects.Rule.{insert_horizontal_rule}
+use Rattle.insert_objects.specs.Image.{insert_image}
+use Rattle.insert_objects.specs.LineBreak.{insert_line_break}
+use Rattle.insert_objects.specs.Rule.{insert_horizontal_rule}
 
 abbrev pub InsertLineBreakIsSteady : Type 0
 InsertLineBreakIsSteady = Steady insert_line_break

@@ -1,12 +1,12 @@
 -- The laws of splitting the parent of a list.
 use Rattle.std.specs.Prelude.{◌≡◌, ℕ, List, [], ◌∷◌, ◌++◌}
-use Rattle.edit_commands.specs.DomModel.Forest.{children_of}
-use Rattle.edit_commands.specs.EditModel.State.{State}
-use Rattle.edit_commands.specs.EditModel.Run.{final}
+use Rattle.edit_model.specs.DomModel.Forest.{children_of}
+use Rattle.edit_model.specs.State.{State}
+use Rattle.edit_model.specs.Run.{final}
 use Rattle.edit_laws.specs.Order.{KeepsOrder, IsKeeping}
 use Rattle.edit_laws.specs.Steady.{Steady}
 use Rattle.edit_laws.specs.OrderPreserving.{OrderPreserving}
-use Rattle.edit_commands.specs.WrapSplit.Split.{split_parent, remove_keeping_children}
+use Rattle.inline_value.specs.WrapSplit.Split.{split_parent, remove_keeping_children}
 
 -- of consecutive children of a node, in order
 abbrev pub ParentsSplit : Type 0

@@ -2,8 +2,8 @@
 -- contenteditable. Both erase what is selected, so there is no law of order.
 use Rattle.std.specs.Prelude.{ℕ, List}
 use Rattle.edit_laws.specs.Steady.{Steady}
-use Rattle.edit_commands.specs.TextInsertion.Paragraph.{insert_paragraph}
-use Rattle.edit_commands.specs.TextInsertion.Typing.{insert_text}
+use Rattle.text_insertion.specs.Paragraph.{insert_paragraph}
+use Rattle.text_insertion.specs.Typing.{insert_text}
 
 abbrev pub InsertTextIsSteady : Type 0
 InsertTextIsSteady = (value : List ℕ) → Steady (insert_text value)

@@ -1,20 +1,20 @@
 -- The laws of wrapping a list.
 use Rattle.std.specs.Prelude.{◌≡◌, ℕ, ◌||◌, false, List, [], ◌∷◌, ◌++◌, Some}
-use Rattle.edit_commands.specs.DomModel.declared.Content.TheVariants.{Element}
-use Rattle.edit_commands.specs.DomModel.Editing.{is_true_state, is_false_state}
-use Rattle.edit_commands.specs.DomModel.Forest.{children_of}
-use Rattle.edit_commands.specs.EditModel.State.{State}
-use Rattle.edit_commands.specs.EditModel.Kept.{is_thing}
-use Rattle.edit_commands.specs.EditModel.Run.{final}
+use Rattle.edit_model.specs.DomModel.declared.Content.TheVariants.{Element}
+use Rattle.edit_model.specs.DomModel.Editing.{is_true_state, is_false_state}
+use Rattle.edit_model.specs.DomModel.Forest.{children_of}
+use Rattle.edit_model.specs.State.{State}
+use Rattle.edit_model.specs.Kept.{is_thing}
+use Rattle.edit_model.specs.Run.{final}
 use Rattle.edit_laws.specs.Order.{KeepsOrder, IsKeeping}
 use Rattle.edit_laws.specs.Steady.{Steady}
 use Rattle.edit_laws.specs.OrderPreserving.{OrderPreserving}
-use Rattle.edit_commands.specs.WrapSplit.declared.rule.Criterion.{Criterion}
-use Rattle.edit_commands.specs.WrapSplit.declared.rule.Criterion.TheVariants.{Named}
-use Rattle.edit_commands.specs.WrapSplit.declared.rule.Recipe.{Recipe}
-use Rattle.edit_commands.specs.WrapSplit.declared.rule.Recipe.TheVariants.{Nothing, Make}
-use Rattle.edit_commands.specs.EditActions.Siblings.{first_parent, members}
-use Rattle.edit_commands.specs.WrapSplit.Wrap.{wrap}
+use Rattle.inline_value.specs.WrapSplit.declared.rule.Criterion.{Criterion}
+use Rattle.inline_value.specs.WrapSplit.declared.rule.Criterion.TheVariants.{Named}
+use Rattle.inline_value.specs.WrapSplit.declared.rule.Recipe.{Recipe}
+use Rattle.inline_value.specs.WrapSplit.declared.rule.Recipe.TheVariants.{Nothing, Make}
+use Rattle.inline_value.specs.EditActions.Siblings.{first_parent, members}
+use Rattle.inline_value.specs.WrapSplit.Wrap.{wrap}
 
 -- the name that a criterion asks for is neither img nor hr; no other criterion is met by an image
 -- or a rule

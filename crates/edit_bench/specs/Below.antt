@@ -1,2 +1,2 @@
 -- Definitions of the crates below that tactics of this crate name.
-unfoldable pub use Rattle.wrap_split.specs.EditDoc.Whole.{first_doc, opened}
+unfoldable pub use Rattle.inline_value.specs.EditDoc.Whole.{first_doc, opened}

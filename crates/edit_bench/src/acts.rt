@@ -1,19 +1,19 @@
 //! What a round does: an arm for each act.
 
 ghost use Rattle.std.specs.Prelude.{◌≡◌, ◌<◌, IfOk, IfSome};
-ghost use Rattle.wrap_split.specs.EditDoc.Held.{EachHeld, Holds};
-ghost use Rattle.wrap_split.specs.EditDoc.Whole.{IsClosed, IsOpen};
+ghost use Rattle.inline_value.specs.EditDoc.Held.{EachHeld, Holds};
+ghost use Rattle.inline_value.specs.EditDoc.Whole.{IsClosed, IsOpen};
 
-use page_read::stepping::Steps;
-use script_read::dom::{Attributes, Name};
-use std::alloc::{AllocError, Global};
-use std::marker::Brand;
-use std::sync::ledger::{Blank, Ledger};
-use wrap_split::doc::{Doc, EditFault, NodeList, NodeRef};
-use wrap_split::{
+use edit_model::dom::{Attributes, Name};
+use edit_model::stepping::Steps;
+use inline_value::doc::{Doc, EditFault, NodeList, NodeRef};
+use inline_value::wrap::{
     CopyMade, IndentationSibling, NoSibling, NothingMade, WrapRule, remove_keeping_children,
     split_parent, wrap,
 };
+use std::alloc::{AllocError, Global};
+use std::marker::Brand;
+use std::sync::ledger::{Blank, Ledger};
 
 // What a command does to a node.
 #[derive(Clone, Copy)]
@@ -53,7 +53,7 @@ fn wrap_in_div(alloc: Global, doc: &mut Doc, list: NodeList) -> Result<(), EditF
     requires held { EachHeld doc.old list }
     ensures { IfOk result (λ _. IsOpen doc.new) }
 {
-    let blank = wrap_split::Blank {
+    let blank = inline_value::wrap::Blank {
         name: Name::from_slice(alloc, b"div")?,
         attributes: Attributes::new(alloc),
     };

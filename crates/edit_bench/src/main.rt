@@ -15,17 +15,17 @@
 mod acts;
 
 ghost use Rattle.std.specs.Prelude.{IfOk, IfSome};
-ghost use Rattle.wrap_split.specs.EditDoc.Whole.{HasNoLoose, IsClosed};
+ghost use Rattle.inline_value.specs.EditDoc.Whole.{HasNoLoose, IsClosed};
 
 use acts::{Act, act_named, run_rounds};
 use edit_io::{ReadSource, read_all};
+use inline_value::doc::{Arena, Doc};
 use page_read::read_page;
 use script_read::read_number;
 use std::alloc::Global;
 use std::env;
 use std::env::Env;
 use std::process::ExitCode;
-use wrap_split::doc::{Arena, Doc};
 
 // What is done, to which node, and how often.
 #[derive(Clone, Copy)]

@@ -3,19 +3,19 @@ use Rattle.std.proofs.Common.{◌≡◌, ℕ, zero, suc, ◌<◌, Bool, true, fa
 use Rattle.std.specs.List.{find}
 use Rattle.std.specs.Option.{option_map, option_map_or, option_and_then, unwrap_or}
 use Rattle.std.proofs.lemmas.Bool.{and_parts}
-use Rattle.edit_commands.specs.DomModel.declared.Content.{Content}
-use Rattle.edit_commands.specs.DomModel.Editing.{is_host, is_true_state}
-use Rattle.edit_commands.specs.DomModel.Forest.{Forest, Seen, count_of, IsDistinct, parent_of, content_of, depth_of}
-use Rattle.edit_commands.proofs.DomModel.Links.{seen}
-use Rattle.edit_commands.proofs.DomModel.Within.{depth_of-parent}
-use Rattle.edit_commands.specs.LiveRange.declared.places.Pair.{Pair}
+use Rattle.edit_model.specs.DomModel.declared.Content.{Content}
+use Rattle.edit_model.specs.DomModel.Editing.{is_host, is_true_state}
+use Rattle.edit_model.specs.DomModel.Forest.{Forest, Seen, count_of, IsDistinct, parent_of, content_of, depth_of}
+use Rattle.edit_model.proofs.DomModel.Links.{seen}
+use Rattle.edit_model.proofs.DomModel.Within.{depth_of-parent}
+use Rattle.edit_model.specs.LiveRange.declared.places.Pair.{Pair}
 use Rattle.edit_model.specs.State.{State}
-use Rattle.edit_commands.specs.EditActions.ActiveRange.{start_of, end_of, host_of_pair, affected_host}
+use Rattle.inline_value.specs.EditActions.ActiveRange.{start_of, end_of, host_of_pair, affected_host}
 use Rattle.edit_engine.specs.Execution.{host_at}
-use Rattle.edit_commands.specs.NodeStyles.Lineage.{Ancestor, lineage}
-use Rattle.edit_commands.proofs.NodeStyles.Lineages.{ancestor, lineage_absent, lineage-root, lineage-child}
-use Rattle.edit_commands.specs.NodeTests.AffectedHost as nodes
-use Rattle.edit_commands.specs.NodeTests.AffectedHost.{is_host_of, common_host, takes_commands}
+use Rattle.inline_value.specs.NodeStyles.Lineage.{Ancestor, lineage}
+use Rattle.inline_value.proofs.NodeStyles.Lineages.{ancestor, lineage_absent, lineage-root, lineage-child}
+use Rattle.inline_value.specs.NodeTests.AffectedHost as nodes
+use Rattle.inline_value.specs.NodeTests.AffectedHost.{is_host_of, common_host, takes_commands}
 
 lineage-none : (f : Forest Content) (l : ℕ) → count_of f l ≡ 0 → lineage f l ≡ []
 unfolding lineage

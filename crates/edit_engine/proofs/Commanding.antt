@@ -2,23 +2,23 @@
 use Rattle.std.proofs.Common.{◌≡◌, ◌↔◌, ℕ, zero, suc, ◌<◌, Bool, true, false, List, [], ◌∷◌, length, Option, Some, None, IsSome, Ok, refl, sym, ap, ◌∙◌, subst, arith}
 use Rattle.std.specs.Prelude.{nat_lt}
 use Rattle.std.proofs.lemmas.Bool.Decides.{nat_tests}
-use Rattle.edit_commands.specs.DomModel.declared.Content.{Content}
-use Rattle.edit_commands.specs.DomModel.Forest.{Forest}
-use Rattle.edit_commands.specs.UndoLog.Turning.{forth}
-use Rattle.edit_commands.specs.UndoLog.declared.log.Committed.{Committed}
-use Rattle.edit_commands.specs.UndoLog.declared.log.Committed.TheVariants as committed
+use Rattle.edit_model.specs.DomModel.declared.Content.{Content}
+use Rattle.edit_model.specs.DomModel.Forest.{Forest}
+use Rattle.inline_value.specs.UndoLog.Turning.{forth}
+use Rattle.inline_value.specs.UndoLog.declared.log.Committed.{Committed}
+use Rattle.inline_value.specs.UndoLog.declared.log.Committed.TheVariants as committed
 use Rattle.edit_model.specs.declared.settings.EditFault.{EditFault}
 use Rattle.edit_model.specs.State.{State, IsPastCap}
 use Rattle.edit_model.specs.Gives.{Fails}
 use Rattle.edit_model.specs.History.{History, begun, document_of, rested}
 use Rattle.edit_model.specs.Run.{Run, final, value}
-use Rattle.edit_commands.specs.ForestChanges.Change.{Change}
-use Rattle.edit_commands.specs.DocumentEdits.Followed.{followed}
-use Rattle.edit_commands.specs.DocumentEdits.Told.{told_all}
-use Rattle.edit_commands.specs.DocumentEdits.declared.edit.DocumentEdit.{DocumentEdit}
-use Rattle.edit_commands.specs.EditDoc.Changes.{Lead, LeadsSince, IsToldSince}
-use Rattle.edit_commands.specs.EditDoc.Whole.{Began, Whole, IsOpen, IsDoc, opened, history_committed, state_rolled_back}
-use Rattle.edit_commands.specs.EditDoc.Held.{Keeps}
+use Rattle.inline_value.specs.ForestChanges.Change.{Change}
+use Rattle.inline_value.specs.DocumentEdits.Followed.{followed}
+use Rattle.inline_value.specs.DocumentEdits.Told.{told_all}
+use Rattle.inline_value.specs.DocumentEdits.declared.edit.DocumentEdit.{DocumentEdit}
+use Rattle.inline_value.specs.EditDoc.Changes.{Lead, LeadsSince, IsToldSince}
+use Rattle.inline_value.specs.EditDoc.Whole.{Began, Whole, IsOpen, IsDoc, opened, history_committed, state_rolled_back}
+use Rattle.inline_value.specs.EditDoc.Held.{Keeps}
 use Rattle.edit_engine.specs.Execution.{ran, answered}
 use Rattle.edit_engine.specs.Running.{IsMade, IsTakenBack, IsRefused, has_entry, TellsEdits, TellsChange}
 

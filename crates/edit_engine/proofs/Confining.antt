@@ -3,13 +3,13 @@ use Rattle.std.proofs.Common.{◌≡◌, ◌⊎◌, ℕ, zero, suc, ◌<◌, Boo
 use Rattle.std.specs.Prelude.{nat_lt}
 use Rattle.std.specs.List.{AllZip}
 use Rattle.std.proofs.lemmas.Bool.{ne_eqb}
-use Rattle.edit_commands.specs.HtmlNames.Commands.{command_named}
-use Rattle.edit_commands.specs.HtmlNames.declared.commands.Command.{Command}
-use Rattle.edit_commands.specs.DomModel.Change.{Remove}
-use Rattle.edit_commands.specs.DomModel.Document.{page_depth}
-use Rattle.edit_commands.specs.DomModel.Editing.{is_host}
-use Rattle.edit_commands.specs.DomModel.Forest.{count_of, tree_of}
-use Rattle.edit_commands.specs.LiveRange.declared.places.Pair.{Pair}
+use Rattle.edit_model.specs.HtmlNames.Commands.{command_named}
+use Rattle.edit_model.specs.HtmlNames.declared.commands.Command.{Command}
+use Rattle.edit_model.specs.DomModel.Change.{Remove}
+use Rattle.edit_model.specs.DomModel.Document.{page_depth}
+use Rattle.edit_model.specs.DomModel.Editing.{is_host}
+use Rattle.edit_model.specs.DomModel.Forest.{count_of, tree_of}
+use Rattle.edit_model.specs.LiveRange.declared.places.Pair.{Pair}
 use Rattle.edit_model.specs.State.{State}
 use Rattle.edit_model.specs.History.{Entry, History, begun, rested, entry_of, with_entry, joined, joined_in, recorded, view_of, at_view, undone_state, undone_state_by, used}
 use Rattle.edit_model.specs.Laws.{KeepsMark}
@@ -21,21 +21,21 @@ use Rattle.edit_model.proofs.Hollow.{hollowed_le}
 use Rattle.edit_model.proofs.Resting.{valid_rested}
 use Rattle.edit_model.proofs.Steps.{next_along}
 use Rattle.edit_model.proofs.ValidRuns.{valid_along}
-use Rattle.command_laws.specs.EditLaws.BelowHost.{below}
-use Rattle.command_laws.specs.EditLaws.Islands.{StaysBelow, IsTakenOut, IslandKept}
-use Rattle.command_laws.specs.EditLaws.Order.{KeepsLeaves, KeepsOrder}
-use Rattle.command_laws.specs.EditLaws.OrderPreserving.{OrderPreserving}
-use Rattle.command_laws.specs.EditLaws.InHost.{IsPairWithin}
-use Rattle.command_laws.proofs.EditLaws.HostAtRest.{selection_in_host, range_in_host}
-use Rattle.command_laws.proofs.EditLaws.HostParts.{host_stays}
-use Rattle.command_laws.proofs.EditLaws.Resting.{document_again, host_there, island_inside, outside_at_rest, marks_at_rest, islands_at_rest, order_at_rest}
-use Rattle.command_laws.proofs.EditLaws.Selections.{selection_at_rest}
-use Rattle.command_laws.proofs.EditLaws.SteadyRuns.{states_on}
-use Rattle.command_laws.proofs.EditLaws.StayingKinds.{kinds_at_rest}
-use Rattle.command_laws.proofs.EditLaws.Subsequences.{keeps_refl}
+use Rattle.edit_laws.specs.BelowHost.{below}
+use Rattle.edit_laws.specs.Islands.{StaysBelow, IsTakenOut, IslandKept}
+use Rattle.edit_laws.specs.Order.{KeepsLeaves, KeepsOrder}
+use Rattle.edit_laws.specs.OrderPreserving.{OrderPreserving}
+use Rattle.edit_laws.specs.InHost.{IsPairWithin}
+use Rattle.edit_laws.proofs.HostAtRest.{selection_in_host, range_in_host}
+use Rattle.edit_laws.proofs.HostParts.{host_stays}
+use Rattle.edit_laws.proofs.Resting.{document_again, host_there, island_inside, outside_at_rest, marks_at_rest, islands_at_rest, order_at_rest}
+use Rattle.edit_laws.proofs.Selections.{selection_at_rest}
+use Rattle.edit_laws.proofs.SteadyRuns.{states_on}
+use Rattle.edit_laws.proofs.StayingKinds.{kinds_at_rest}
+use Rattle.edit_laws.proofs.Subsequences.{keeps_refl}
 use Rattle.selection_laws.proofs.Holders.{host_holds, pair_host_holds}
 use Rattle.making_laws.proofs.KnownPages.{commands_make_known, own_known}
-use Rattle.edit_commands.specs.EditDoc.Whole.{Whole, IsDoc}
+use Rattle.inline_value.specs.EditDoc.Whole.{Whole, IsDoc}
 use Rattle.edit_engine.specs.declared.answers.Answer.{Answer}
 use Rattle.edit_engine.specs.declared.answers.Answer.TheVariants.{Yes, No}
 use Rattle.edit_engine.specs.declared.answers.ExecFault.{ExecFault}

@@ -1,19 +1,19 @@
 -- The node at a path, and the path of a node, where an arena has hidden trees beside the document.
 use Rattle.std.proofs.Common.{◌≡◌, ℕ, ◌<◌, true, List, Option, Some, None, IfSome, refl, sym, ap, subst, ◌∙◌}
-use Rattle.edit_commands.specs.DomModel.declared.Content.{Content}
-use Rattle.edit_commands.specs.DomModel.Forest.{Forest, count_of, tree_of, IsWithin}
-use Rattle.edit_commands.specs.DomModel.ArenaState as arena
-use Rattle.edit_commands.specs.NodeArena.declared.NodeRef.{NodeRef}
-use Rattle.edit_commands.specs.NodeArena.Held.{NamesHeld, label}
-use Rattle.edit_commands.specs.NodePaths.Paths.{label_at, path_of, node_text}
-use Rattle.step_text.proofs.PageWrite.Placing.{within_count}
-use Rattle.edit_commands.specs.PointOrder.PointOrder.{is_in_document}
+use Rattle.edit_model.specs.DomModel.declared.Content.{Content}
+use Rattle.edit_model.specs.DomModel.Forest.{Forest, count_of, tree_of, IsWithin}
+use Rattle.edit_model.specs.DomModel.ArenaState as arena
+use Rattle.edit_model.specs.NodeArena.declared.NodeRef.{NodeRef}
+use Rattle.edit_model.specs.NodeArena.Held.{NamesHeld, label}
+use Rattle.inline_value.specs.NodePaths.Paths.{label_at, path_of, node_text}
+use Rattle.page_write.proofs.Placing.{within_count}
+use Rattle.edit_model.specs.PointOrder.PointOrder.{is_in_document}
 use Rattle.edit_model.specs.Gives.{label_of}
 use Rattle.edit_model.specs.History.{rested}
 use Rattle.edit_model.specs.Valid.{IsForest}
 use Rattle.edit_model.specs.State.{State}
-use Rattle.edit_commands.specs.EditDoc.Held.{Finds, Holds}
-use Rattle.edit_commands.specs.EditDoc.Whole.{Whole}
+use Rattle.inline_value.specs.EditDoc.Held.{Finds, Holds}
+use Rattle.inline_value.specs.EditDoc.Whole.{Whole}
 use Rattle.edit_engine.proofs.Seeing.{Same, label_same, path_inside, in_document}
 
 -- what an arena finds at a path is what the document finds there

@@ -1,31 +1,31 @@
 -- The certificates of the actions of commands, a line for each command.
 use Rattle.std.proofs.Common.{◌≡◌, ℕ, Bool, true, false, List, Option, Some, None, sym, true≢false}
 use Rattle.std.specs.Prelude.{not, codes, if◌then◌else◌}
-use Rattle.edit_commands.specs.HtmlNames.declared.commands.Command.{Command}
-use Rattle.edit_commands.specs.HtmlNames.declared.commands.Command.TheVariants as command
-use Rattle.edit_commands.specs.LiveRange.declared.places.Pair.{Pair}
+use Rattle.edit_model.specs.HtmlNames.declared.commands.Command.{Command}
+use Rattle.edit_model.specs.HtmlNames.declared.commands.Command.TheVariants as command
+use Rattle.edit_model.specs.LiveRange.declared.places.Pair.{Pair}
 use Rattle.edit_model.specs.Action.{Flag, Select}
 use Rattle.edit_model.specs.Run.{Run, ◌>>=◌, ◌>>◌, answer, done, given, select, set_flags}
 use Rattle.edit_model.specs.declared.settings.Flags.{Flags}
-use Rattle.command_laws.specs.EditLaws.Steady.{Steady}
-use Rattle.command_laws.specs.EditLaws.OrderPreserving.{OrderPreserving}
-use Rattle.command_laws.proofs.EditLaws.SteadyRuns.{steady_answer, steady_bind, steady_look_at, steady_if, steady_given, steady_perform}
-use Rattle.command_laws.proofs.EditLaws.OrderPreserving.{order_preserving_answer, order_preserving_bind, order_preserving_look, order_preserving_if, order_preserving_perform}
+use Rattle.edit_laws.specs.Steady.{Steady}
+use Rattle.edit_laws.specs.OrderPreserving.{OrderPreserving}
+use Rattle.edit_laws.proofs.SteadyRuns.{steady_answer, steady_bind, steady_look_at, steady_if, steady_given, steady_perform}
+use Rattle.edit_laws.proofs.OrderPreserving.{order_preserving_answer, order_preserving_bind, order_preserving_look, order_preserving_if, order_preserving_perform}
 use Rattle.command_laws.proofs.BlockRuns.{order_preserving_format_block, steady_format_block, order_preserving_justify, steady_justify}
 use Rattle.command_laws.proofs.DeleteRuns.{steady_delete}
 use Rattle.command_laws.proofs.FormatRuns.{order_preserving_remove_format, steady_remove_format}
 use Rattle.command_laws.proofs.IndentRuns.{order_preserving_indent, steady_indent, order_preserving_outdent, steady_outdent}
 use Rattle.command_laws.proofs.LinkingRuns.{order_preserving_create_link, steady_create_link, order_preserving_unlink, steady_unlink}
 use Rattle.command_laws.proofs.ListToggleRuns.{order_preserving_toggle_lists, steady_toggle_lists}
-use Rattle.edit_commands.specs.ListToggle.declared.toggling.ListKind.TheVariants.{Ordered, Unordered}
+use Rattle.list_toggle.specs.declared.toggling.ListKind.TheVariants.{Ordered, Unordered}
 use Rattle.command_laws.proofs.ObjectRuns.{steady_insert_line_break, steady_insert_horizontal_rule, steady_insert_image}
 use Rattle.command_laws.proofs.RestoringRuns.{order_preserving_restore_states, steady_restore_states}
 use Rattle.command_laws.proofs.TogglingRuns.{order_preserving_toggle_style, steady_toggle_style, order_preserving_toggle_script, steady_toggle_script, order_preserving_apply_value, steady_apply_value}
 use Rattle.command_laws.proofs.TypingRuns.{steady_insert_text, steady_insert_paragraph}
-use Rattle.edit_commands.specs.InlineValue.Overrides.{overrides_of}
-use Rattle.edit_commands.specs.InlineValue.declared.overrides.Override.{Override}
-use Rattle.edit_commands.specs.InlineCommands.RestoringStates.{restore_states}
-use Rattle.edit_commands.specs.EditQuery.Carets.{is_caret}
+use Rattle.inline_value.specs.Overrides.{overrides_of}
+use Rattle.inline_value.specs.declared.overrides.Override.{Override}
+use Rattle.inline_commands.specs.RestoringStates.{restore_states}
+use Rattle.inline_value.specs.EditQuery.Carets.{is_caret}
 use Rattle.edit_engine.specs.Framing.{restore_at_caret, give_back, recorded_action, framed}
 use Rattle.edit_engine.specs.Execution.{run_at}
 use Rattle.edit_engine.specs.Commands.{row_of, own_action, action_of, is_value, flags_taken, set_css_styling, separator_set, set_separator}

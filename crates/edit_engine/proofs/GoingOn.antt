@@ -2,14 +2,14 @@
 use Rattle.std.proofs.Common.{◌≡◌, ℕ, zero, suc, ◌<◌, ◌≤◌, length-append, Bool, true, false, cond, eqb, true≢false, List, [], ◌∷◌, length, take, Option, Some, Ok, refl, sym, ap, subst, ◌∙◌, arith}
 use Rattle.std.specs.Prelude.{nat_lt, ◌&&◌, ◌||◌, ◌↔◌, IsTrue}
 use Rattle.std.proofs.lemmas.Bool.Decides.{nat_tests}
-use Rattle.edit_commands.specs.HtmlNames.declared.commands.Command.{Command}
-use Rattle.edit_commands.specs.UndoLog.declared.log.Committed.{Committed}
-use Rattle.edit_commands.specs.UndoLog.declared.log.Committed.TheVariants as committed
+use Rattle.edit_model.specs.HtmlNames.declared.commands.Command.{Command}
+use Rattle.inline_value.specs.UndoLog.declared.log.Committed.{Committed}
+use Rattle.inline_value.specs.UndoLog.declared.log.Committed.TheVariants as committed
 use Rattle.edit_model.specs.State.{State}
 use Rattle.edit_model.specs.History.{Entry, History, entry_of, with_entry, joined, joined_in, recorded, undone_state, undone_history, undone_history_by, redone_state, redone_history, redone_history_by}
 use Rattle.edit_model.specs.Run.{Run}
-use Rattle.edit_commands.specs.EditDoc.Changes.{resumed_at}
-use Rattle.edit_commands.specs.EditDoc.Whole.{Whole, IsDoc, first_edits}
+use Rattle.inline_value.specs.EditDoc.Changes.{resumed_at}
+use Rattle.inline_value.specs.EditDoc.Whole.{Whole, IsDoc, first_edits}
 use Rattle.edit_engine.specs.Commands.{row_of, types_text}
 use Rattle.edit_engine.specs.declared.following.Following.{Following}
 use Rattle.edit_engine.specs.Following.{IsWithin, after_commit, after_undo, after_redo}

@@ -1,23 +1,23 @@
 -- The label of a node that isn't held is in no document that undo and redo lead to, and no edit of a kept entry names it.
 use Rattle.std.proofs.Common.{◌≡◌, ◌≢◌, ◌⊎◌, ◌↔◌, ℕ, suc, zero, ◌<◌, true, false, cond, eqb, List, [], ◌∷◌, Option, Some, None, IsSome, IfSome, unwrap_or, refl, sym, subst, ◌∙◌, inl, inr, arith}
 use Rattle.std.specs.Prelude.{is_some, slice_index_or}
-use Rattle.edit_commands.specs.DomModel.declared.Content.{Content}
-use Rattle.edit_commands.specs.DomModel.Change as change
-use Rattle.edit_commands.specs.DomModel.ArenaState.{ArenaState, IsSlotted, IsValid, slot_of}
-use Rattle.edit_commands.specs.DomModel.Contents.{has_chars, is_element}
-use Rattle.edit_commands.specs.DomModel.Forest.{Forest, count_of, parent_of, unlink}
-use Rattle.edit_commands.proofs.DomModel.Links.{parent_count}
-use Rattle.edit_commands.proofs.DomModel.Totals.{total-unlink, total-without}
-use Rattle.edit_commands.specs.NodeArena.declared.NodeRef.{NodeRef}
-use Rattle.edit_commands.specs.UndoLog.Turning.{back, forth, inverses_back, FitsBack, FitsForth}
-use Rattle.edit_commands.specs.ForestChanges.Change.{Change, IsForest, Fits, applied, inverse}
-use Rattle.edit_commands.specs.ForestChanges.Named.{Each, listed, named, named_in}
-use Rattle.edit_commands.proofs.ForestChanges.ChangeLists.{each_join, each_first, each_rest, each_of}
-use Rattle.edit_commands.proofs.ForestChanges.Contents.{stands}
-use Rattle.edit_commands.proofs.ForestChanges.Splices.{part_chars}
-use Rattle.edit_commands.proofs.ForestChanges.Twice.{IsForest-applied, IsForest-unlink, back_turns, count_of-applied, given_parent}
+use Rattle.edit_model.specs.DomModel.declared.Content.{Content}
+use Rattle.edit_model.specs.DomModel.Change as change
+use Rattle.edit_model.specs.DomModel.ArenaState.{ArenaState, IsSlotted, IsValid, slot_of}
+use Rattle.edit_model.specs.DomModel.Contents.{has_chars, is_element}
+use Rattle.edit_model.specs.DomModel.Forest.{Forest, count_of, parent_of, unlink}
+use Rattle.edit_model.proofs.DomModel.Links.{parent_count}
+use Rattle.edit_model.proofs.DomModel.Totals.{total-unlink, total-without}
+use Rattle.edit_model.specs.NodeArena.declared.NodeRef.{NodeRef}
+use Rattle.inline_value.specs.UndoLog.Turning.{back, forth, inverses_back, FitsBack, FitsForth}
+use Rattle.inline_value.specs.ForestChanges.Change.{Change, IsForest, Fits, applied, inverse}
+use Rattle.inline_value.specs.ForestChanges.Named.{Each, listed, named, named_in}
+use Rattle.inline_value.proofs.ForestChanges.ChangeLists.{each_join, each_first, each_rest, each_of}
+use Rattle.inline_value.proofs.ForestChanges.Contents.{stands}
+use Rattle.inline_value.proofs.ForestChanges.Splices.{part_chars}
+use Rattle.inline_value.proofs.ForestChanges.Twice.{IsForest-applied, IsForest-unlink, back_turns, count_of-applied, given_parent}
 use Rattle.edit_model.specs.History.{Entry, document_of, at_view, undone_state, undone_state_by, undone_history, undone_history_by, redone_state, redone_state_by, redone_history, redone_history_by}
-use Rattle.edit_commands.specs.EditDoc.Kept.{LeadAllBack, LeadAllForth, HoldsOnlyNeeded}
+use Rattle.inline_value.specs.EditDoc.Kept.{LeadAllBack, LeadAllForth, HoldsOnlyNeeded}
 use Rattle.edit_engine.specs.Editing.{Editing, EditorValue, document, undone, redone, going_past}
 use Rattle.edit_engine.specs.KeptLabels.{IsNeededIn, IsKept, HasNo, NamesNo, IsGone, StayGone}
 use Rattle.edit_engine.specs.Labels.{documents_in}

@@ -2,24 +2,24 @@
 use Rattle.std.proofs.Common.{◌≡◌, ℕ, Bool, List, [], ◌∷◌, length, Option, Some, refl, sym, ap, subst, ◌∙◌, arith}
 use Rattle.std.specs.Prelude.{unwrap_or}
 use Rattle.std.specs.Option.{option_map}
-use Rattle.edit_commands.specs.DomModel.declared.Content.{Content}
-use Rattle.edit_commands.specs.DomModel.declared.Content.TheVariants.{Document, Element, Words, Remark}
-use Rattle.edit_commands.specs.DomModel.declared.attributes.Attribute.{Attribute}
-use Rattle.edit_commands.specs.DomModel.Change as change
-use Rattle.edit_commands.specs.DomModel.Contents.{with_chars, with_attributes}
-use Rattle.edit_commands.specs.DomModel.Forest.{Forest, parent_of, unlink}
-use Rattle.edit_commands.proofs.DomModel.Kept.{content_of-link, content_of-unlink}
-use Rattle.edit_commands.specs.UndoLog.Turning.{back, forth, FitsBack, FitsForth}
-use Rattle.edit_commands.specs.ForestChanges.Change.{Change, IsForest, Fits, applied, spliced_at}
-use Rattle.edit_commands.specs.ForestChanges.Named.{Each}
-use Rattle.edit_commands.proofs.ForestChanges.ChangeLists.{each_join, each_first, each_rest, each_of}
-use Rattle.edit_commands.proofs.ForestChanges.Twice.{IsForest-unlink, IsForest-applied, given_parent}
+use Rattle.edit_model.specs.DomModel.declared.Content.{Content}
+use Rattle.edit_model.specs.DomModel.declared.Content.TheVariants.{Document, Element, Words, Remark}
+use Rattle.edit_model.specs.DomModel.declared.attributes.Attribute.{Attribute}
+use Rattle.edit_model.specs.DomModel.Change as change
+use Rattle.edit_model.specs.DomModel.Contents.{with_chars, with_attributes}
+use Rattle.edit_model.specs.DomModel.Forest.{Forest, parent_of, unlink}
+use Rattle.edit_model.proofs.DomModel.Kept.{content_of-link, content_of-unlink}
+use Rattle.inline_value.specs.UndoLog.Turning.{back, forth, FitsBack, FitsForth}
+use Rattle.inline_value.specs.ForestChanges.Change.{Change, IsForest, Fits, applied, spliced_at}
+use Rattle.inline_value.specs.ForestChanges.Named.{Each}
+use Rattle.inline_value.proofs.ForestChanges.ChangeLists.{each_join, each_first, each_rest, each_of}
+use Rattle.inline_value.proofs.ForestChanges.Twice.{IsForest-unlink, IsForest-applied, given_parent}
 use Rattle.edit_model.specs.State.{State}
 use Rattle.edit_model.specs.History.{Entry, document_of, undone_state, undone_state_by, undone_history, redone_state, redone_state_by, redone_history, at_view}
-use Rattle.edit_commands.specs.EditDoc.Whole.{Whole}
-use Rattle.edit_commands.specs.EditDoc.Kept.{LeadAllBack, LeadAllForth, HoldsOnlyNeeded}
-use Rattle.command_laws.specs.EditLaws.Kinds.{Kind, kind_in, kind_of, SameKinds}
-use Rattle.command_laws.proofs.EditLaws.StayingKinds.{kind_of-revised, kind-tree}
+use Rattle.inline_value.specs.EditDoc.Whole.{Whole}
+use Rattle.inline_value.specs.EditDoc.Kept.{LeadAllBack, LeadAllForth, HoldsOnlyNeeded}
+use Rattle.edit_laws.specs.Kinds.{Kind, kind_in, kind_of, SameKinds}
+use Rattle.edit_laws.proofs.StayingKinds.{kind_of-revised, kind-tree}
 use Rattle.edit_engine.specs.Editing.{Editing, EditorValue, value_of, document, undone, redone}
 use Rattle.edit_engine.specs.declared.following.Following.{Following}
 use Rattle.edit_engine.specs.declared.going.Going.{Going}

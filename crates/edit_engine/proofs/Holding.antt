@@ -1,7 +1,7 @@
 -- Which nodes an editor holds.
 use Rattle.std.proofs.Common.{◌≡◌, Bool, Option, subst}
-use Rattle.edit_commands.specs.EditDoc.Kept.{HoldsOnlyNeeded}
-use Rattle.edit_commands.specs.EditDoc.Whole.{Began, Whole, IsClosed}
+use Rattle.inline_value.specs.EditDoc.Kept.{HoldsOnlyNeeded}
+use Rattle.inline_value.specs.EditDoc.Whole.{Began, Whole, IsClosed}
 use Rattle.edit_engine.specs.Editing.{EditorValue, value_of, document}
 use Rattle.edit_engine.specs.declared.following.Following.{Following}
 use Rattle.edit_engine.specs.declared.going.Going.{Going}

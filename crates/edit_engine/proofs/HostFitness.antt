@@ -1,15 +1,15 @@
 -- The certificates of the actions of commands that leave the selection in the host, a line for each command.
 use Rattle.std.proofs.Common.{ℕ, Bool, true, false, List, Option, Some, None}
 use Rattle.std.specs.Prelude.{not, codes, if◌then◌else◌}
-use Rattle.edit_commands.specs.DomModel.declared.Content.{Content}
-use Rattle.edit_commands.specs.DomModel.Forest.{Forest}
-use Rattle.edit_commands.specs.HtmlNames.declared.commands.Command.{Command}
-use Rattle.edit_commands.specs.HtmlNames.declared.commands.Command.TheVariants as command
+use Rattle.edit_model.specs.DomModel.declared.Content.{Content}
+use Rattle.edit_model.specs.DomModel.Forest.{Forest}
+use Rattle.edit_model.specs.HtmlNames.declared.commands.Command.{Command}
+use Rattle.edit_model.specs.HtmlNames.declared.commands.Command.TheVariants as command
 use Rattle.edit_model.specs.Action.{Flag}
 use Rattle.edit_model.specs.Run.{Run, ◌>>=◌, ◌>>◌, answer, done, given, set_flags}
 use Rattle.edit_model.specs.declared.settings.Flags.{Flags}
-use Rattle.command_laws.specs.EditLaws.InHost.{StaysInHost}
-use Rattle.command_laws.proofs.EditLaws.HostRuns.{Stays, stays_answer, stays_bind, stays_look_at, stays_if, stays_given, stays_perform, stays_calm, in_host}
+use Rattle.edit_laws.specs.InHost.{StaysInHost}
+use Rattle.edit_laws.proofs.HostRuns.{Stays, stays_answer, stays_bind, stays_look_at, stays_if, stays_given, stays_perform, stays_calm, in_host}
 use Rattle.selection_laws.proofs.CalmBlocks.{calm_format_block, calm_justify}
 use Rattle.selection_laws.proofs.CalmFormats.{calm_unlink}
 use Rattle.selection_laws.proofs.CalmIndents.{calm_indent, calm_outdent}
@@ -18,15 +18,15 @@ use Rattle.selection_laws.proofs.StayingLines.{stays_insert_paragraph, stays_ins
 use Rattle.selection_laws.proofs.StayingLists.{stays_toggle_lists}
 use Rattle.selection_laws.proofs.StayingObjects.{stays_insert_line_break, stays_insert_horizontal_rule, stays_insert_image}
 use Rattle.selection_laws.proofs.StayingValues.{stays_toggle_style, stays_toggle_script, stays_create_link, stays_remove_format, stays_apply_value, stays_restore_states}
-use Rattle.edit_commands.specs.BlockCommands.FormatBlock.{format_block}
-use Rattle.edit_commands.specs.BlockCommands.Justify.{justify}
-use Rattle.edit_commands.specs.InlineCommands.RestoringStates.{restore_states}
-use Rattle.edit_commands.specs.InlineCommands.Unlink.{unlink}
-use Rattle.edit_commands.specs.InlineValue.Overrides.{overrides_of}
-use Rattle.edit_commands.specs.InlineValue.declared.overrides.Override.{Override}
-use Rattle.edit_commands.specs.ListIndent.Commands.{indent, outdent}
-use Rattle.edit_commands.specs.ListToggle.declared.toggling.ListKind.TheVariants.{Ordered, Unordered}
-use Rattle.edit_commands.specs.EditQuery.Carets.{is_caret}
+use Rattle.block_commands.specs.FormatBlock.{format_block}
+use Rattle.block_commands.specs.Justify.{justify}
+use Rattle.inline_commands.specs.RestoringStates.{restore_states}
+use Rattle.inline_commands.specs.Unlink.{unlink}
+use Rattle.inline_value.specs.Overrides.{overrides_of}
+use Rattle.inline_value.specs.declared.overrides.Override.{Override}
+use Rattle.list_indent.specs.Commands.{indent, outdent}
+use Rattle.list_toggle.specs.declared.toggling.ListKind.TheVariants.{Ordered, Unordered}
+use Rattle.inline_value.specs.EditQuery.Carets.{is_caret}
 use Rattle.edit_engine.specs.Framing.{restore_at_caret, give_back, recorded_action, framed}
 use Rattle.edit_engine.specs.Commands.{row_of, own_action, action_of, is_value, flags_taken, set_css_styling, separator_set, set_separator}
 

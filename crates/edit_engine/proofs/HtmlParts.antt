@@ -1,16 +1,16 @@
 -- The HTML of documents that differ in the children of one node alone.
 use Rattle.std.proofs.Common.{◌≡◌, ℕ, ◌<◌, List, ◌++◌, Option, Some, None, refl, sym, ap, ◌∙◌, append_assoc}
 use Rattle.std.proofs.lemmas.List.{append-nil}
-use Rattle.edit_commands.specs.DomModel.declared.Content.{Content}
-use Rattle.edit_commands.specs.DomModel.declared.Content.TheVariants.{Document}
-use Rattle.edit_commands.specs.DomModel.Forest.{Forest, seek, tops, count_of, tree_of}
-use Rattle.edit_commands.specs.DomModel.Forest.Forest.{Nil, Tree}
-use Rattle.step_text.specs.PageWrite.Html.{opening, closing, html_of, document_html}
+use Rattle.edit_model.specs.DomModel.declared.Content.{Content}
+use Rattle.edit_model.specs.DomModel.declared.Content.TheVariants.{Document}
+use Rattle.edit_model.specs.DomModel.Forest.{Forest, seek, tops, count_of, tree_of}
+use Rattle.edit_model.specs.DomModel.Forest.Forest.{Nil, Tree}
+use Rattle.page_write.specs.Html.{opening, closing, html_of, document_html}
 use Rattle.edit_model.specs.Outside.{hollowed, outside_by}
 use Rattle.edit_model.specs.Valid.{IsForest}
 use Rattle.edit_model.proofs.Documents.{document_shape}
-use Rattle.command_laws.specs.EditLaws.BelowHost.{below}
-use Rattle.command_laws.proofs.EditLaws.HostParts.{told, lead, trail, parts, parts_again}
+use Rattle.edit_laws.specs.BelowHost.{below}
+use Rattle.edit_laws.proofs.HostParts.{told, lead, trail, parts, parts_again}
 use Rattle.edit_engine.specs.HtmlAround.{html_before, html_after, DiffersInside, KeepsHtmlAround}
 
 opens : ℕ → Content → List ℕ

@@ -2,8 +2,8 @@
 use Rattle.std.proofs.Common.{◌≡◌, sym, subst, refl}
 use Rattle.edit_model.specs.Action.{Flag, acted}
 use Rattle.edit_model.specs.declared.settings.Flags.{Flags}
-use Rattle.edit_commands.specs.EditDoc.Whole.{Whole, with_state}
-use Rattle.edit_commands.specs.EditDoc.Held.{Keeps}
+use Rattle.inline_value.specs.EditDoc.Whole.{Whole, with_state}
+use Rattle.inline_value.specs.EditDoc.Held.{Keeps}
 
 pub flags_kept : (d new : Whole) (flags : Flags) → new ≡ with_state d (acted (Flag flags) d.state) → Keeps d new
 unfolding acted

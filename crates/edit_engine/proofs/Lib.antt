@@ -24,11 +24,4 @@ pub mod ReplayedEntries
 pub mod Logging
 pub mod PlainRuns
 pub mod Ignoring
-pub use Rattle.edit_commands.proofs.EditDoc
-pub use Rattle.command_laws.proofs.EditLaws
-pub use Rattle.edit_model.proofs as EditModel
-pub use Rattle.edit_commands.proofs.ForestChanges
-pub use Rattle.edit_commands.proofs.LiveRange
-pub use Rattle.step_text.proofs.ScriptRead
-pub use Rattle.step_text.proofs as StepText
 pub mod Below

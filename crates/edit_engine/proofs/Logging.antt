@@ -4,9 +4,9 @@ use Rattle.std.specs.List.{flat_map}
 use Rattle.std.specs.Prelude.{OnOk}
 use Rattle.std.proofs.lemmas.Grind.{flat_map-append}
 use Rattle.std.proofs.lemmas.List.Folds.{flat_map-map}
-use Rattle.edit_commands.specs.EditDoc.Logged.{Logged}
-use Rattle.edit_commands.specs.EditDoc.declared.logged.LoggedEdit.{LoggedEdit}
-use Rattle.edit_commands.specs.EditDoc.declared.logged.MadeNode.{MadeNode}
+use Rattle.inline_value.specs.EditDoc.Logged.{Logged}
+use Rattle.inline_value.specs.EditDoc.declared.logged.LoggedEdit.{LoggedEdit}
+use Rattle.inline_value.specs.EditDoc.declared.logged.MadeNode.{MadeNode}
 use Rattle.step_text.specs.declared.line.StepLine.TheVariants as steps
 use Rattle.edit_engine.specs.Logs.{made_steps, edit_step, entry_steps, step_line, step_lines}
 

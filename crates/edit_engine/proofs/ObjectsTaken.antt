@@ -1,13 +1,13 @@
 -- The commands answer true, whatever they do; insertImage where it has a value.
 use Rattle.std.proofs.Common.{◌≡◌, ℕ, Bool, true, false, if◌then◌else◌, List, Option, Some, None, refl}
-use Rattle.edit_commands.specs.LiveRange.declared.places.Point.{Point}
+use Rattle.edit_model.specs.LiveRange.declared.places.Point.{Point}
 use Rattle.edit_model.specs.State.{State}
 use Rattle.edit_model.specs.Run.{Run, value, ◌>>=◌, answer, look, given}
-use Rattle.edit_commands.specs.TextInsertion.Start.{start_inside}
-use Rattle.edit_commands.specs.InsertObjects.Putting.{from_start_inside}
-use Rattle.edit_commands.specs.InsertObjects.LineBreak.{takes_break, put_break, break_line, insert_line_break}
-use Rattle.edit_commands.specs.InsertObjects.Rule.{put_rule, insert_horizontal_rule}
-use Rattle.edit_commands.specs.InsertObjects.Image.{put_image, show_image, insert_source}
+use Rattle.text_insertion.specs.Start.{start_inside}
+use Rattle.insert_objects.specs.Putting.{from_start_inside}
+use Rattle.insert_objects.specs.LineBreak.{takes_break, put_break, break_line, insert_line_break}
+use Rattle.insert_objects.specs.Rule.{put_rule, insert_horizontal_rule}
+use Rattle.insert_objects.specs.Image.{put_image, show_image, insert_source}
 
 given_true : (o : Option Point) (k : Point → Run Bool) (s : State) → ((p : Point) (t : State) → value (k p) t ≡ true) → value (given o (answer true) k) s ≡ true
 unfolding value answer

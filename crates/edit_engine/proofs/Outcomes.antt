@@ -3,10 +3,10 @@ use Rattle.std.proofs.Common.{◌≡◌, ℕ, Bool, true, false, List, length, O
 use Rattle.std.specs.Prelude.{nat_lt}
 use Rattle.std.proofs.lemmas.Bool.Decides.{nat_tests}
 use Rattle.command_gate.specs.Denied.{is_denied}
-use Rattle.edit_commands.specs.LiveRange.declared.places.Pair.{Pair}
-use Rattle.edit_commands.specs.HtmlNames.Commands.{command_named}
-use Rattle.edit_commands.specs.HtmlNames.declared.commands.Command.{Command}
-use Rattle.edit_commands.specs.DomModel.Document.{page_depth}
+use Rattle.edit_model.specs.LiveRange.declared.places.Pair.{Pair}
+use Rattle.edit_model.specs.HtmlNames.Commands.{command_named}
+use Rattle.edit_model.specs.HtmlNames.declared.commands.Command.{Command}
+use Rattle.edit_model.specs.DomModel.Document.{page_depth}
 use Rattle.edit_model.specs.State.{State, IsPastCap}
 use Rattle.edit_model.specs.Gives.{Fails}
 use Rattle.edit_model.specs.declared.settings.EditFault.{EditFault}
@@ -14,7 +14,7 @@ use Rattle.edit_model.specs.declared.settings.EditFault.TheVariants as edit
 use Rattle.edit_model.specs.History.{begun}
 use Rattle.edit_model.specs.Run.{Run}
 use Rattle.edit_model.proofs.Steps.{final_cap}
-use Rattle.edit_commands.specs.EditDoc.Whole.{Whole}
+use Rattle.inline_value.specs.EditDoc.Whole.{Whole}
 use Rattle.edit_engine.specs.Commands.{row_of, action_of, is_enabled_in}
 use Rattle.edit_engine.specs.Editing.{Editing}
 use Rattle.edit_engine.specs.Execution.{Outcome, Refused, Deep, Acted, host_at, run_at, ran, run_outcome, command_outcome, outcome_by, outcome, gated_outcome, Tells, TellsReplaced}

@@ -3,14 +3,14 @@ use Rattle.std.proofs.Common.{◌≡◌, ℕ, zero, suc, ◌+◌, ◌^◌, true,
 use Rattle.std.specs.Prelude.{◌==◌}
 use Rattle.std.specs.Option.{option_map_or}
 use Rattle.std.proofs.lemmas.Bool.{and_parts}
-use Rattle.edit_commands.specs.DomModel.declared.Content.{Content}
-use Rattle.edit_commands.specs.DomModel.declared.Content.TheVariants.{Document, Element, Words, Remark}
-use Rattle.edit_commands.specs.DomModel.Forest.{Forest, children_of, content_of}
-use Rattle.edit_commands.proofs.DomModel.Stands.{true_or_false}
-use Rattle.edit_commands.specs.LiveRange.declared.places.Point.{Point}
-use Rattle.edit_commands.specs.PointOrder.PointOrder.{child_toward}
-use Rattle.edit_commands.specs.ForestChanges.Named.{Each}
-use Rattle.edit_commands.proofs.ForestChanges.ChangeLists.{each_join}
+use Rattle.edit_model.specs.DomModel.declared.Content.{Content}
+use Rattle.edit_model.specs.DomModel.declared.Content.TheVariants.{Document, Element, Words, Remark}
+use Rattle.edit_model.specs.DomModel.Forest.{Forest, children_of, content_of}
+use Rattle.edit_model.proofs.DomModel.Stands.{true_or_false}
+use Rattle.edit_model.specs.LiveRange.declared.places.Point.{Point}
+use Rattle.edit_model.specs.PointOrder.PointOrder.{child_toward}
+use Rattle.inline_value.specs.ForestChanges.Named.{Each}
+use Rattle.inline_value.proofs.ForestChanges.ChangeLists.{each_join}
 use Rattle.edit_model.specs.State.{State}
 use Rattle.edit_model.specs.Confined.{is_own, may_change, may_replace}
 use Rattle.edit_model.specs.Edit.{Edit, Insert, Remove, Move, Replace, Set, Unset, change_of, is_made_edit}

@@ -1,40 +1,40 @@
 -- Actions that answer false leave the state.
 use Rattle.std.proofs.Common.{◌≡◌, ℕ, Bool, true, false, true≢false, not, sym, ◌∙◌, List, [], ◌∷◌, Option, Some, None, refl, subst}
 use Rattle.std.specs.Prelude.{codes, if◌then◌else◌}
-use Rattle.edit_commands.specs.HtmlNames.declared.commands.Command.{Command}
-use Rattle.edit_commands.specs.HtmlNames.declared.commands.Command.TheVariants as command
+use Rattle.edit_model.specs.HtmlNames.declared.commands.Command.{Command}
+use Rattle.edit_model.specs.HtmlNames.declared.commands.Command.TheVariants as command
 use Rattle.edit_model.specs.State.{State}
 use Rattle.edit_model.specs.Run.{Run, final, value, ◌>>=◌, ◌>>◌, answer, look, given, set_flags}
 use Rattle.edit_engine.specs.Framing.{give_back, recorded_action, framed}
-use Rattle.edit_commands.specs.InlineValue.Overrides.{overrides_of}
-use Rattle.edit_commands.specs.InlineValue.declared.overrides.Override.{Override}
+use Rattle.inline_value.specs.Overrides.{overrides_of}
+use Rattle.inline_value.specs.declared.overrides.Override.{Override}
 use Rattle.edit_engine.specs.Commands.{row_of, own_action, flags_taken, is_value, separator_set, set_css_styling, set_separator}
 use Rattle.edit_engine.specs.Refusals.{LeavesRefused, RefusalsLeave}
-use Rattle.edit_commands.specs.EditQuery.ListStates.{is_list_state, list_state}
-use Rattle.edit_commands.specs.EditQuery.Queries.{state_of}
-use Rattle.edit_commands.specs.HtmlNames.ElementNames as names
-use Rattle.edit_commands.specs.BlockCommands.FormatBlock.{block_name, is_formatted, split_blocks, format_next, format_range, format_block}
-use Rattle.edit_commands.specs.BlockCommands.Justify.{is_misaligned, clear_alignments, align_next, justify}
-use Rattle.edit_commands.specs.BlockCommands.Series.{in_turns}
-use Rattle.edit_commands.specs.EditQuery.Gathered.{outermost}
-use Rattle.edit_commands.specs.ListIndent.Commands.{normalize_range, is_indentable, indent_nodes, indent, is_outdentable, outdent_nodes, outdent}
-use Rattle.edit_commands.specs.ListToggle.Toggle.{is_ordered, toggle_off, toggle_on, toggle_lists}
-use Rattle.edit_commands.specs.ListToggle.declared.toggling.ListKind.{ListKind}
-use Rattle.edit_commands.specs.ListToggle.declared.toggling.ListKind.TheVariants.{Ordered, Unordered}
-use Rattle.edit_commands.specs.TextInsertion.Paragraph.{insert_paragraph_inside, insert_paragraph}
-use Rattle.edit_commands.specs.TextInsertion.Typing.{insert_chars, insert_text}
-use Rattle.edit_commands.specs.TextDeletion.Delete.{delete}
-use Rattle.edit_commands.proofs.TextDeletion.Taken.{delete_answers_true}
-use Rattle.edit_commands.specs.InsertObjects.LineBreak.{insert_line_break}
-use Rattle.edit_commands.specs.InsertObjects.Rule.{insert_horizontal_rule}
-use Rattle.edit_commands.specs.InsertObjects.Image.{insert_source, insert_image}
+use Rattle.inline_value.specs.EditQuery.ListStates.{is_list_state, list_state}
+use Rattle.inline_value.specs.EditQuery.Queries.{state_of}
+use Rattle.edit_model.specs.HtmlNames.ElementNames as names
+use Rattle.block_commands.specs.FormatBlock.{block_name, is_formatted, split_blocks, format_next, format_range, format_block}
+use Rattle.block_commands.specs.Justify.{is_misaligned, clear_alignments, align_next, justify}
+use Rattle.block_commands.specs.Series.{in_turns}
+use Rattle.inline_value.specs.EditQuery.Gathered.{outermost}
+use Rattle.list_indent.specs.Commands.{normalize_range, is_indentable, indent_nodes, indent, is_outdentable, outdent_nodes, outdent}
+use Rattle.list_toggle.specs.Toggle.{is_ordered, toggle_off, toggle_on, toggle_lists}
+use Rattle.list_toggle.specs.declared.toggling.ListKind.{ListKind}
+use Rattle.list_toggle.specs.declared.toggling.ListKind.TheVariants.{Ordered, Unordered}
+use Rattle.text_insertion.specs.Paragraph.{insert_paragraph_inside, insert_paragraph}
+use Rattle.text_insertion.specs.Typing.{insert_chars, insert_text}
+use Rattle.text_deletion.specs.Delete.{delete}
+use Rattle.text_deletion.proofs.Taken.{delete_answers_true}
+use Rattle.insert_objects.specs.LineBreak.{insert_line_break}
+use Rattle.insert_objects.specs.Rule.{insert_horizontal_rule}
+use Rattle.insert_objects.specs.Image.{insert_source, insert_image}
 use Rattle.edit_engine.proofs.ObjectsTaken.{line_break_answers_true, rule_answers_true, image_answers_true}
-use Rattle.edit_commands.specs.InlineValue.Selections.{split_ends, set_value}
-use Rattle.edit_commands.specs.InlineCommands.Linking.{relink_range, link_range, create_link}
-use Rattle.edit_commands.specs.InlineCommands.RemovingFormat.{unwrap_candidates, part_nodes, clear_commands, remove_format}
-use Rattle.edit_commands.specs.InlineCommands.Toggling.{style_on, toggled, set_toggled, toggle_style, script_on, set_unless, set_script, toggle_script}
-use Rattle.edit_commands.specs.InlineCommands.Unlink.{clear_links, links_touched, unlink}
-use Rattle.edit_commands.specs.InlineCommands.ValueCommands.{value_taken, set_taken, take, apply_value}
+use Rattle.inline_value.specs.Selections.{split_ends, set_value}
+use Rattle.inline_commands.specs.Linking.{relink_range, link_range, create_link}
+use Rattle.inline_commands.specs.RemovingFormat.{unwrap_candidates, part_nodes, clear_commands, remove_format}
+use Rattle.inline_commands.specs.Toggling.{style_on, toggled, set_toggled, toggle_style, script_on, set_unless, set_script, toggle_script}
+use Rattle.inline_commands.specs.Unlink.{clear_links, links_touched, unlink}
+use Rattle.inline_commands.specs.ValueCommands.{value_taken, set_taken, take, apply_value}
 
 leaves_true : {A : Type 0} (m : Run A) → LeavesRefused (m >> answer true)
 unfolding value ◌>>=◌ answer

@@ -5,38 +5,38 @@ use Rattle.std.proofs.lemmas.List.{reverse-append}
 use Rattle.std.specs.Prelude.{◌&&◌}
 use Rattle.std.specs.Option.{option_map}
 use Rattle.std.proofs.lemmas.Bool.Decides.{eqb_tells, nat_tests}
-use Rattle.edit_commands.specs.DomModel.declared.Content.{Content}
-use Rattle.edit_commands.specs.DomModel.Forest.{Forest, Seen, RisesFrom, tops, times, either, count_of, content_of, tree_of, with_leaf}
-use Rattle.edit_commands.specs.DomModel.Forest.Forest.{Nil, Tree}
-use Rattle.edit_commands.specs.DomModel.Pruned.{pruned}
-use Rattle.edit_commands.proofs.DomModel.Kept.{content_of-with_leaf_new, content_of-with_leaf_other}
-use Rattle.edit_commands.proofs.DomModel.Pruning.{tree_of-pruned}
-use Rattle.edit_commands.proofs.DomModel.Stands.{times-tops, seek_absent}
-use Rattle.edit_commands.proofs.DomModel.Walks.{document_first}
-use Rattle.edit_commands.specs.UndoLog.Turning.{forth, FitsForth}
-use Rattle.edit_commands.specs.ForestChanges.Change.{Change, Remove, Insert, Move, SetText, Splice, SetAttributes, IsForest, Fits, applied, whole, wholes}
-use Rattle.edit_commands.specs.ForestChanges.Down.{Prunes}
-use Rattle.edit_commands.specs.ForestChanges.Leaves.{IsBelow, IsMade}
-use Rattle.edit_commands.specs.ForestChanges.Named.{Each}
-use Rattle.edit_commands.proofs.ForestChanges.BesideLeaf.{fresh}
-use Rattle.edit_commands.proofs.ForestChanges.ChangeLists.{each_join, forth_down, forth_fits_up}
-use Rattle.edit_commands.proofs.ForestChanges.DownChange.{IsForest-pruned, prunes_roots}
-use Rattle.edit_commands.proofs.ForestChanges.ManyLeaves.{has_made, pruned-with_leaf, Prunes-with_leaf}
-use Rattle.edit_commands.proofs.ForestChanges.Places.{rising_top}
-use Rattle.edit_commands.proofs.ForestChanges.Wholes.{fits_wholes, forth_wholes}
+use Rattle.edit_model.specs.DomModel.declared.Content.{Content}
+use Rattle.edit_model.specs.DomModel.Forest.{Forest, Seen, RisesFrom, tops, times, either, count_of, content_of, tree_of, with_leaf}
+use Rattle.edit_model.specs.DomModel.Forest.Forest.{Nil, Tree}
+use Rattle.edit_model.specs.DomModel.Pruned.{pruned}
+use Rattle.edit_model.proofs.DomModel.Kept.{content_of-with_leaf_new, content_of-with_leaf_other}
+use Rattle.edit_model.proofs.DomModel.Pruning.{tree_of-pruned}
+use Rattle.edit_model.proofs.DomModel.Stands.{times-tops, seek_absent}
+use Rattle.edit_model.proofs.DomModel.Walks.{document_first}
+use Rattle.inline_value.specs.UndoLog.Turning.{forth, FitsForth}
+use Rattle.inline_value.specs.ForestChanges.Change.{Change, Remove, Insert, Move, SetText, Splice, SetAttributes, IsForest, Fits, applied, whole, wholes}
+use Rattle.inline_value.specs.ForestChanges.Down.{Prunes}
+use Rattle.inline_value.specs.ForestChanges.Leaves.{IsBelow, IsMade}
+use Rattle.inline_value.specs.ForestChanges.Named.{Each}
+use Rattle.inline_value.proofs.ForestChanges.BesideLeaf.{fresh}
+use Rattle.inline_value.proofs.ForestChanges.ChangeLists.{each_join, forth_down, forth_fits_up}
+use Rattle.inline_value.proofs.ForestChanges.DownChange.{IsForest-pruned, prunes_roots}
+use Rattle.inline_value.proofs.ForestChanges.ManyLeaves.{has_made, pruned-with_leaf, Prunes-with_leaf}
+use Rattle.inline_value.proofs.ForestChanges.Places.{rising_top}
+use Rattle.inline_value.proofs.ForestChanges.Wholes.{fits_wholes, forth_wholes}
 use Rattle.edit_model.specs.History.{Entry, History, document_of}
 use Rattle.edit_model.proofs.Resting.{forest-document}
-use Rattle.edit_commands.proofs.EditDoc.Downs.{forth_forest, forth_labels}
-use Rattle.edit_commands.proofs.EditDoc.HiddenTrees.{and_true, both_true, lt_true, true_lt, top_loose, model_forest}
-use Rattle.edit_commands.proofs.EditDoc.Onwards.{past_weaker, leads_lower, lead_low, lead_longer}
+use Rattle.inline_value.proofs.EditDoc.Downs.{forth_forest, forth_labels}
+use Rattle.inline_value.proofs.EditDoc.HiddenTrees.{and_true, both_true, lt_true, true_lt, top_loose, model_forest}
+use Rattle.inline_value.proofs.EditDoc.Onwards.{past_weaker, leads_lower, lead_low, lead_longer}
 use Rattle.step_text.specs.declared.line.StepLine.{StepLine}
 use Rattle.step_text.specs.declared.line.StepLine.TheVariants as steps
 use Rattle.step_text.specs.Applying.{Labelled, replayed_from, replayed}
 use Rattle.step_text.proofs.Replays.{entry_led, one_led}
-use Rattle.edit_commands.specs.EditDoc.Logged.{logged_edit, logged_entry, made_node, content_made, content_in}
+use Rattle.inline_value.specs.EditDoc.Logged.{logged_edit, logged_entry, made_node, content_made, content_in}
 use Rattle.edit_engine.specs.Editing.{Editing}
 use Rattle.edit_engine.specs.Logs.{made_steps, edit_step, entry_steps, log_steps}
-use Rattle.edit_commands.specs.EditDoc.Onward.{with_made, RiseFrom, next_past, at_begin, LeadsOnward, LeadOnward, LeadFrom}
+use Rattle.inline_value.specs.EditDoc.Onward.{with_made, RiseFrom, next_past, at_begin, LeadsOnward, LeadOnward, LeadFrom}
 use Rattle.edit_engine.specs.Replaying.{StayShallow, IsPlainEntry, page_before, LogReplays}
 use Rattle.edit_engine.proofs.ReplayedSteps.{AreContents, own_contents, lab, line_with, said_wholes, shallow_wholes, edits_replayed, made_lines, makes_replayed}
 

@@ -1,28 +1,28 @@
 -- The lines of an entry, one after another: none is refused, and they make the nodes and then the changes of the entry.
 use Rattle.std.proofs.Common.{◌≡◌, ℕ, ◌+◌, ◌≤◌, Bool, true, false, true≢false, cond, map, List, [], ◌∷◌, ◌++◌, length, Option, Some, None, Ok, unwrap_or, refl, sym, ap, subst, ◌∙◌, arith, eqb}
 use Rattle.std.specs.Option.{option_map, option_map_or, option_and_then}
-use Rattle.edit_commands.specs.DomModel.declared.attributes.Attribute.{Attribute}
-use Rattle.edit_commands.specs.DomModel.declared.Content.{Content}
-use Rattle.edit_commands.specs.DomModel.declared.Content.TheVariants.{Document, Element, Words, Remark}
-use Rattle.edit_commands.specs.DomModel.Contents.{is_element, is_element_at, name_in, name_of, with_chars, with_attributes}
-use Rattle.edit_commands.specs.DomModel.Document.{page_depth}
-use Rattle.edit_commands.specs.DomModel.Forest.{Forest, parent_of, content_of, with_leaf, unlink}
-use Rattle.edit_commands.specs.DomModel.Places.{levels, kids_in}
-use Rattle.edit_commands.specs.DomModel.Revised.{revised}
-use Rattle.edit_commands.specs.DomModel.Pruned.{pruned}
-use Rattle.edit_commands.proofs.DomModel.Kept.{content_of-link, content_of-unlink}
-use Rattle.edit_commands.proofs.DomModel.Revising.{content_of-revised}
-use Rattle.edit_commands.proofs.DomModel.Pruning.{tree_of-pruned}
-use Rattle.edit_commands.specs.UndoLog.Turning.{forth, FitsForth}
-use Rattle.edit_commands.specs.ForestChanges.Change.{Change, Remove, Insert, Move, SetText, Splice, SetAttributes, IsForest, Fits, applied, spliced_at, whole, wholes}
-use Rattle.edit_commands.specs.ForestChanges.Down.{Prunes, IsLeft}
-use Rattle.edit_commands.specs.ForestChanges.Named.{Each, named}
-use Rattle.edit_commands.proofs.ForestChanges.Contents.{here_is}
-use Rattle.edit_commands.proofs.ForestChanges.DownChange.{down, up, IsForest-pruned}
-use Rattle.edit_commands.proofs.ForestChanges.PrunedChanges.{content_of-pruned}
-use Rattle.edit_commands.proofs.ForestChanges.Twice.{given_parent, IsForest-unlink, IsForest-applied}
-use Rattle.edit_commands.proofs.ForestChanges.Wholes.{applied_whole}
-use Rattle.edit_commands.proofs.EditDoc.Onwards.{below_past}
+use Rattle.edit_model.specs.DomModel.declared.attributes.Attribute.{Attribute}
+use Rattle.edit_model.specs.DomModel.declared.Content.{Content}
+use Rattle.edit_model.specs.DomModel.declared.Content.TheVariants.{Document, Element, Words, Remark}
+use Rattle.edit_model.specs.DomModel.Contents.{is_element, is_element_at, name_in, name_of, with_chars, with_attributes}
+use Rattle.edit_model.specs.DomModel.Document.{page_depth}
+use Rattle.edit_model.specs.DomModel.Forest.{Forest, parent_of, content_of, with_leaf, unlink}
+use Rattle.edit_model.specs.DomModel.Places.{levels, kids_in}
+use Rattle.edit_model.specs.DomModel.Revised.{revised}
+use Rattle.edit_model.specs.DomModel.Pruned.{pruned}
+use Rattle.edit_model.proofs.DomModel.Kept.{content_of-link, content_of-unlink}
+use Rattle.edit_model.proofs.DomModel.Revising.{content_of-revised}
+use Rattle.edit_model.proofs.DomModel.Pruning.{tree_of-pruned}
+use Rattle.inline_value.specs.UndoLog.Turning.{forth, FitsForth}
+use Rattle.inline_value.specs.ForestChanges.Change.{Change, Remove, Insert, Move, SetText, Splice, SetAttributes, IsForest, Fits, applied, spliced_at, whole, wholes}
+use Rattle.inline_value.specs.ForestChanges.Down.{Prunes, IsLeft}
+use Rattle.inline_value.specs.ForestChanges.Named.{Each, named}
+use Rattle.inline_value.proofs.ForestChanges.Contents.{here_is}
+use Rattle.inline_value.proofs.ForestChanges.DownChange.{down, up, IsForest-pruned}
+use Rattle.inline_value.proofs.ForestChanges.PrunedChanges.{content_of-pruned}
+use Rattle.inline_value.proofs.ForestChanges.Twice.{given_parent, IsForest-unlink, IsForest-applied}
+use Rattle.inline_value.proofs.ForestChanges.Wholes.{applied_whole}
+use Rattle.inline_value.proofs.EditDoc.Onwards.{below_past}
 use Rattle.step_text.specs.declared.line.Made.{Made}
 use Rattle.step_text.specs.declared.line.Made.TheVariants as made
 use Rattle.step_text.specs.declared.line.StepLine.{StepLine}
@@ -30,8 +30,8 @@ use Rattle.step_text.specs.declared.line.StepLine.TheVariants as steps
 use Rattle.step_text.specs.Applying.{Labelled, is_text, made_content, replayed_from}
 use Rattle.step_text.specs.Replaying.{CanSay, line_of}
 use Rattle.step_text.proofs.Replays.{change_led, make_led, one_led}
-use Rattle.edit_commands.specs.EditDoc.Logged.{element_name}
-use Rattle.edit_commands.specs.EditDoc.Onward.{with_made, RiseFrom, next_past}
+use Rattle.inline_value.specs.EditDoc.Logged.{element_name}
+use Rattle.inline_value.specs.EditDoc.Onward.{with_made, RiseFrom, next_past}
 use Rattle.edit_engine.specs.Logs.{content_steps}
 use Rattle.edit_engine.specs.Replaying.{can_be_made, ChangesText, StayShallow}
 

@@ -3,24 +3,24 @@ use Rattle.std.proofs.Common.{◌≡◌, ℕ, ◌<◌, ◌≤◌, Bool, true, fa
 use Rattle.std.specs.Prelude.{nat_le}
 use Rattle.std.specs.List.{All}
 use Rattle.std.proofs.lemmas.Bool.Decides.{nat_tests}
-use Rattle.edit_commands.specs.DomModel.declared.Content.{Content}
-use Rattle.edit_commands.specs.DomModel.Forest.{Forest, count_of, tree_of, IsWithin}
-use Rattle.edit_commands.specs.DomModel.Forest.Forest.{Nil, Tree}
-use Rattle.edit_commands.specs.DomModel.Contents.{length_of}
-use Rattle.edit_commands.specs.DomModel.Places.{kids_in}
-use Rattle.edit_commands.specs.DomModel.ArenaState as arena
-use Rattle.edit_commands.proofs.DomModel.Walks.{document_first}
-use Rattle.edit_commands.specs.LiveRange.declared.places.Point.{Point}
-use Rattle.edit_commands.specs.LiveRange.declared.places.Pair.{Pair}
-use Rattle.edit_commands.specs.LiveRange.LivePoints.{LivePoints}
-use Rattle.edit_commands.specs.PointOrder.PointOrder.{is_placed, is_in_document}
-use Rattle.edit_commands.proofs.EditActions.Placed.{placed_inside}
+use Rattle.edit_model.specs.DomModel.declared.Content.{Content}
+use Rattle.edit_model.specs.DomModel.Forest.{Forest, count_of, tree_of, IsWithin}
+use Rattle.edit_model.specs.DomModel.Forest.Forest.{Nil, Tree}
+use Rattle.edit_model.specs.DomModel.Contents.{length_of}
+use Rattle.edit_model.specs.DomModel.Places.{kids_in}
+use Rattle.edit_model.specs.DomModel.ArenaState as arena
+use Rattle.edit_model.proofs.DomModel.Walks.{document_first}
+use Rattle.edit_model.specs.LiveRange.declared.places.Point.{Point}
+use Rattle.edit_model.specs.LiveRange.declared.places.Pair.{Pair}
+use Rattle.edit_model.specs.LiveRange.LivePoints.{LivePoints}
+use Rattle.edit_model.specs.PointOrder.PointOrder.{is_placed, is_in_document}
+use Rattle.inline_value.proofs.EditActions.Placed.{placed_inside}
 use Rattle.edit_engine.specs.Places.{pair_from, placed_pair}
 use Rattle.edit_model.specs.Valid.{IsForest, IsPlaced, IsPlacedPair}
-use Rattle.edit_commands.specs.NodePaths.Paths.{label_at, label_by, node_in, path_of, node_text}
-use Rattle.step_text.specs.PageWrite.Html.{document_html}
-use Rattle.step_text.specs.PageWrite.Listing.{document_lines}
-use Rattle.step_text.specs.PageWrite.PointLines.{point_lines, mark_lines, IsIn, AreIn}
+use Rattle.inline_value.specs.NodePaths.Paths.{label_at, label_by, node_in, path_of, node_text}
+use Rattle.page_write.specs.Html.{document_html}
+use Rattle.page_write.specs.Listing.{document_lines}
+use Rattle.page_write.specs.PointLines.{point_lines, mark_lines, IsIn, AreIn}
 
 -- the first trees of both are the same
 pub record Same (f g : Forest Content) : Type 0 where

@@ -1,13 +1,13 @@
 -- The action of each command is tame from the document before it and what it types, a line for each command.
 use Rattle.std.proofs.Common.{ℕ, Bool, true, false, List, Option, Some, None, inr}
 use Rattle.std.specs.Prelude.{not, codes, if◌then◌else◌}
-use Rattle.edit_commands.specs.HtmlNames.declared.commands.Command.{Command}
-use Rattle.edit_commands.specs.HtmlNames.declared.commands.Command.TheVariants as command
-use Rattle.edit_commands.specs.LiveRange.declared.places.Pair.{Pair}
+use Rattle.edit_model.specs.HtmlNames.declared.commands.Command.{Command}
+use Rattle.edit_model.specs.HtmlNames.declared.commands.Command.TheVariants as command
+use Rattle.edit_model.specs.LiveRange.declared.places.Pair.{Pair}
 use Rattle.edit_model.specs.Action.{Flag, Select}
 use Rattle.edit_model.specs.Run.{Run, ◌>>=◌, ◌>>◌, answer, done, given, select, set_flags}
 use Rattle.edit_model.specs.declared.settings.Flags.{Flags}
-use Rattle.edit_commands.specs.ForestChanges.Named.{Each}
+use Rattle.inline_value.specs.ForestChanges.Named.{Each}
 use Rattle.edit_model.specs.State.{State}
 use Rattle.making_laws.specs.Known.{Source, source_of, IsKnownCharacter}
 use Rattle.making_laws.specs.Tame.{Tame, TameFrom}
@@ -19,15 +19,15 @@ use Rattle.making_laws.proofs.FormatRuns.{tame_remove_format}
 use Rattle.making_laws.proofs.IndentRuns.{tame_indent, tame_outdent}
 use Rattle.making_laws.proofs.LinkingRuns.{tame_create_link, tame_unlink}
 use Rattle.making_laws.proofs.ListToggleRuns.{tame_toggle_lists}
-use Rattle.edit_commands.specs.ListToggle.declared.toggling.ListKind.TheVariants.{Ordered, Unordered}
+use Rattle.list_toggle.specs.declared.toggling.ListKind.TheVariants.{Ordered, Unordered}
 use Rattle.making_laws.proofs.ObjectRuns.{tame_insert_line_break, tame_insert_horizontal_rule, tame_insert_image}
 use Rattle.making_laws.proofs.RestoringRuns.{tame_restore_states}
 use Rattle.making_laws.proofs.TogglingRuns.{tame_toggle_style, tame_toggle_script, tame_apply_value}
 use Rattle.making_laws.proofs.TypingRuns.{from_insert_text, tame_insert_paragraph}
-use Rattle.edit_commands.specs.InlineValue.Overrides.{overrides_of}
-use Rattle.edit_commands.specs.InlineValue.declared.overrides.Override.{Override}
-use Rattle.edit_commands.specs.InlineCommands.RestoringStates.{restore_states}
-use Rattle.edit_commands.specs.EditQuery.Carets.{is_caret}
+use Rattle.inline_value.specs.Overrides.{overrides_of}
+use Rattle.inline_value.specs.declared.overrides.Override.{Override}
+use Rattle.inline_commands.specs.RestoringStates.{restore_states}
+use Rattle.inline_value.specs.EditQuery.Carets.{is_caret}
 use Rattle.edit_engine.specs.Bringing.{typed_by}
 use Rattle.edit_engine.specs.Framing.{restore_at_caret, give_back, recorded_action, framed}
 use Rattle.edit_engine.specs.Execution.{run_at}

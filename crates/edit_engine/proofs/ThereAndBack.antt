@@ -1,12 +1,12 @@
 -- As many redos after undos, and as many undos after redos, give back the document.
 use Rattle.std.proofs.Common.{◌≡◌, ℕ, zero, suc, ◌≤◌, List, [], ◌∷◌, length, Option, Some, refl, sym, ap, subst, ◌∙◌, arith}
 use Rattle.std.specs.Prelude.{IfSome}
-use Rattle.edit_commands.specs.DomModel.declared.Content.{Content}
-use Rattle.edit_commands.specs.DomModel.Forest.{Forest}
-use Rattle.edit_commands.specs.ForestChanges.Change.{Change}
+use Rattle.edit_model.specs.DomModel.declared.Content.{Content}
+use Rattle.edit_model.specs.DomModel.Forest.{Forest}
+use Rattle.inline_value.specs.ForestChanges.Change.{Change}
 use Rattle.edit_model.specs.State.{State}
 use Rattle.edit_model.specs.History.{Entry, History, View, document_of, at_view, undone_state, undone_state_by, undone_history, undone_history_by, redone_state, redone_state_by, redone_history, redone_history_by}
-use Rattle.edit_commands.specs.EditDoc.Kept.{LeadAllBack, LeadAllForth, HoldsOnlyNeeded}
+use Rattle.inline_value.specs.EditDoc.Kept.{LeadAllBack, LeadAllForth, HoldsOnlyNeeded}
 use Rattle.edit_engine.specs.Editing.{Editing, EditorValue, document, undone, redone, turned_times}
 use Rattle.edit_engine.specs.ThereAndBack.{there_and_back, AreAt, after_first, before_first, IsBack, UndosComeBack, RedosComeBack}
 

@@ -1,3 +1,3 @@
 -- Definitions of the crates below that tactics of this crate name.
-unfoldable pub use Rattle.edit_commands.specs.EditActions.ActiveRange.{host_of_pair}
-unfoldable pub use Rattle.edit_commands.specs.EditDoc.Whole.{first_doc, first_state}
+unfoldable pub use Rattle.inline_value.specs.EditActions.ActiveRange.{host_of_pair}
+unfoldable pub use Rattle.inline_value.specs.EditDoc.Whole.{first_doc, first_state}

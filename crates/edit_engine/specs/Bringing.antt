@@ -1,6 +1,6 @@
 -- What the execution of a command brings into the document.
 use Rattle.std.specs.Prelude.{ℕ, List, [], Option, Some, None, if◌then◌else◌}
-use Rattle.edit_commands.specs.HtmlNames.declared.commands.Command.{Command}
+use Rattle.edit_model.specs.HtmlNames.declared.commands.Command.{Command}
 use Rattle.making_laws.specs.Known.{source_of, KnowsAll}
 use Rattle.edit_engine.specs.Commands.{types_text}
 use Rattle.edit_engine.specs.Editing.{Editing}

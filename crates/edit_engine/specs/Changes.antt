@@ -1,8 +1,8 @@
 -- What the last call changed, told to a host that keeps a tree of its own.
 use Rattle.std.specs.Prelude.{◌≡◌, ◌⊎◌, List, Result, Ok}
-use Rattle.edit_commands.specs.DocumentEdits.declared.edit.DocumentEdit.{DocumentEdit}
+use Rattle.inline_value.specs.DocumentEdits.declared.edit.DocumentEdit.{DocumentEdit}
 use Rattle.edit_model.specs.History.{History}
-use Rattle.edit_commands.specs.EditDoc.Changes.{Lead, changes_past, changes_undone}
+use Rattle.inline_value.specs.EditDoc.Changes.{Lead, changes_past, changes_undone}
 use Rattle.edit_engine.specs.Following.{next_revision}
 use Rattle.edit_engine.specs.Editing.{EditorValue}
 use Rattle.edit_engine.specs.declared.answers.Answer.{Answer}

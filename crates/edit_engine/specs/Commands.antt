@@ -1,30 +1,30 @@
 -- The commands: one row of facts for each, its action, and when it is enabled.
 use Rattle.std.specs.Prelude.{ℕ, Bool, true, false, not, ◌||◌, List, map, codes, bytes_eq, is_some, Option, Some, None, if◌then◌else◌}
 use Rattle.std.specs.Char.{to_ascii_lowercase}
-use Rattle.edit_commands.specs.HtmlNames.declared.commands.Command.{Command}
-use Rattle.edit_commands.specs.HtmlNames.declared.commands.Command.TheVariants as command
+use Rattle.edit_model.specs.HtmlNames.declared.commands.Command.{Command}
+use Rattle.edit_model.specs.HtmlNames.declared.commands.Command.TheVariants as command
 use Rattle.edit_model.specs.State.{State}
 use Rattle.edit_model.specs.Run.{Run, ◌>>◌, answer, look, given, set_flags}
 use Rattle.edit_model.specs.declared.settings.Flags.{Flags}
 use Rattle.edit_engine.specs.declared.commands.Row.{Row}
-use Rattle.edit_commands.specs.EditActions.ActiveRange.{affected_host}
+use Rattle.inline_value.specs.EditActions.ActiveRange.{affected_host}
 use Rattle.edit_engine.specs.Framing.{framed}
-use Rattle.edit_commands.specs.BlockCommands.FormatBlock.{format_block}
-use Rattle.edit_commands.specs.BlockCommands.Justify.{justify}
-use Rattle.edit_commands.specs.InlineCommands.Linking.{create_link}
-use Rattle.edit_commands.specs.InlineCommands.RemovingFormat.{remove_format}
-use Rattle.edit_commands.specs.InlineCommands.Toggling.{toggle_style, toggle_script}
-use Rattle.edit_commands.specs.InlineCommands.Unlink.{unlink}
-use Rattle.edit_commands.specs.InlineCommands.ValueCommands.{apply_value}
-use Rattle.edit_commands.specs.InsertObjects.LineBreak.{insert_line_break}
-use Rattle.edit_commands.specs.InsertObjects.Rule.{insert_horizontal_rule}
-use Rattle.edit_commands.specs.InsertObjects.Image.{insert_image}
-use Rattle.edit_commands.specs.ListIndent.Commands.{indent, outdent}
-use Rattle.edit_commands.specs.ListToggle.Toggle.{toggle_lists}
-use Rattle.edit_commands.specs.ListToggle.declared.toggling.ListKind.TheVariants.{Ordered, Unordered}
-use Rattle.edit_commands.specs.TextDeletion.Delete.{delete}
-use Rattle.edit_commands.specs.TextInsertion.Paragraph.{insert_paragraph}
-use Rattle.edit_commands.specs.TextInsertion.Typing.{insert_text}
+use Rattle.block_commands.specs.FormatBlock.{format_block}
+use Rattle.block_commands.specs.Justify.{justify}
+use Rattle.inline_commands.specs.Linking.{create_link}
+use Rattle.inline_commands.specs.RemovingFormat.{remove_format}
+use Rattle.inline_commands.specs.Toggling.{toggle_style, toggle_script}
+use Rattle.inline_commands.specs.Unlink.{unlink}
+use Rattle.inline_commands.specs.ValueCommands.{apply_value}
+use Rattle.insert_objects.specs.LineBreak.{insert_line_break}
+use Rattle.insert_objects.specs.Rule.{insert_horizontal_rule}
+use Rattle.insert_objects.specs.Image.{insert_image}
+use Rattle.list_indent.specs.Commands.{indent, outdent}
+use Rattle.list_toggle.specs.Toggle.{toggle_lists}
+use Rattle.list_toggle.specs.declared.toggling.ListKind.TheVariants.{Ordered, Unordered}
+use Rattle.text_deletion.specs.Delete.{delete}
+use Rattle.text_insertion.specs.Paragraph.{insert_paragraph}
+use Rattle.text_insertion.specs.Typing.{insert_text}
 
 -- ---- one row a command
 

@@ -2,19 +2,19 @@
 use Rattle.std.specs.Prelude.{◌≡◌, ◌⊎◌, ℕ, Bool, true, false, List, ◌∷◌, Option, Some, None, IsSome, IfSome}
 use Rattle.std.specs.List.{AllZip}
 use Rattle.std.specs.Option.{option_map_or}
-use Rattle.edit_commands.specs.HtmlNames.Commands.{command_named}
-use Rattle.edit_commands.specs.HtmlNames.declared.commands.Command.{Command}
-use Rattle.edit_commands.specs.DomModel.Forest.{IsWithin}
-use Rattle.edit_commands.specs.LiveRange.declared.places.Pair.{Pair}
+use Rattle.edit_model.specs.HtmlNames.Commands.{command_named}
+use Rattle.edit_model.specs.HtmlNames.declared.commands.Command.{Command}
+use Rattle.edit_model.specs.DomModel.Forest.{IsWithin}
+use Rattle.edit_model.specs.LiveRange.declared.places.Pair.{Pair}
 use Rattle.edit_model.specs.State.{State}
 use Rattle.edit_model.specs.Valid.{IsPlacedPair}
 use Rattle.edit_model.specs.History.{Entry, begun, entry_of, joined_in}
 use Rattle.edit_model.specs.Laws.{KeepsMark}
 use Rattle.edit_model.specs.Outside.{outside_by, is_island}
-use Rattle.command_laws.specs.EditLaws.BelowHost.{below}
-use Rattle.command_laws.specs.EditLaws.InHost.{IsPairWithin}
-use Rattle.command_laws.specs.EditLaws.Islands.{StaysBelow, IsTakenOut}
-use Rattle.command_laws.specs.EditLaws.Order.{KeepsLeaves}
+use Rattle.edit_laws.specs.BelowHost.{below}
+use Rattle.edit_laws.specs.InHost.{IsPairWithin}
+use Rattle.edit_laws.specs.Islands.{StaysBelow, IsTakenOut}
+use Rattle.edit_laws.specs.Order.{KeepsLeaves}
 use Rattle.edit_engine.specs.Bringing.{BringsKnown}
 use Rattle.edit_engine.specs.Commands.{row_of, action_of}
 use Rattle.edit_engine.specs.Editing.{Editing, undone}

@@ -2,11 +2,11 @@
 -- go on with, and what it keeps for hosts that follow the document.
 use Rattle.std.specs.Prelude.{◌≡◌, ℕ, ◌<◌, true, false, List, [], ◌∷◌, length, zero, suc, Option, None, refl}
 use Rattle.std.specs.Coded.{Coded, code_by, coded×, coded_ℕ, coded_list, coded_option}
-use Rattle.edit_commands.specs.DomModel.ArenaState.{ArenaState as Arena}
+use Rattle.edit_model.specs.DomModel.ArenaState.{ArenaState as Arena}
 use Rattle.edit_model.specs.State.{State}
 use Rattle.edit_model.specs.History.{Entry, History, undone_state, undone_history, redone_state, redone_history}
 use Rattle.edit_model.specs.Codes.{state_code, history_code}
-use Rattle.edit_commands.specs.EditDoc.Whole.{Whole, IsClosed, first_state}
+use Rattle.inline_value.specs.EditDoc.Whole.{Whole, IsClosed, first_state}
 use Rattle.edit_engine.specs.Following.{IsWithin, following_code}
 use Rattle.edit_engine.specs.declared.following.Following.{Following}
 use Rattle.edit_engine.specs.Going.{going_code, goes_on}

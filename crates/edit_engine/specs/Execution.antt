@@ -2,14 +2,14 @@
 use Rattle.std.specs.Prelude.{◌≡◌, ◌⊎◌, ℕ, nat_lt, Bool, true, false, not, List, length, Option, Some, None, Result, Ok, Err, if◌then◌else◌}
 use Rattle.std.specs.Option.{option_map_or}
 use Rattle.command_gate.specs.Denied.{is_denied}
-use Rattle.edit_commands.specs.HtmlNames.Commands.{command_named}
-use Rattle.edit_commands.specs.HtmlNames.declared.commands.Command.{Command}
-use Rattle.edit_commands.specs.HtmlNames.declared.commands.Command.TheVariants.{InsertText}
-use Rattle.edit_commands.specs.DomModel.Document.{page_depth}
+use Rattle.edit_model.specs.HtmlNames.Commands.{command_named}
+use Rattle.edit_model.specs.HtmlNames.declared.commands.Command.{Command}
+use Rattle.edit_model.specs.HtmlNames.declared.commands.Command.TheVariants.{InsertText}
+use Rattle.edit_model.specs.DomModel.Document.{page_depth}
 use Rattle.edit_model.specs.State.{State}
 use Rattle.edit_model.specs.History.{rested, begun, recorded}
 use Rattle.edit_model.specs.Run.{Run, ◌>>◌, final, value, select}
-use Rattle.edit_commands.specs.LiveRange.declared.places.Pair.{Pair}
+use Rattle.edit_model.specs.LiveRange.declared.places.Pair.{Pair}
 use Rattle.edit_engine.specs.declared.answers.Answer.{Answer}
 use Rattle.edit_engine.specs.declared.answers.Answer.TheVariants.{Yes, No}
 use Rattle.edit_engine.specs.declared.answers.ExecFault.{ExecFault}
@@ -19,7 +19,7 @@ use Rattle.edit_engine.specs.declared.answers.ReplaceFault.TheVariants as unrepl
 use Rattle.edit_engine.specs.Commands.{row_of, action_of, is_enabled_in}
 use Rattle.edit_engine.specs.Going.{joins_by, going_after}
 use Rattle.edit_engine.specs.Editing.{Editing}
-use Rattle.edit_commands.specs.EditActions.ActiveRange.{affected_host, host_of_pair}
+use Rattle.inline_value.specs.EditActions.ActiveRange.{affected_host, host_of_pair}
 
 -- refused without a change: unsupported or not enabled, too deep a document, or a run past the cap;
 -- or the action's answer and the editor after it

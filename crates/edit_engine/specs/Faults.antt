@@ -1,6 +1,6 @@
 -- The faults of the document, as the editor tells them.
-use Rattle.edit_commands.specs.LiveRange.declared.points.MarkFault.{MarkFault}
-use Rattle.edit_commands.specs.LiveRange.declared.points.MarkFault.TheVariants as mark
+use Rattle.edit_model.specs.LiveRange.declared.points.MarkFault.{MarkFault}
+use Rattle.edit_model.specs.LiveRange.declared.points.MarkFault.TheVariants as mark
 use Rattle.edit_model.specs.declared.settings.EditFault.{EditFault}
 use Rattle.edit_model.specs.declared.settings.EditFault.TheVariants as edit
 use Rattle.edit_engine.specs.declared.answers.ExecFault.{ExecFault}

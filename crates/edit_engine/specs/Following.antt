@@ -2,10 +2,10 @@
 -- edits the last of them made.
 use Rattle.std.specs.Prelude.{◌≡◌, ℕ, ◌+◌, ◌-◌, ◌^◌, min, ◌≤◌, Bool, true, false, List, Option, Some, None, refl, length}
 use Rattle.std.specs.Coded.{Coded, code_by, coded×, coded_ℕ, coded_option}
-use Rattle.edit_commands.specs.UndoLog.declared.log.Committed.{Committed}
-use Rattle.edit_commands.specs.UndoLog.declared.log.Committed.TheVariants as committed
+use Rattle.inline_value.specs.UndoLog.declared.log.Committed.{Committed}
+use Rattle.inline_value.specs.UndoLog.declared.log.Committed.TheVariants as committed
 use Rattle.edit_model.specs.History.{History}
-use Rattle.edit_commands.specs.EditDoc.Whole.{first_edits}
+use Rattle.inline_value.specs.EditDoc.Whole.{first_edits}
 use Rattle.edit_engine.specs.declared.following.Following.{Following}
 use Rattle.edit_engine.specs.declared.following.LastChange.{LastChange}
 use Rattle.edit_engine.specs.declared.following.LastChange.TheVariants.{Made, Undone}

@@ -3,10 +3,10 @@
 -- states and values").
 use Rattle.std.specs.Prelude.{Bool, true, false, List, if◌then◌else◌}
 use Rattle.edit_model.specs.Run.{Run, ◌>>=◌, ◌>>◌, answer, done, look}
-use Rattle.edit_commands.specs.EditQuery.Carets.{is_caret}
-use Rattle.edit_commands.specs.InlineValue.Overrides.{overrides_of}
-use Rattle.edit_commands.specs.InlineValue.declared.overrides.Override.{Override}
-use Rattle.edit_commands.specs.InlineCommands.RestoringStates.{restore_states}
+use Rattle.inline_value.specs.EditQuery.Carets.{is_caret}
+use Rattle.inline_value.specs.Overrides.{overrides_of}
+use Rattle.inline_value.specs.declared.overrides.Override.{Override}
+use Rattle.inline_commands.specs.RestoringStates.{restore_states}
 
 -- only where the selection is a caret now
 unfoldable pub restore_at_caret : List Override → Run (Unit {0})

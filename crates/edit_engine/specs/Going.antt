@@ -1,7 +1,7 @@
 -- What goes on from one command to the next: which commands' edits join the last entry.
 use Rattle.std.specs.Prelude.{◌≡◌, Bool, true, false, ◌&&◌, ◌||◌, Option, Some, None, if◌then◌else◌, refl}
 use Rattle.std.specs.Coded.{Coded, code_by, coded_bool, coded_option}
-use Rattle.edit_commands.specs.HtmlNames.declared.commands.Command.{Command}
+use Rattle.edit_model.specs.HtmlNames.declared.commands.Command.{Command}
 use Rattle.edit_engine.specs.Commands.{types_text}
 use Rattle.edit_engine.specs.declared.going.Going.{Going}
 use Rattle.edit_engine.specs.declared.going.Going.TheVariants.{Over, Step, Typing}

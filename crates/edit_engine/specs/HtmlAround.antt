@@ -1,10 +1,10 @@
 -- The HTML of trees, before and after that of the children of a node.
 use Rattle.std.specs.Prelude.{◌≡◌, ℕ, List, [], ◌++◌, nat_lt, if◌then◌else◌, ◌==◌, Option, Some, None}
-use Rattle.edit_commands.specs.DomModel.declared.Content.{Content}
-use Rattle.edit_commands.specs.DomModel.Forest.{Forest, count_of}
-use Rattle.edit_commands.specs.DomModel.Forest.Forest.{Nil, Tree}
-use Rattle.step_text.specs.PageWrite.Html.{opening, closing, html_of, document_html}
-use Rattle.command_laws.specs.EditLaws.BelowHost.{below}
+use Rattle.edit_model.specs.DomModel.declared.Content.{Content}
+use Rattle.edit_model.specs.DomModel.Forest.{Forest, count_of}
+use Rattle.edit_model.specs.DomModel.Forest.Forest.{Nil, Tree}
+use Rattle.page_write.specs.Html.{opening, closing, html_of, document_html}
+use Rattle.edit_laws.specs.BelowHost.{below}
 
 -- up to the start tag of h, which is in it
 abbrev pub html_before : Forest Content → ℕ → List ℕ

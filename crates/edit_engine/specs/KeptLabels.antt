@@ -1,12 +1,12 @@
 -- Which labels may still be told to a host that follows the document, and which are gone.
 use Rattle.std.specs.Prelude.{◌≡◌, ◌≢◌, ◌⊎◌, ℕ, List}
-use Rattle.edit_commands.specs.DomModel.declared.Content.{Content}
-use Rattle.edit_commands.specs.DomModel.Forest.{Forest, count_of, IsWithin}
-use Rattle.edit_commands.specs.ForestChanges.Change.{Change}
-use Rattle.edit_commands.specs.ForestChanges.Named.{Each, named_in}
+use Rattle.edit_model.specs.DomModel.declared.Content.{Content}
+use Rattle.edit_model.specs.DomModel.Forest.{Forest, count_of, IsWithin}
+use Rattle.inline_value.specs.ForestChanges.Change.{Change}
+use Rattle.inline_value.specs.ForestChanges.Named.{Each, named_in}
 use Rattle.edit_model.specs.History.{Entry}
-use Rattle.edit_commands.specs.EditDoc.Kept.{IsNeeded, IsNamed, AreInTree}
-use Rattle.edit_commands.specs.EditDoc.Whole.{Whole}
+use Rattle.inline_value.specs.EditDoc.Kept.{IsNeeded, IsNamed, AreInTree}
+use Rattle.inline_value.specs.EditDoc.Whole.{Whole}
 use Rattle.edit_engine.specs.Editing.{Editing, undone, redone}
 use Rattle.edit_engine.specs.Labels.{documents_of}
 

@@ -1,10 +1,10 @@
 -- What a label tells of a node for as long as an editor lasts.
 use Rattle.std.specs.Prelude.{◌≡◌, ℕ, ◌≤◌, List, [], ◌∷◌, ◌++◌, Option, Some}
-use Rattle.edit_commands.specs.DomModel.declared.Content.{Content}
-use Rattle.edit_commands.specs.DomModel.Forest.{Forest}
-use Rattle.edit_commands.specs.ForestChanges.Named.{Each}
+use Rattle.edit_model.specs.DomModel.declared.Content.{Content}
+use Rattle.edit_model.specs.DomModel.Forest.{Forest}
+use Rattle.inline_value.specs.ForestChanges.Named.{Each}
 use Rattle.edit_model.specs.History.{Entry}
-use Rattle.command_laws.specs.EditLaws.Kinds.{Kind, kind_of, SameKinds, DrawsKinds}
+use Rattle.edit_laws.specs.Kinds.{Kind, kind_of, SameKinds, DrawsKinds}
 use Rattle.edit_engine.specs.Editing.{Editing}
 
 -- a label that stands for a node before and after stands for one of the same kind, an element of

@@ -25,34 +25,4 @@ pub mod WorkedIslands
 pub mod Replaying
 pub mod PlainRuns
 pub mod Independence
-pub use Rattle.edit_commands.specs.BlockCommands
-pub use Rattle.command_gate.specs as CommandGate
-pub use Rattle.edit_commands.specs.CommandValue
-pub use Rattle.edit_commands.specs.CssValue
-pub use Rattle.edit_commands.specs.DeleteCore
-pub use Rattle.edit_commands.specs.DomModel
-pub use Rattle.edit_commands.specs.EditActions
-pub use Rattle.edit_commands.specs.EditDoc
-pub use Rattle.command_laws.specs.EditLaws
-pub use Rattle.edit_model.specs as EditModel
-pub use Rattle.edit_commands.specs.EditQuery
-pub use Rattle.step_text.specs.EscapedText
-pub use Rattle.edit_commands.specs.ForestChanges
-pub use Rattle.edit_commands.specs.HtmlNames
-pub use Rattle.edit_commands.specs.InlineCommands
-pub use Rattle.edit_commands.specs.InlineValue
-pub use Rattle.edit_commands.specs.InsertObjects
-pub use Rattle.edit_commands.specs.ListIndent
-pub use Rattle.edit_commands.specs.ListToggle
-pub use Rattle.edit_commands.specs.LiveRange
-pub use Rattle.edit_commands.specs.NodePaths
-pub use Rattle.node_texts.specs as NodeTexts
-pub use Rattle.step_text.specs.PageWrite
-pub use Rattle.edit_commands.specs.PointOrder
-pub use Rattle.step_text.specs.ScriptRead
-pub use Rattle.step_text.specs as StepText
-pub use Rattle.edit_commands.specs.TextDeletion
-pub use Rattle.edit_commands.specs.TextInsertion
-pub use Rattle.edit_commands.specs.UndoLog
-pub use Rattle.edit_commands.specs.WrapSplit
 pub mod Below

@@ -2,13 +2,13 @@
 -- steps.
 use Rattle.std.specs.Prelude.{ℕ, List, [], ◌∷◌, ◌++◌, map, reverse, codes}
 use Rattle.std.specs.List.{flat_map}
-use Rattle.edit_commands.specs.DomModel.declared.Content.{Content}
-use Rattle.edit_commands.specs.DomModel.declared.Content.TheVariants as content
+use Rattle.edit_model.specs.DomModel.declared.Content.{Content}
+use Rattle.edit_model.specs.DomModel.declared.Content.TheVariants as content
 use Rattle.edit_model.specs.History.{History}
-use Rattle.edit_commands.specs.EditDoc.Logged.{Logged, logged_entry}
-use Rattle.edit_commands.specs.EditDoc.declared.logged.LoggedEdit.{LoggedEdit}
-use Rattle.edit_commands.specs.EditDoc.declared.logged.LoggedEdit.TheVariants as edits
-use Rattle.edit_commands.specs.EditDoc.declared.logged.MadeNode.{MadeNode}
+use Rattle.inline_value.specs.EditDoc.Logged.{Logged, logged_entry}
+use Rattle.inline_value.specs.EditDoc.declared.logged.LoggedEdit.{LoggedEdit}
+use Rattle.inline_value.specs.EditDoc.declared.logged.LoggedEdit.TheVariants as edits
+use Rattle.inline_value.specs.EditDoc.declared.logged.MadeNode.{MadeNode}
 use Rattle.step_text.specs.StepLine.{line_text}
 use Rattle.step_text.specs.declared.line.Made.TheVariants as made
 use Rattle.step_text.specs.declared.line.StepLine.{StepLine}

@@ -1,14 +1,14 @@
 -- Places: points by the path of their node, and by its label.
 use Rattle.std.specs.Prelude.{◌≡◌, ℕ, nat_le, List, length, false, ◌&&◌, Option, Some, None, if◌then◌else◌}
 use Rattle.std.specs.Option.{option_and_then, option_map}
-use Rattle.edit_commands.specs.DomModel.declared.Content.{Content}
-use Rattle.edit_commands.specs.DomModel.Contents.{length_of}
-use Rattle.edit_commands.specs.DomModel.Forest.{Forest}
-use Rattle.edit_commands.specs.LiveRange.LivePoints.{has_mark, with_mark, without_mark}
-use Rattle.edit_commands.specs.LiveRange.declared.places.Point.{Point}
-use Rattle.edit_commands.specs.LiveRange.declared.places.Pair.{Pair}
-use Rattle.edit_commands.specs.NodePaths.Paths.{label_at}
-use Rattle.edit_commands.specs.PointOrder.PointOrder.{is_placed}
+use Rattle.edit_model.specs.DomModel.declared.Content.{Content}
+use Rattle.edit_model.specs.DomModel.Contents.{length_of}
+use Rattle.edit_model.specs.DomModel.Forest.{Forest}
+use Rattle.edit_model.specs.LiveRange.LivePoints.{has_mark, with_mark, without_mark}
+use Rattle.edit_model.specs.LiveRange.declared.places.Point.{Point}
+use Rattle.edit_model.specs.LiveRange.declared.places.Pair.{Pair}
+use Rattle.inline_value.specs.NodePaths.Paths.{label_at}
+use Rattle.edit_model.specs.PointOrder.PointOrder.{is_placed}
 use Rattle.step_text.specs.ScriptRead.declared.act.Place.{Place}
 use Rattle.edit_model.specs.Action.{Select, Unselect, acted}
 use Rattle.edit_engine.specs.Editing.{Editing, stopped_at}

@@ -1,8 +1,8 @@
 -- What every run makes, and whose characters it changes.
 use Rattle.std.specs.Prelude.{◌≡◌, ℕ, true}
-use Rattle.edit_commands.specs.DomModel.declared.Content.{Content}
-use Rattle.edit_commands.specs.DomModel.Forest.{content_of}
-use Rattle.edit_commands.specs.ForestChanges.Named.{Each}
+use Rattle.edit_model.specs.DomModel.declared.Content.{Content}
+use Rattle.edit_model.specs.DomModel.Forest.{content_of}
+use Rattle.inline_value.specs.ForestChanges.Named.{Each}
 use Rattle.edit_model.specs.State.{State}
 use Rattle.edit_model.specs.Run.{Reaches, here, onward, changes_of, nodes_on}
 use Rattle.edit_engine.specs.Replaying.{can_be_made, ChangesText}

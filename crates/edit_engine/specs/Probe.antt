@@ -1,18 +1,18 @@
 -- What `probe` tells of a node, on one line: what the tests of nodes answer.
 use Rattle.std.specs.Prelude.{ℕ, Bool, List, ◌++◌, codes, encode_utf8_all, is_some, Option, Some, None, if◌then◌else◌}
-use Rattle.edit_commands.specs.DomModel.declared.Content.{Content}
-use Rattle.edit_commands.specs.DomModel.Contents.{is_element_at}
-use Rattle.edit_commands.specs.DomModel.Editing.{editing_host}
-use Rattle.edit_commands.specs.DomModel.Forest.{Forest}
-use Rattle.edit_commands.specs.StyleTable.declared.Property.{Property}
-use Rattle.edit_commands.specs.StyleTable.declared.Property.TheVariants.{Display, WhiteSpace}
-use Rattle.edit_commands.specs.NodeStyles.Blocks.{is_block, is_whitespace}
-use Rattle.edit_commands.specs.NodeStyles.Resolved.{resolved}
-use Rattle.edit_commands.specs.NodeTests.CollapsedWhitespace.{is_collapsed_whitespace}
-use Rattle.edit_commands.specs.NodeTests.SolidNeighbours.{is_extraneous_break, is_collapsed_break}
-use Rattle.edit_commands.specs.NodeTests.Visible.{is_visible}
-use Rattle.edit_commands.specs.NodeTests.BlockProps.{is_block_prop}
-use Rattle.edit_commands.specs.NodePaths.Paths.{node_text}
+use Rattle.edit_model.specs.DomModel.declared.Content.{Content}
+use Rattle.edit_model.specs.DomModel.Contents.{is_element_at}
+use Rattle.edit_model.specs.DomModel.Editing.{editing_host}
+use Rattle.edit_model.specs.DomModel.Forest.{Forest}
+use Rattle.inline_value.specs.StyleTable.declared.Property.{Property}
+use Rattle.inline_value.specs.StyleTable.declared.Property.TheVariants.{Display, WhiteSpace}
+use Rattle.inline_value.specs.NodeStyles.Blocks.{is_block, is_whitespace}
+use Rattle.inline_value.specs.NodeStyles.Resolved.{resolved}
+use Rattle.inline_value.specs.NodeTests.CollapsedWhitespace.{is_collapsed_whitespace}
+use Rattle.inline_value.specs.NodeTests.SolidNeighbours.{is_extraneous_break, is_collapsed_break}
+use Rattle.inline_value.specs.NodeTests.Visible.{is_visible}
+use Rattle.inline_value.specs.NodeTests.BlockProps.{is_block_prop}
+use Rattle.inline_value.specs.NodePaths.Paths.{node_text}
 
 -- a test, by its words and its answer
 abbrev pub tested : List ℕ → Bool → List ℕ

@@ -2,17 +2,17 @@
 -- like): when the command itself is asked.
 use Rattle.std.specs.Prelude.{ℕ, true, List, if◌then◌else◌}
 use Rattle.std.specs.Option.{option_map_or}
-use Rattle.edit_commands.specs.HtmlNames.Commands.{command_named}
-use Rattle.edit_commands.specs.HtmlNames.declared.commands.Command.{Command}
-use Rattle.edit_commands.specs.HtmlNames.declared.query.QueryKind.{QueryKind}
-use Rattle.edit_commands.specs.HtmlNames.declared.query.QueryKind.TheVariants.{Enabled, Supported}
+use Rattle.edit_model.specs.HtmlNames.Commands.{command_named}
+use Rattle.edit_model.specs.HtmlNames.declared.commands.Command.{Command}
+use Rattle.edit_model.specs.HtmlNames.declared.query.QueryKind.{QueryKind}
+use Rattle.edit_model.specs.HtmlNames.declared.query.QueryKind.TheVariants.{Enabled, Supported}
 use Rattle.edit_model.specs.State.{State}
-use Rattle.edit_commands.specs.EditQuery.declared.reply.Reply.{Reply}
-use Rattle.edit_commands.specs.EditQuery.declared.reply.Reply.TheVariants as reply
-use Rattle.edit_commands.specs.EditQuery.Queries.{query_in}
-use Rattle.edit_commands.specs.EditQuery.Replies.{no_reply}
+use Rattle.inline_value.specs.EditQuery.declared.reply.Reply.{Reply}
+use Rattle.inline_value.specs.EditQuery.declared.reply.Reply.TheVariants as reply
+use Rattle.inline_value.specs.EditQuery.Queries.{query_in}
+use Rattle.inline_value.specs.EditQuery.Replies.{no_reply}
 use Rattle.edit_engine.specs.Commands.{is_enabled}
-use Rattle.edit_commands.specs.EditActions.ActiveRange.{affected_host}
+use Rattle.inline_value.specs.EditActions.ActiveRange.{affected_host}
 
 -- a command that isn't enabled isn't asked
 unfoldable pub asked_if_enabled : State → QueryKind → Command → Reply

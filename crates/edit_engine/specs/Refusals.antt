@@ -1,6 +1,6 @@
 -- A command whose action answers false is taken back; nothing was done then.
 use Rattle.std.specs.Prelude.{◌≡◌, ℕ, Bool, false, List}
-use Rattle.edit_commands.specs.HtmlNames.declared.commands.Command.{Command}
+use Rattle.edit_model.specs.HtmlNames.declared.commands.Command.{Command}
 use Rattle.edit_model.specs.State.{State}
 use Rattle.edit_model.specs.Run.{Run, final, value}
 use Rattle.edit_engine.specs.Commands.{action_of}

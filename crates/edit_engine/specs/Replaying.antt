@@ -1,16 +1,16 @@
 -- The log of an editor, replayed on the page that it began with.
 use Rattle.std.specs.Prelude.{◌≡◌, ℕ, ◌≤◌, Bool, true, false, List, [], ◌∷◌, reverse, Option, Ok}
 use Rattle.std.specs.Option.{option_map_or}
-use Rattle.edit_commands.specs.DomModel.declared.Content.{Content}
-use Rattle.edit_commands.specs.DomModel.declared.Content.TheVariants.{Document, Element, Words, Remark}
-use Rattle.edit_commands.specs.DomModel.Document.{page_depth}
-use Rattle.edit_commands.specs.DomModel.Forest.{Forest}
-use Rattle.edit_commands.specs.ForestChanges.Change.{Change, SetText, Splice, applied}
-use Rattle.edit_commands.specs.ForestChanges.Leaves.{IsBelow}
-use Rattle.edit_commands.specs.ForestChanges.Named.{Each}
+use Rattle.edit_model.specs.DomModel.declared.Content.{Content}
+use Rattle.edit_model.specs.DomModel.declared.Content.TheVariants.{Document, Element, Words, Remark}
+use Rattle.edit_model.specs.DomModel.Document.{page_depth}
+use Rattle.edit_model.specs.DomModel.Forest.{Forest}
+use Rattle.inline_value.specs.ForestChanges.Change.{Change, SetText, Splice, applied}
+use Rattle.inline_value.specs.ForestChanges.Leaves.{IsBelow}
+use Rattle.inline_value.specs.ForestChanges.Named.{Each}
 use Rattle.edit_model.specs.History.{Entry, document_of}
-use Rattle.edit_commands.specs.EditDoc.Logged.{content_in}
-use Rattle.edit_commands.specs.EditDoc.Onward.{at_begin}
+use Rattle.inline_value.specs.EditDoc.Logged.{content_in}
+use Rattle.inline_value.specs.EditDoc.Onward.{at_begin}
 use Rattle.step_text.specs.Applying.{Labelled, is_text, replayed}
 use Rattle.edit_engine.specs.Editing.{Editing}
 use Rattle.edit_engine.specs.Logs.{log_steps}

@@ -1,14 +1,14 @@
 -- A document after one command on it.
 use Rattle.std.specs.Prelude.{◌≡◌, ℕ, nat_lt, Bool, true, false, length, Result, Ok, Err, Option, Some, None}
-use Rattle.edit_commands.specs.UndoLog.declared.log.Committed.{Committed}
-use Rattle.edit_commands.specs.UndoLog.declared.log.Committed.TheVariants as committed
+use Rattle.inline_value.specs.UndoLog.declared.log.Committed.{Committed}
+use Rattle.inline_value.specs.UndoLog.declared.log.Committed.TheVariants as committed
 use Rattle.edit_model.specs.State.{State, IsPastCap}
 use Rattle.edit_model.specs.History.{rested, recorded, document_of}
 use Rattle.edit_model.specs.Run.{Run}
 use Rattle.edit_model.specs.declared.settings.EditFault.{EditFault}
 use Rattle.edit_model.specs.Gives.{Fails}
-use Rattle.edit_commands.specs.EditDoc.Changes.{Lead, changes_past, resumed_at}
-use Rattle.edit_commands.specs.EditDoc.Whole.{Whole}
+use Rattle.inline_value.specs.EditDoc.Changes.{Lead, changes_past, resumed_at}
+use Rattle.inline_value.specs.EditDoc.Whole.{Whole}
 use Rattle.edit_engine.specs.Execution.{ran, answered}
 
 -- the run in a host is made, within the cap, and answers true; it has an entry of its own, or joins

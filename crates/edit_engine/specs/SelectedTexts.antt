@@ -1,7 +1,7 @@
 -- The HTML and the plain text of what is selected, from the earlier point to the later one.
 use Rattle.std.specs.Prelude.{ℕ, List, Option}
 use Rattle.std.specs.Option.{option_map}
-use Rattle.edit_commands.specs.EditActions.ActiveRange.{start_of, end_of}
+use Rattle.inline_value.specs.EditActions.ActiveRange.{start_of, end_of}
 use Rattle.edit_model.specs.State.{State}
 use Rattle.node_texts.specs.NodeHtml.{range_html}
 use Rattle.node_texts.specs.PlainText.{range_text}

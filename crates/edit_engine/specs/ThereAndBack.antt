@@ -1,6 +1,6 @@
 -- So many undos and as many redos after them, and the other way round.
 use Rattle.std.specs.Prelude.{◌≡◌, ℕ, ◌≤◌, List, [], ◌∷◌, length, Option, Some, None, IfSome}
-use Rattle.edit_commands.specs.LiveRange.LivePoints.{LivePoints}
+use Rattle.edit_model.specs.LiveRange.LivePoints.{LivePoints}
 use Rattle.edit_model.specs.History.{Entry, View}
 use Rattle.edit_engine.specs.Editing.{Editing, undone, redone, turned_times}
 

@@ -2,12 +2,12 @@
 use Rattle.std.specs.Prelude.{ℕ, List, ◌++◌, length, codes, Option, Some}
 use Rattle.std.specs.Option.{option_map}
 use Rattle.std.specs.Fmt.{decimal}
-use Rattle.edit_commands.specs.DomModel.Document.{node_count, char_count}
-use Rattle.edit_commands.specs.EditDoc.Whole.{first_edits}
-use Rattle.edit_commands.specs.NodePaths.Paths.{label_at}
-use Rattle.step_text.specs.PageWrite.Html.{document_html}
-use Rattle.step_text.specs.PageWrite.Listing.{document_lines}
-use Rattle.step_text.specs.PageWrite.PointLines.{point_lines}
+use Rattle.edit_model.specs.DomModel.Document.{node_count, char_count}
+use Rattle.inline_value.specs.EditDoc.Whole.{first_edits}
+use Rattle.inline_value.specs.NodePaths.Paths.{label_at}
+use Rattle.page_write.specs.Html.{document_html}
+use Rattle.page_write.specs.Listing.{document_lines}
+use Rattle.page_write.specs.PointLines.{point_lines}
 use Rattle.edit_engine.specs.declared.answers.ViewKind.{ViewKind}
 use Rattle.edit_engine.specs.declared.answers.ViewKind.TheVariants.{Html, Tree, Points, Stat, Probe}
 use Rattle.edit_engine.specs.Editing.{Editing}

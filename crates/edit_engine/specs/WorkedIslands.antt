@@ -1,12 +1,12 @@
 -- A small page with a locked part, to show what is an island.
 use Rattle.std.specs.Prelude.{◌≡◌, true, [], ◌∷◌, codes, Some}
-use Rattle.edit_commands.specs.DomModel.declared.Content.{Content}
-use Rattle.edit_commands.specs.DomModel.declared.Content.TheVariants.{Document, Element, Words}
-use Rattle.edit_commands.specs.DomModel.Forest.{Forest}
-use Rattle.edit_commands.specs.DomModel.Forest.Forest.{Nil, Tree}
-use Rattle.edit_commands.specs.LiveRange.declared.places.Pair.{Pair}
+use Rattle.edit_model.specs.DomModel.declared.Content.{Content}
+use Rattle.edit_model.specs.DomModel.declared.Content.TheVariants.{Document, Element, Words}
+use Rattle.edit_model.specs.DomModel.Forest.{Forest}
+use Rattle.edit_model.specs.DomModel.Forest.Forest.{Nil, Tree}
+use Rattle.edit_model.specs.LiveRange.declared.places.Pair.{Pair}
 use Rattle.edit_model.specs.Outside.{is_island}
-use Rattle.edit_commands.specs.EditActions.ActiveRange.{host_of_pair}
+use Rattle.inline_value.specs.EditActions.ActiveRange.{host_of_pair}
 
 -- <div contenteditable=""><p>a<span contenteditable="false">i</span></p></div>
 abbrev pub locked_span : Forest Content

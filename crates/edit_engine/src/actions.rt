@@ -4,10 +4,10 @@ ghost use Rattle.std.specs.Prelude.{◌≡◌, true, IfOk, IfSome, OnErr, Some};
 ghost use Rattle.edit_model.specs.Action.{Select, acted};
 ghost use Rattle.edit_model.specs.Gives.{Gives, label_of};
 ghost use Rattle.edit_model.specs.Valid.{IsPlacedPair};
-ghost use Rattle.edit_commands.specs.EditDoc.Changes.{resumed_at};
-ghost use Rattle.edit_commands.specs.EditDoc.Held.{Finds, IfHeld, Keeps};
-ghost use Rattle.edit_commands.specs.EditDoc.Whole.{IsOpen, IsClosed, opened, with_state};
-ghost use Rattle.edit_commands.specs.EditActions.ActiveRange.{host_of_pair};
+ghost use Rattle.inline_value.specs.EditDoc.Changes.{resumed_at};
+ghost use Rattle.inline_value.specs.EditDoc.Held.{Finds, IfHeld, Keeps};
+ghost use Rattle.inline_value.specs.EditDoc.Whole.{IsOpen, IsClosed, opened, with_state};
+ghost use Rattle.inline_value.specs.EditActions.ActiveRange.{host_of_pair};
 ghost use Rattle.edit_engine.specs.Commands.{is_value, set_css_styling, set_separator, own_action, action_of, row_of};
 ghost use Rattle.edit_engine.specs.Editing.{IsJoinable};
 ghost use Rattle.edit_engine.specs.Execution.{host_at, run_at};
@@ -15,21 +15,21 @@ ghost use Rattle.edit_engine.specs.Framing.{restore_at_caret, give_back, recorde
 ghost use Rattle.edit_engine.specs.Running.{Ran, TellsChange};
 
 use crate::commands::{is_value, row_of};
-use edit_commands::actions::{affected_host, ends_of};
-use edit_commands::blocks::{format_block, justify};
-use edit_commands::css::TextAlign;
-use edit_commands::doc::{Committed, Doc, EditFault, Flags, NodeRef, Pair};
-use edit_commands::element_names::Command;
-use edit_commands::erase_text::{delete, insert_paragraph, insert_text};
-use edit_commands::formats::{
+use block_commands::{format_block, justify};
+use edit_model::element_names::Command;
+use inline_commands::{
     apply_value, create_link, remove_format, restore_states, toggle_script, toggle_style, unlink,
 };
-use edit_commands::indents::{indent, outdent};
-use edit_commands::inline::{Overrides, record_overrides};
-use edit_commands::lists::{ListKind, toggle_lists};
-use edit_commands::objects::{insert_horizontal_rule, insert_image, insert_line_break};
-use edit_commands::query::is_caret;
+use inline_value::actions::{affected_host, ends_of};
+use inline_value::css::TextAlign;
+use inline_value::doc::{Committed, Doc, EditFault, Flags, NodeRef, Pair};
+use inline_value::query::is_caret;
+use inline_value::{Overrides, record_overrides};
+use insert_objects::{insert_horizontal_rule, insert_image, insert_line_break};
+use list_indent::{indent, outdent};
+use list_toggle::{ListKind, toggle_lists};
 use std::alloc::{AllocError, Global};
+use text_deletion::{delete, insert_paragraph, insert_text};
 
 // styleWithCSS and useCSS, step 1.
 #[tactic(auto, using(edit_model::proofs::Steps::actions), unfolding(crate::specs::Commands::set_css_styling))]
@@ -190,7 +190,7 @@ fn host_of_range(doc: &Doc, range: Pair) -> Option<NodeRef>
     requires { IsPlacedPair doc.now.state.trees range }
     ensures { Finds doc.now result (host_of_pair doc.now.state.trees range) }
 {
-    edit_commands::questions::affected_host(doc, ends_of(doc, range))
+    inline_value::questions::affected_host(doc, ends_of(doc, range))
 }
 
 // Selects a range.

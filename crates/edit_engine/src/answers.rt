@@ -1,6 +1,6 @@
 //! What an editor answers, and why it refuses.
 
-use edit_commands::doc::{EditFault, MarkFault};
+use inline_value::doc::{EditFault, MarkFault};
 use std::alloc::AllocError;
 use step_text::script::Path;
 use thiserror::Error;

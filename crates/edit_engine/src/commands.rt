@@ -4,7 +4,7 @@ ghost use Rattle.std.specs.Prelude.{◌≡◌};
 ghost use Rattle.std.specs.Char.{to_ascii_lowercase};
 ghost use Rattle.edit_engine.specs.Commands.{facts, row_of, types_text, is_value};
 
-use edit_commands::element_names::Command;
+use edit_model::element_names::Command;
 use std::marker::Copy;
 
 /// What is known of a command, whatever it does.

@@ -3,7 +3,7 @@
 ghost use Rattle.std.specs.Prelude.{◌≡◌};
 ghost use Rattle.edit_engine.specs.Following.{first_following, changed_by, after_commit, after_undo, after_redo};
 
-use edit_commands::doc::Committed;
+use inline_value::doc::Committed;
 
 /// Which edits the last call made that changed something.
 #[derive(Clone, Copy)]

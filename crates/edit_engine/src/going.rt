@@ -5,8 +5,8 @@ ghost use Rattle.edit_engine.specs.Going.{is_typing, goes_on, joins_by, going_af
 ghost use Rattle.edit_engine.specs.Running.{has_entry};
 
 use crate::commands::types_text;
-use edit_commands::doc::Committed;
-use edit_commands::element_names::Command;
+use edit_model::element_names::Command;
+use inline_value::doc::Committed;
 
 /// What the next command may go on with.
 #[derive(Clone, Copy, PartialEq, Eq, Debug)]

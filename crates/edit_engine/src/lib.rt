@@ -22,14 +22,10 @@ mod turning;
 mod views;
 
 pub use answers::{Answer, ExecFault, LogFault, PlaceFault, ReplaceFault, ViewFault, ViewKind};
-pub use command_gate as policy;
-pub use edit_commands::query::Reply;
-pub use edit_commands::{doc, element_names};
 pub use editor::Editor;
+pub use inline_value::query::Reply;
 pub use laws::{
     gone_labels_stay, history_is_ignored, locked_span_is_island, refusals_leave_the_state,
     runs_are_plain,
 };
-pub use step_text as log_text;
-pub use step_text::{escapes, script, writer};
 pub use turning::Turn;

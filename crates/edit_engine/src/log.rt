@@ -4,8 +4,8 @@ ghost use Rattle.std.specs.Prelude.{◌≡◌, ◌++◌, map, IfOk, OnOk};
 ghost use Rattle.std.specs.List.{flat_map};
 ghost use Rattle.edit_engine.specs.Logs.{made_steps, edit_step, entry_steps, step_line, step_lines};
 
-use edit_commands::doc::{LoggedEdit, LoggedEntry, MadeNode};
-use edit_commands::dom::Content;
+use edit_model::dom::Content;
+use inline_value::doc::{LoggedEdit, LoggedEntry, MadeNode};
 use std::alloc::{AllocError, Global};
 use step_text::{Made, StepLine, push_step};
 

@@ -1,16 +1,16 @@
 //! Points by the path of their node, and by its label.
 
 ghost use Rattle.std.specs.Prelude.{◌≡◌, IfSome, true};
-ghost use Rattle.edit_commands.specs.PointOrder.PointOrder.{is_placed, is_in_document};
+ghost use Rattle.edit_model.specs.PointOrder.PointOrder.{is_placed, is_in_document};
 ghost use Rattle.edit_model.specs.Valid.{IsPlacedPair};
-ghost use Rattle.edit_commands.specs.EditDoc.Whole.{IsClosed};
-ghost use Rattle.edit_commands.specs.EditDoc.Held.{Holds, Finds};
-ghost use Rattle.edit_commands.specs.NodePaths.Paths.{label_at};
+ghost use Rattle.inline_value.specs.EditDoc.Whole.{IsClosed};
+ghost use Rattle.inline_value.specs.EditDoc.Held.{Holds, Finds};
+ghost use Rattle.inline_value.specs.NodePaths.Paths.{label_at};
 ghost use Rattle.edit_engine.specs.Places.{point_in, point_at, pair_at, placed_pair};
 
-use edit_commands::boundary::is_placed;
-use edit_commands::doc::{Doc, NodeRef, Pair, Point};
-use edit_commands::node_place::resolve;
+use edit_model::boundary::is_placed;
+use inline_value::doc::{Doc, NodeRef, Pair, Point};
+use inline_value::node_place::resolve;
 use step_text::script::{Path, Place};
 
 // The point at an offset of a node of the document.

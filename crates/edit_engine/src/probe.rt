@@ -1,17 +1,17 @@
 //! What the tests of nodes answer of a node, on one line.
 
 ghost use Rattle.std.specs.Prelude.{◌≡◌, ◌++◌, OnOk, IfOk};
-ghost use Rattle.edit_commands.specs.DomModel.Contents.{is_element_at};
-ghost use Rattle.edit_commands.specs.DomModel.Editing.{editing_host};
-ghost use Rattle.edit_commands.specs.NodeArena.Held.{label};
-ghost use Rattle.edit_commands.specs.EditDoc.Whole.{IsClosed};
-ghost use Rattle.edit_commands.specs.EditDoc.Held.{Holds, IfHeld};
+ghost use Rattle.edit_model.specs.DomModel.Contents.{is_element_at};
+ghost use Rattle.edit_model.specs.DomModel.Editing.{editing_host};
+ghost use Rattle.edit_model.specs.NodeArena.Held.{label};
+ghost use Rattle.inline_value.specs.EditDoc.Whole.{IsClosed};
+ghost use Rattle.inline_value.specs.EditDoc.Held.{Holds, IfHeld};
 ghost use Rattle.edit_engine.specs.Probe.{tested, path_or_none, host_words, text_words, break_words, style_text, style_words, probe_line};
 
-use edit_commands::doc::{Doc, Kind, NodeRef};
-use edit_commands::node_place::push_path;
-use edit_commands::properties::Property;
-use edit_commands::questions::{
+use inline_value::doc::{Doc, Kind, NodeRef};
+use inline_value::node_place::push_path;
+use inline_value::properties::Property;
+use inline_value::questions::{
     editing_host, is_block, is_block_prop, is_collapsed_break, is_collapsed_whitespace, is_element,
     is_extraneous_break, is_visible, is_whitespace, resolved,
 };

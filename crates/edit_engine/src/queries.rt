@@ -6,10 +6,10 @@ ghost use Rattle.edit_engine.specs.Commands.{is_enabled, is_enabled_in};
 ghost use Rattle.edit_engine.specs.Queries.{asked_if_enabled, reply_for, reply_of};
 
 use crate::commands::row_of;
-use edit_commands::actions::affected_host;
-use edit_commands::doc::{Doc, NodeRef};
-use edit_commands::element_names::{Command, QueryKind};
-use edit_commands::query::{Reply, no_reply, query};
+use edit_model::element_names::{Command, QueryKind};
+use inline_value::actions::affected_host;
+use inline_value::doc::{Doc, NodeRef};
+use inline_value::query::{Reply, no_reply, query};
 use std::alloc::{AllocError, Global};
 
 /// Whether a command is enabled in an affected editing host, or without one.

@@ -3,8 +3,8 @@
 
 ghost use Rattle.std.specs.Prelude.{◌≡◌, ◌↔◌, IfOk, Some, Err};
 ghost use Rattle.std.specs.Option.{option_map};
-ghost use Rattle.edit_commands.specs.DomModel.Forest.{count_of};
-ghost use Rattle.edit_commands.specs.NodePaths.Paths.{label_at};
+ghost use Rattle.edit_model.specs.DomModel.Forest.{count_of};
+ghost use Rattle.inline_value.specs.NodePaths.Paths.{label_at};
 ghost use Rattle.node_texts.specs.NodeHtml.{node_html};
 ghost use Rattle.node_texts.specs.Occurrences.{found_in};
 ghost use Rattle.node_texts.specs.PlainText.{plain_text};
@@ -12,8 +12,8 @@ ghost use Rattle.edit_engine.specs.SelectedTexts.{selected_html, selected_text};
 
 use crate::answers::ViewFault;
 use crate::editor::Editor;
-use edit_commands::actions::ends_of;
-use edit_commands::doc::Point;
+use inline_value::actions::ends_of;
+use inline_value::doc::Point;
 use node_texts::{find, node_html, path_of, plain_text, range_html, range_text};
 use std::alloc::{AllocError, Global};
 use step_text::script::Path;

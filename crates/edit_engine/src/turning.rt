@@ -1,14 +1,14 @@
 //! Undo and redo of an entry, where nobody counts the edits that it has.
 
 ghost use Rattle.std.specs.Prelude.{◌≡◌, ◌↔◌, ◌<◌, IsTrue, length};
-ghost use Rattle.edit_commands.specs.EditDoc.Kept.{HoldsOnlyNeeded};
+ghost use Rattle.inline_value.specs.EditDoc.Kept.{HoldsOnlyNeeded};
 ghost use Rattle.edit_engine.specs.Changes.{CanFollow};
 ghost use Rattle.edit_engine.specs.Editing.{document};
 ghost use Rattle.edit_engine.specs.Labels.{KeepsLabels};
 ghost use Rattle.edit_engine.specs.Turning.{entries_of, turned_by};
 
 use crate::editor::Editor;
-use edit_commands::stepping::Steps;
+use edit_model::stepping::Steps;
 use std::marker::Brand;
 use std::sync::ledger::{Blank, Ledger};
 

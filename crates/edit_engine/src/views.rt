@@ -1,16 +1,16 @@
 //! What is printed of a document.
 
 ghost use Rattle.std.specs.Prelude.{◌≡◌, ◌++◌, IfOk, codes, string_bytes, length};
-ghost use Rattle.step_text.specs.PageWrite.Html.{document_html};
-ghost use Rattle.step_text.specs.PageWrite.Listing.{document_lines};
-ghost use Rattle.step_text.specs.PageWrite.PointLines.{point_lines};
-ghost use Rattle.edit_commands.specs.DomModel.Document.{node_count, char_count};
-ghost use Rattle.edit_commands.specs.EditDoc.Whole.{IsClosed, first_edits};
+ghost use Rattle.page_write.specs.Html.{document_html};
+ghost use Rattle.page_write.specs.Listing.{document_lines};
+ghost use Rattle.page_write.specs.PointLines.{point_lines};
+ghost use Rattle.edit_model.specs.DomModel.Document.{node_count, char_count};
+ghost use Rattle.inline_value.specs.EditDoc.Whole.{IsClosed, first_edits};
 ghost use Rattle.edit_engine.specs.Views.{document_numbers, history_numbers};
 
-use edit_commands::doc::Doc;
+use inline_value::doc::Doc;
+use page_write::{write_html, write_points, write_tree};
 use std::alloc::{AllocError, Global};
-use step_text::writer::{write_html, write_points, write_tree};
 
 /// The HTML of the document, and a line feed.
 pub(crate) fn html_line(alloc: Global, doc: &Doc) -> Result<Vec<u8>, AllocError>

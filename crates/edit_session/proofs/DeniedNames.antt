@@ -6,10 +6,10 @@ use Rattle.std.specs.Str.{bytes_eq}
 use Rattle.std.proofs.lemmas.Slice.Eq.{bytes_eq-Decides}
 use Rattle.std.proofs.lemmas.Bool.Decides.{nat_tests}
 use Rattle.std.proofs.lemmas.List.{length-append}
-use Rattle.edit_engine.specs.ScriptRead.Acts.{is_name}
-use Rattle.edit_engine.specs.ScriptRead.Reading.{cut}
-use Rattle.edit_engine.proofs.ScriptRead.Cutting.{split-cut, split-uncut, cut-parts}
-use Rattle.edit_engine.specs.CommandGate.Denied.{lowered, is_denied}
+use Rattle.script_read.specs.Acts.{is_name}
+use Rattle.script_read.specs.Reading.{cut}
+use Rattle.script_read.proofs.Cutting.{split-cut, split-uncut, cut-parts}
+use Rattle.command_gate.specs.Denied.{lowered, is_denied}
 use Rattle.edit_session.specs.Denials.{parts_of, names_in}
 
 or_false : (b : Bool) → (b || false) ≡ b

@@ -1,10 +1,10 @@
 -- Each reading of a transcript is what its grammar says.
 use Rattle.std.proofs.Common.{refl, sym, subst}
 use Rattle.page_read.proofs.PageGrammar.Telling.{reading_is, only_reading}
-use Rattle.edit_engine.proofs.ScriptRead.Lines.{means, one_meaning}
-use Rattle.edit_engine.proofs.StepText.SoundSteps.{step_of_line}
-use Rattle.page_read.specs.PageGrammar.Reading.{IsReading}
-use Rattle.edit_engine.specs.ScriptRead.Reading.{IsLine}
+use Rattle.script_read.proofs.Lines.{means, one_meaning}
+use Rattle.step_text.proofs.SoundSteps.{step_of_line}
+use Rattle.step_text.specs.PageGrammar.Reading.{IsReading}
+use Rattle.script_read.specs.Reading.{IsLine}
 use Rattle.edit_session.specs.Words.{order_of}
 use Rattle.edit_session.specs.Block.{block_in}
 use Rattle.edit_session.specs.Grammars.{RestsOnGrammars}

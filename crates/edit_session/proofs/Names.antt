@@ -7,7 +7,7 @@ use Rattle.std.proofs.lemmas.Bool.Decides.{nat_tests}
 use Rattle.std.proofs.lemmas.Str.{IsUtf8-from_ascii}
 use Rattle.std.proofs.lemmas.Str.Ascii.{IsAscii-from_all}
 use Rattle.std.proofs.lemmas.List.Elements.{All-cons}
-use Rattle.edit_engine.specs.ScriptRead.Acts.{is_name, is_name_byte}
+use Rattle.script_read.specs.Acts.{is_name, is_name_byte}
 
 byte_low : (b : ℕ) → is_name_byte b ≡ true → b < 128
 byte_low b h = grind (arith, nat_tests)

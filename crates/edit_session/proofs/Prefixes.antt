@@ -5,7 +5,7 @@ use Rattle.std.specs.Option.{option_map, option_map_or}
 use Rattle.std.specs.List.{join_with_byte}
 use Rattle.std.proofs.lemmas.Bool.Decides.{nat_tests}
 use Rattle.std.proofs.lemmas.List.{append_assoc, append-nil}
-use Rattle.page_read.specs.PageGrammar.Reading.{Reading, Children, Refused, page_reading}
+use Rattle.step_text.specs.PageGrammar.Reading.{Reading, Children, Refused, page_reading}
 use Rattle.edit_engine.specs.Editing.{Editing}
 use Rattle.edit_session.specs.Block.{Block, NoOpening, NoClosing, Whole, Cut, lines_of, before_line, cut_at, with_line, opening_word, block_cut, block_opened, block_in, block_of}
 use Rattle.edit_session.specs.Replies.{line_reply, replies_to}

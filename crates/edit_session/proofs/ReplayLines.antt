@@ -5,15 +5,15 @@ use Rattle.std.specs.List.{flat_map}
 use Rattle.std.proofs.lemmas.Bool.Decides.{nat_tests}
 use Rattle.std.proofs.lemmas.List.{length-append}
 use Rattle.std.proofs.lemmas.Str.{length-le-encodes}
-use Rattle.edit_engine.specs.EscapedText.Escaped.{escape_of, escaped, escaped_bytes}
-use Rattle.edit_engine.specs.StepText.Applying.{Labelled, text_length, made_length}
-use Rattle.edit_engine.specs.StepText.StepLine.{quoted, made_text, line_text}
-use Rattle.edit_engine.specs.StepText.declared.line.Made.{Made}
-use Rattle.edit_engine.specs.StepText.declared.line.Made.TheVariants as made
-use Rattle.edit_engine.specs.StepText.declared.line.StepFault.{StepFault}
-use Rattle.edit_engine.specs.StepText.declared.line.StepFault.TheVariants.{Syntax, BadLabel, BadPlace, TooDeep, Memory}
-use Rattle.edit_engine.specs.StepText.declared.line.StepLine.{StepLine}
-use Rattle.edit_engine.specs.StepText.declared.line.StepLine.TheVariants.{Entry, Make, Insert, Remove, Move, Words, Tag}
+use Rattle.step_text.specs.EscapedText.Escaped.{escape_of, escaped, escaped_bytes}
+use Rattle.step_text.specs.Applying.{Labelled, text_length, made_length}
+use Rattle.step_text.specs.StepLine.{quoted, made_text, line_text}
+use Rattle.step_text.specs.declared.line.Made.{Made}
+use Rattle.step_text.specs.declared.line.Made.TheVariants as made
+use Rattle.step_text.specs.declared.line.StepFault.{StepFault}
+use Rattle.step_text.specs.declared.line.StepFault.TheVariants.{Syntax, BadLabel, BadPlace, TooDeep, Memory}
+use Rattle.step_text.specs.declared.line.StepLine.{StepLine}
+use Rattle.step_text.specs.declared.line.StepLine.TheVariants.{Entry, Make, Insert, Remove, Move, Words, Tag}
 use Rattle.edit_session.specs.Block.{lines_of}
 use Rattle.edit_session.specs.Replay.{Replayed, none_yet, replayed, line_replayed, lines_replayed, replay, IsFault}
 use Rattle.edit_session.specs.declared.replay.Refusal.{Refusal}

@@ -8,20 +8,20 @@ use Rattle.edit_io.specs.Faults.{Rose}
 use Rattle.edit_io.specs.Told.{TakesPrefix}
 use Rattle.edit_io.proofs.Told.{takes_whole, takes_longer, takes_after}
 use Rattle.edit_io.proofs.Faults.{Rose-after}
-use Rattle.page_read.specs.DomModel.declared.Content.{Content}
-use Rattle.page_read.specs.DomModel.Forest.{Forest}
-use Rattle.page_read.specs.DomModel.ArenaState.{ArenaState}
-use Rattle.page_read.specs.PageGrammar.Page.{Siblings}
-use Rattle.page_read.specs.PageGrammar.Kind.{Kind}
-use Rattle.page_read.specs.PageGrammar.Nodes.{document_of}
-use Rattle.page_read.specs.PageGrammar.Reading.{Reading, Children, Refused, page_reading}
+use Rattle.edit_model.specs.DomModel.declared.Content.{Content}
+use Rattle.edit_model.specs.DomModel.Forest.{Forest}
+use Rattle.edit_model.specs.DomModel.ArenaState.{ArenaState}
+use Rattle.step_text.specs.PageGrammar.Page.{Siblings}
+use Rattle.step_text.specs.PageGrammar.Kind.{Kind}
+use Rattle.step_text.specs.PageGrammar.Nodes.{document_of}
+use Rattle.step_text.specs.PageGrammar.Reading.{Reading, Children, Refused, page_reading}
 use Rattle.page_read.specs.Answer.{IsFaultAnswer}
 use Rattle.page_read.specs.declared.faults.PageFault.{PageFault}
 use Rattle.edit_session.specs.Block.{Block, NoOpening, NoClosing, Whole, lines_of, block_of}
-use Rattle.edit_engine.specs.EditDoc.Whole.{first_state}
+use Rattle.inline_value.specs.EditDoc.Whole.{first_state}
 use Rattle.edit_engine.specs.Editing.{Editing, new_editing}
-use Rattle.page_read.specs.PageGrammar.Page.{size}
-use Rattle.page_read.specs.DomModel.Forest.{tops}
+use Rattle.step_text.specs.PageGrammar.Page.{size}
+use Rattle.edit_model.specs.DomModel.Forest.{tops}
 use Rattle.page_read.specs.Answer.{IsDocument}
 use Rattle.edit_session.specs.Replies.{line_reply, replies_to}
 use Rattle.edit_session.specs.Transcript.{Transcript, transcript_of, page_editing, page_document, checked, acted, run_block, step_refused, replay_ended, replayed_on, replay_block, gives}
@@ -32,9 +32,9 @@ use Rattle.edit_session.specs.Bulk.{bulk_text}
 use Rattle.edit_session.specs.Words.{Limits, Order, Run, Check, Replay, Bulk, usual_limits}
 use Rattle.edit_session.specs.Replay.{Replayed, replay, IsFault}
 use Rattle.edit_session.specs.declared.replay.Refusal.{Refusal}
-use Rattle.edit_engine.specs.StepText.Applying.{labelled}
-use Rattle.edit_engine.specs.StepText.declared.line.StepFault.{StepFault}
-use Rattle.edit_engine.specs.StepText.declared.line.StepFault.TheVariants as faults
+use Rattle.step_text.specs.Applying.{labelled}
+use Rattle.step_text.specs.declared.line.StepFault.{StepFault}
+use Rattle.step_text.specs.declared.line.StepFault.TheVariants as faults
 
 -- ---- statuses that no transcript gives
 

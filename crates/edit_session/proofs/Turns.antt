@@ -1,7 +1,7 @@
 -- Going through the history so many times.
 use Rattle.std.proofs.Common.{◌≡◌, ℕ, zero, suc, ◌+◌, ◌-◌, ◌<◌, ◌≤◌, List, [], ◌∷◌, length, Bool, false, true≢false, refl, sym, ap, arith}
 use Rattle.std.specs.Prelude.{min, IsTrue, ◌↔◌}
-use Rattle.edit_engine.specs.EditModel.History.{Entry, undone_state, undone_history, redone_state, redone_history}
+use Rattle.edit_model.specs.History.{Entry, undone_state, undone_history, redone_state, redone_history}
 use Rattle.edit_engine.specs.declared.turning.Turn.{Turn}
 use Rattle.edit_engine.specs.declared.turning.Turn.TheVariants.{Undo, Redo}
 use Rattle.edit_engine.specs.Editing.{Editing, undone, redone, turned_times}

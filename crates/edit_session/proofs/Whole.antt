@@ -6,7 +6,7 @@ use Rattle.std.specs.Io.KnownBytes.{Appends, Consumes, IsAtEnd}
 use Rattle.std.proofs.KnownBytes.{Appends-nil, Consumes-whole}
 use Rattle.edit_io.specs.Faults.{Rose}
 use Rattle.edit_io.specs.Handed.{handed_more}
-use Rattle.edit_engine.specs.ScriptRead.Reading.{number_of}
+use Rattle.script_read.specs.Reading.{number_of}
 use Rattle.edit_session.specs.Words.{Order, Run, Check, Replay, Bulk, reads_input, Choice, CapAt, UndoUpTo, Denying, Given, order_of, amount_of, choice_of, greatest_cap, greatest_undo, usual_undo, with_choice, AreSettings, IsOrder, none_given}
 use Rattle.edit_session.specs.Transcript.{Transcript, transcript_of, transcript, order_transcript, gives}
 use Rattle.edit_session.specs.Following.{Follows, RunFollows, IsAnswered, IsBegun, HasCap, Answered}

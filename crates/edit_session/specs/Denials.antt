@@ -2,9 +2,9 @@
 -- with a comma between. Case doesn't matter, and a repeated name counts once.
 use Rattle.std.specs.Prelude.{ℕ, Bool, ◌&&◌, ◌==◌, nat_le, List, [], ◌∷◌, length, map, Option, Some, None, if◌then◌else◌}
 use Rattle.std.specs.List.{list_all}
-use Rattle.edit_engine.specs.ScriptRead.Acts.{is_name}
-use Rattle.edit_engine.specs.ScriptRead.Reading.{split}
-use Rattle.edit_engine.specs.CommandGate.Denied.{lowered, is_denied}
+use Rattle.script_read.specs.Acts.{is_name}
+use Rattle.script_read.specs.Reading.{split}
+use Rattle.command_gate.specs.Denied.{lowered, is_denied}
 
 abbrev pub parts_of : List ℕ → List (List ℕ)
 parts_of text = split 44 text

@@ -4,7 +4,7 @@ use Rattle.std.specs.Io.KnownBytes.{Appends, Consumes, IsAtEnd}
 use Rattle.edit_io.specs.Faults.{Rose}
 use Rattle.edit_io.specs.Handed.{handed_more}
 use Rattle.edit_io.specs.Told.{TakesPrefix}
-use Rattle.page_read.specs.PageGrammar.Kind.{Kind}
+use Rattle.step_text.specs.PageGrammar.Kind.{Kind}
 use Rattle.edit_session.specs.Words.{Order, Run, Check, Replay, Bulk, reads_input, IsOrder}
 use Rattle.edit_session.specs.Transcript.{Transcript, refused, word_of, transcript}
 use Rattle.edit_session.specs.declared.session.Status.{Status}

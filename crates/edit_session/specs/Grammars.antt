@@ -1,10 +1,10 @@
 -- What the definitions of a transcript rest on: each reading is what its grammar says.
 use Rattle.std.specs.Prelude.{◌≡◌, ◌↔◌, ℕ, List, Some}
-use Rattle.page_read.specs.PageGrammar.Reading.{Reading, page_reading, IsReading}
-use Rattle.edit_engine.specs.ScriptRead.Reading.{Line, line_of, IsLine}
-use Rattle.edit_engine.specs.StepText.declared.line.StepLine.{StepLine}
-use Rattle.edit_engine.specs.StepText.StepLine.{IsStepLine, line_text}
-use Rattle.edit_engine.specs.StepText.StepReading.{step_in}
+use Rattle.step_text.specs.PageGrammar.Reading.{Reading, page_reading, IsReading}
+use Rattle.script_read.specs.Reading.{Line, line_of, IsLine}
+use Rattle.step_text.specs.declared.line.StepLine.{StepLine}
+use Rattle.step_text.specs.StepLine.{IsStepLine, line_text}
+use Rattle.step_text.specs.StepReading.{step_in}
 use Rattle.edit_session.specs.Words.{Order, order_of, IsOrder}
 use Rattle.edit_session.specs.Block.{Block, block_in, IsBlock}
 use Rattle.edit_session.specs.Transcript.{depth_limit}

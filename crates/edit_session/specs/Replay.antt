@@ -1,11 +1,11 @@
 -- The replay of step lines on a document: each line in order, up to the first that doesn't fit.
 use Rattle.std.specs.Prelude.{◌≡◌, ℕ, ◌+◌, List, [], ◌∷◌, Option, Some, None, Result, Ok, Err}
-use Rattle.edit_engine.specs.StepText.Applying.{Labelled, fault_of, line_applied}
-use Rattle.edit_engine.specs.StepText.StepReading.{step_in}
-use Rattle.edit_engine.specs.StepText.declared.line.StepFault.{StepFault}
-use Rattle.edit_engine.specs.StepText.declared.line.StepFault.TheVariants.{Syntax, BadLabel, BadPlace, TooDeep, Memory}
-use Rattle.edit_engine.specs.StepText.declared.line.StepLine.{StepLine}
-use Rattle.edit_engine.specs.StepText.declared.line.StepLine.TheVariants.{Entry, Make, Insert, Remove, Move, Words, Tag}
+use Rattle.step_text.specs.Applying.{Labelled, fault_of, line_applied}
+use Rattle.step_text.specs.StepReading.{step_in}
+use Rattle.step_text.specs.declared.line.StepFault.{StepFault}
+use Rattle.step_text.specs.declared.line.StepFault.TheVariants.{Syntax, BadLabel, BadPlace, TooDeep, Memory}
+use Rattle.step_text.specs.declared.line.StepLine.{StepLine}
+use Rattle.step_text.specs.declared.line.StepLine.TheVariants.{Entry, Make, Insert, Remove, Move, Words, Tag}
 use Rattle.edit_session.specs.declared.replay.Refusal.{Refusal}
 use Rattle.edit_session.specs.declared.replay.Tally.{Tally}
 

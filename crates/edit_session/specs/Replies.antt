@@ -2,15 +2,15 @@
 use Rattle.std.specs.Prelude.{◌≡◌, ℕ, Bool, true, false, not, ◌&&◌, ◌==◌, min, List, [], ◌∷◌, ◌++◌, length, codes, bytes_eq, Option, Some, None, if◌then◌else◌}
 use Rattle.std.specs.Option.{unwrap_or}
 use Rattle.std.specs.Fmt.{decimal}
-use Rattle.edit_engine.specs.LiveRange.LivePoints.{has_mark}
-use Rattle.edit_engine.specs.LiveRange.declared.places.Pair.{Pair}
-use Rattle.edit_engine.specs.EscapedText.Escaped.{escaped_bytes}
-use Rattle.edit_engine.specs.ScriptRead.declared.act.Act.{Act}
-use Rattle.edit_engine.specs.ScriptRead.declared.act.Act.TheVariants.{Select, Unselect, Mark, Unmark, Exec, Query, Undo, Redo, Probe, Html, Tree, Points, Stat, Log}
-use Rattle.edit_engine.specs.ScriptRead.Acts.{is_name}
-use Rattle.edit_engine.specs.ScriptRead.Reading.{Line, Long, Unknown, Known, line_of}
-use Rattle.edit_engine.specs.EditQuery.declared.reply.Reply.{Reply}
-use Rattle.edit_engine.specs.EditQuery.declared.reply.Reply.TheVariants as reply
+use Rattle.edit_model.specs.LiveRange.LivePoints.{has_mark}
+use Rattle.edit_model.specs.LiveRange.declared.places.Pair.{Pair}
+use Rattle.step_text.specs.EscapedText.Escaped.{escaped_bytes}
+use Rattle.script_read.specs.declared.act.Act.{Act}
+use Rattle.script_read.specs.declared.act.Act.TheVariants.{Select, Unselect, Mark, Unmark, Exec, Query, Undo, Redo, Probe, Html, Tree, Points, Stat, Log}
+use Rattle.script_read.specs.Acts.{is_name}
+use Rattle.script_read.specs.Reading.{Line, Long, Unknown, Known, line_of}
+use Rattle.inline_value.specs.EditQuery.declared.reply.Reply.{Reply}
+use Rattle.inline_value.specs.EditQuery.declared.reply.Reply.TheVariants as reply
 use Rattle.edit_engine.specs.declared.answers.ViewKind.{ViewKind}
 use Rattle.edit_engine.specs.declared.answers.ViewKind.TheVariants as view
 use Rattle.edit_engine.specs.Editing.{Editing, undone, redone, turned_times}

@@ -2,17 +2,17 @@
 use Rattle.std.specs.Prelude.{ℕ, suc, ◌&&◌, nat_lt, List, [], ◌++◌, length, codes, Result, Ok, Err, if◌then◌else◌}
 use Rattle.std.specs.Option.{option_map_or}
 use Rattle.std.specs.Fmt.{decimal}
-use Rattle.page_read.specs.DomModel.declared.Content.{Content}
-use Rattle.page_read.specs.DomModel.Forest.{Forest}
-use Rattle.page_read.specs.DomModel.Document.{node_count, char_count}
-use Rattle.page_read.specs.PageGrammar.Kind.{Kind, TooLong as PageTooLong, Unclosed, NotUtf8, TooDeep, Full, UnsupportedElement, RepeatedAttribute, UnknownReference, StrayEnd, BadAttribute, BadTag}
-use Rattle.page_read.specs.PageGrammar.Nodes.{document_of}
-use Rattle.page_read.specs.PageGrammar.Reading.{Reading, Children, Refused, page_reading}
-use Rattle.page_read.specs.PageGrammar.Page.{Siblings, size}
-use Rattle.edit_engine.specs.PageWrite.Html.{document_html}
-use Rattle.edit_engine.specs.StepText.Applying.{Labelled}
-use Rattle.edit_engine.specs.StepText.declared.line.StepFault.{StepFault}
-use Rattle.edit_engine.specs.StepText.declared.line.StepFault.TheVariants as steps
+use Rattle.edit_model.specs.DomModel.declared.Content.{Content}
+use Rattle.edit_model.specs.DomModel.Forest.{Forest}
+use Rattle.edit_model.specs.DomModel.Document.{node_count, char_count}
+use Rattle.step_text.specs.PageGrammar.Kind.{Kind, TooLong as PageTooLong, Unclosed, NotUtf8, TooDeep, Full, UnsupportedElement, RepeatedAttribute, UnknownReference, StrayEnd, BadAttribute, BadTag}
+use Rattle.step_text.specs.PageGrammar.Nodes.{document_of}
+use Rattle.step_text.specs.PageGrammar.Reading.{Reading, Children, Refused, page_reading}
+use Rattle.step_text.specs.PageGrammar.Page.{Siblings, size}
+use Rattle.page_write.specs.Html.{document_html}
+use Rattle.step_text.specs.Applying.{Labelled}
+use Rattle.step_text.specs.declared.line.StepFault.{StepFault}
+use Rattle.step_text.specs.declared.line.StepFault.TheVariants as steps
 use Rattle.edit_engine.specs.Editing.{Editing, new_editing}
 use Rattle.edit_engine.specs.Views.{document_numbers}
 use Rattle.edit_session.specs.Replies.{replies_to}

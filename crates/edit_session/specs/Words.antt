@@ -4,7 +4,7 @@ use Rattle.std.specs.Prelude.{◌≡◌, ◌⊎◌, ℕ, Bool, true, false, ◌&
 use denote.Ref.{Bor}
 use Rattle.std.specs.Option.{option_map, option_and_then, option_map_or}
 use Rattle.std.specs.List.{starts_with}
-use Rattle.edit_engine.specs.ScriptRead.Reading.{number_of}
+use Rattle.script_read.specs.Reading.{number_of}
 use Rattle.edit_session.specs.Denials.{names_of, names_in}
 use Rattle.edit_session.specs.declared.words.Order as read_order
 use Rattle.edit_session.specs.declared.words.Order.TheVariants as orders

@@ -1,8 +1,8 @@
 //! The replies to the lines of a session.
 
 ghost use Rattle.std.specs.Prelude.{◌≡◌, ◌&&◌, min, length, codes, IfOk, OnOk, string_bytes, true};
-ghost use Rattle.edit_engine.specs.ScriptRead.Acts.{is_name};
-ghost use Rattle.edit_engine.specs.ScriptRead.Reading.{line_of};
+ghost use Rattle.script_read.specs.Acts.{is_name};
+ghost use Rattle.script_read.specs.Reading.{line_of};
 ghost use Rattle.edit_engine.specs.Editing.{turned_times};
 ghost use Rattle.edit_engine.specs.Execution.{gated_outcome};
 ghost use Rattle.edit_engine.specs.Places.{pair_at};
@@ -11,15 +11,15 @@ ghost use Rattle.edit_engine.specs.Turning.{entries_of, turned_by};
 ghost use Rattle.edit_engine.specs.Views.{view_text};
 ghost use Rattle.edit_session.specs.Replies.{truth, select_reply, mark_reply, exec_reply, query_text, taken, undo_reply, redo_reply, log_reply, shown, act_reply, read_reply, line_reply, IsNamed};
 
-use edit_engine::element_names::QueryKind;
-use edit_engine::escapes::push_escaped;
-use edit_engine::policy::{Gate, NameList};
-use edit_engine::script::{Act, LineFault, Place, read_line};
+use command_gate::{Gate, NameList};
 use edit_engine::{
     Answer, Editor, ExecFault, LogFault, PlaceFault, Reply, Turn, ViewFault, ViewKind,
 };
-use page_read::dom::{Chars, Name};
+use edit_model::dom::{Chars, Name};
+use edit_model::element_names::QueryKind;
+use script_read::{Act, LineFault, Place, read_line};
 use std::alloc::{AllocError, Global};
+use step_text::escapes::push_escaped;
 
 fn truth(flag: bool) -> &'static [u8]
     ensures { result.now ≡ truth flag }

@@ -1,11 +1,11 @@
 //! The names of commands that are denied: a list with a comma between. Case doesn't matter.
 
 ghost use Rattle.std.specs.Prelude.{◌≡◌, map, IfOk};
-ghost use Rattle.edit_engine.specs.CommandGate.Denied.{lowered, is_denied};
+ghost use Rattle.command_gate.specs.Denied.{lowered, is_denied};
 ghost use Rattle.edit_session.specs.Denials.{parts_of, names_in, are_names, denied_by};
 
-use edit_engine::policy::{Gate, NameList, Policy};
-use edit_engine::script::{cut, is_name};
+use command_gate::{Gate, NameList, Policy};
+use script_read::{cut, is_name};
 use std::alloc::{AllocError, Global};
 
 // How many names may be denied.

@@ -18,11 +18,6 @@ mod words;
 
 pub use block::{PageBlock, after_line, line_end, read_block};
 pub use denials::read_gate;
-pub use edit_engine as engine;
-pub use edit_engine::{doc, policy, script};
-pub use edit_io as streams;
 pub use laws::prefixes_answer;
-pub use page_read as reader;
-pub use page_read::{arena, dom};
 pub use session::{Status, run_session};
 pub use words::{Limits, Order, read_words};

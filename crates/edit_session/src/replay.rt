@@ -1,13 +1,13 @@
 //! Step lines, replayed on the nodes of a page.
 
 ghost use Rattle.std.specs.Prelude.{◌≡◌, ◌<◌, ◌≤◌, ◌+◌, ◌^◌, IfOk, length};
-ghost use Rattle.edit_engine.specs.StepText.Applying.{labelled};
+ghost use Rattle.step_text.specs.Applying.{labelled};
 ghost use Rattle.edit_session.specs.Block.{lines_of};
 ghost use Rattle.edit_session.specs.Replay.{tallied, replayed, line_replayed, replay, ReplaysLine, Replays};
 
 use crate::block::{after_line, line_end};
-use edit_engine::log_text::{Replay, StepFault, StepLine, read_step};
 use std::alloc::Global;
+use step_text::{Replay, StepFault, StepLine, read_step};
 
 /// How many entries began, and how many steps were taken other than those that make a node.
 #[derive(Clone, Copy, PartialEq, Eq, Debug)]

@@ -1,14 +1,14 @@
 //! The lines on pages and on replays.
 
 ghost use Rattle.std.specs.Prelude.{◌≡◌, ◌++◌, IfOk, OnOk, string_bytes};
-ghost use Rattle.page_read.specs.DomModel.Document.{node_count, char_count};
+ghost use Rattle.edit_model.specs.DomModel.Document.{node_count, char_count};
 ghost use Rattle.edit_session.specs.Transcript.{numbers_text, numbers_line, refused, fault_word, step_text, step_refused, tally_text, document_line, replayed_text};
 
 use crate::replay::{Refusal, Tally};
-use edit_engine::log_text::StepFault;
-use edit_engine::writer::write_html;
-use page_read::arena::Arena;
+use edit_model::arena::Arena;
+use page_write::write_html;
 use std::alloc::{AllocError, Global};
+use step_text::StepFault;
 
 fn numbers_text(alloc: Global, nodes: u32, chars: u64) -> Result<String, AllocError>
     ensures { IfOk result (λ text. string_bytes text ≡ numbers_text nodes chars) }

@@ -3,16 +3,16 @@
 ghost use Rattle.std.specs.Prelude.{◌≡◌, ◌⊎◌, ◌+◌, ◌<◌, ◌≤◌, ◌↔◌, ◌^◌, Result, [], length, map, string_bytes, IfOk, IfSome, Some, None, false};
 ghost use Rattle.edit_io.specs.Faults.{Rose};
 ghost use Rattle.edit_io.specs.Handed.{handed_more};
-ghost use Rattle.page_read.specs.PageGrammar.Reading.{page_reading};
+ghost use Rattle.step_text.specs.PageGrammar.Reading.{page_reading};
 ghost use Rattle.page_read.specs.Faults.{kind_of};
 ghost use Rattle.edit_session.specs.Bulk.{bulk_text};
 ghost use Rattle.edit_session.specs.Replay.{Replayed, replay, IsFault};
 ghost use Rattle.edit_session.specs.declared.replay.Refusal.{Refusal};
-ghost use Rattle.edit_engine.specs.StepText.Applying.{labelled};
+ghost use Rattle.step_text.specs.Applying.{labelled};
 ghost use Rattle.edit_session.specs.Words as asked;
 ghost use Rattle.edit_session.specs.Words.{reads_input, usual_limits, denied_in, limits_in, order_in, order_of};
 ghost use Rattle.edit_session.specs.Block.{lines_of, block_of};
-ghost use Rattle.edit_engine.specs.EditDoc.Whole.{HasNoLoose};
+ghost use Rattle.inline_value.specs.EditDoc.Whole.{HasNoLoose};
 ghost use Rattle.edit_engine.specs.Editing.{new_editing};
 ghost use Rattle.edit_session.specs.Replies.{line_reply, replies_to};
 ghost use Rattle.edit_session.specs.Transcript.{Transcript, numbers_line, transcript_of, refused, checked, acted, run_block, step_refused, replayed_text, replay_ended, replayed_on, replay_block, gives, transcript};
@@ -26,13 +26,13 @@ use crate::denials::{gate_of, read_names};
 use crate::replay::{Refusal, Tally, replay_lines};
 use crate::reply::{numbers, refusal, replayed_text, step_refusal};
 use crate::words::{GREATEST_CAP, Limits, Order, read_words, usual_limits};
+use command_gate::{Gate, NameList};
 use edit_engine::Editor;
-use edit_engine::log_text::StepFault;
-use edit_engine::policy::{Gate, NameList};
 use edit_io::{ReadAllFault, Sink, SinkFault, Source, read_all, write_all};
-use page_read::arena::Arena;
+use edit_model::arena::Arena;
 use page_read::{PageFault, PageKind, read_page};
 use std::alloc::{AllocError, Global};
+use step_text::StepFault;
 
 // How many bytes an input may have.
 const INPUT_LIMIT: usize = 8_388_608;
@@ -321,7 +321,7 @@ fn replay_steps<O: Sink>(alloc: Global, arena: Arena, steps: &[u8], output: &mut
         (O.taken output.old) (O.taken output.new) (O.faults output.old) (O.faults output.new)
         result }
 {
-    let mut page = edit_engine::log_text::Replay::new(arena);
+    let mut page = step_text::Replay::new(arena);
     match replay_lines(alloc, &mut page, steps) {
         Ok(tally) => end_replay(alloc, page.arena(), tally, output),
         Err(refusal) => refuse_step(alloc, output, refusal),

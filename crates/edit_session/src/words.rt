@@ -7,7 +7,7 @@ ghost use Rattle.edit_session.specs.Words as grammar;
 ghost use Rattle.edit_session.specs.Words.{reads_input, amount_of, is_given, given_in, limits_of, limits_in, order_in, bulk_count_of, usual_limits, none_given, lone_order, bulk_order, plain_order, choice_of, with_choice, setting_named, setting_read, joined_read, options_read, order_of, IsOrder};
 
 use crate::denials::are_names;
-use edit_engine::script::read_number;
+use script_read::read_number;
 use std::marker::Copy;
 
 /// What the program is asked to do.

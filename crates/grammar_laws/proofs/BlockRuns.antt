@@ -3,15 +3,15 @@ use Rattle.std.proofs.Common.{◌≡◌, ℕ, Bool, true, false, if◌then◌els
 use Rattle.std.specs.Prelude.{bytes_eq, codes, ◌++◌}
 use Rattle.std.proofs.lemmas.Bool.{or_cases}
 use Rattle.std.proofs.lemmas.Slice.Eq.{bytes_eq-Decides}
-use Rattle.edit_commands.specs.HtmlNames.ElementNames.{formattable_block_names, is_one_of}
-use Rattle.edit_commands.specs.EditModel.Run.{answer}
-use Rattle.edit_commands.specs.WrapSplit.declared.rule.Criterion.TheVariants.{Aligned}
-use Rattle.edit_commands.specs.WrapSplit.declared.rule.Recipe.TheVariants.{Make}
-use Rattle.edit_commands.specs.WrapSplit.Wrap.{wrap}
-use Rattle.edit_commands.specs.InlineValue.Wrappers.{bare}
-use Rattle.edit_commands.specs.BlockCommands.FormatBlock.{block_name, leave_blocks, split_blocks, same_block, make_block, format_container, format_line, format_next, format_range, format_block}
-use Rattle.edit_commands.specs.BlockCommands.Justify.{drop_plain, clear_alignment, clear_alignments, aligned_div, align_next, justify}
-use Rattle.edit_commands.specs.ForestChanges.Named.{Each}
+use Rattle.edit_model.specs.HtmlNames.ElementNames.{formattable_block_names, is_one_of}
+use Rattle.edit_model.specs.Run.{answer}
+use Rattle.inline_value.specs.WrapSplit.declared.rule.Criterion.TheVariants.{Aligned}
+use Rattle.inline_value.specs.WrapSplit.declared.rule.Recipe.TheVariants.{Make}
+use Rattle.inline_value.specs.WrapSplit.Wrap.{wrap}
+use Rattle.inline_value.specs.Wrappers.{bare}
+use Rattle.block_commands.specs.FormatBlock.{block_name, leave_blocks, split_blocks, same_block, make_block, format_container, format_line, format_next, format_range, format_block}
+use Rattle.block_commands.specs.Justify.{drop_plain, clear_alignment, clear_alignments, aligned_div, align_next, justify}
+use Rattle.inline_value.specs.ForestChanges.Named.{Each}
 use Rattle.making_laws.specs.Names.{made_names, is_made_name}
 use Rattle.grammar_laws.specs.Proper.{IsText}
 use Rattle.grammar_laws.specs.Runs.{Proper}
@@ -24,8 +24,8 @@ use Rattle.grammar_laws.proofs.Splits.{proper_keeping_children, proper_split_aro
 use Rattle.grammar_laws.proofs.PushingRuns.{proper_recorded, proper_restore_values}
 use Rattle.grammar_laws.proofs.StylingRuns.{proper_unset_style}
 use Rattle.grammar_laws.proofs.Wraps.{proper_wrap}
-use Rattle.edit_commands.specs.HtmlNames.ElementNames as names
-use Rattle.edit_commands.specs.BlockCommands.FormatBlock as blocks
+use Rattle.edit_model.specs.HtmlNames.ElementNames as names
+use Rattle.block_commands.specs.FormatBlock as blocks
 
 -- ---- formatBlock
 

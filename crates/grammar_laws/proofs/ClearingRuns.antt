@@ -1,16 +1,16 @@
 -- Clearing the value of an element keeps to the grammar.
 use Rattle.std.proofs.Common.{ℕ, List, refl}
 use Rattle.std.specs.Prelude.{codes}
-use Rattle.edit_commands.specs.CssValue.declared.decoration.DecorationLine.{DecorationLine}
-use Rattle.edit_commands.specs.HtmlNames.declared.commands.Command.{Command}
-use Rattle.edit_commands.specs.CommandValue.Subjects.{subject}
-use Rattle.edit_commands.specs.CommandValue.declared.subject.Subject.{Subject}
-use Rattle.edit_commands.specs.CommandValue.declared.subject.Subject.TheVariants.{Link, Background, Script, Line, Weight, Slant, Family, Size, Foreground, Nothing}
-use Rattle.edit_commands.specs.EditModel.Run.{done, given}
-use Rattle.edit_commands.specs.InlineValue.Clearing.{write_words, drop_line, drop_word, drop_property, hint_of, drop_attribute, drop_hint, drop_link, span_for, stripped, unwrapped, clear_value}
-use Rattle.edit_commands.specs.CssValue.StyleText.{is_empty}
-use Rattle.edit_commands.specs.CssValue.TextDecoration.{without_line}
-use Rattle.edit_commands.specs.InlineValue.Styling.{decoration_of, set_style, unset_style}
+use Rattle.inline_value.specs.CssValue.declared.decoration.DecorationLine.{DecorationLine}
+use Rattle.edit_model.specs.HtmlNames.declared.commands.Command.{Command}
+use Rattle.inline_value.specs.CommandValue.Subjects.{subject}
+use Rattle.inline_value.specs.CommandValue.declared.subject.Subject.{Subject}
+use Rattle.inline_value.specs.CommandValue.declared.subject.Subject.TheVariants.{Link, Background, Script, Line, Weight, Slant, Family, Size, Foreground, Nothing}
+use Rattle.edit_model.specs.Run.{done, given}
+use Rattle.inline_value.specs.Clearing.{write_words, drop_line, drop_word, drop_property, hint_of, drop_attribute, drop_hint, drop_link, span_for, stripped, unwrapped, clear_value}
+use Rattle.inline_value.specs.CssValue.StyleText.{is_empty}
+use Rattle.inline_value.specs.CssValue.TextDecoration.{without_line}
+use Rattle.inline_value.specs.Styling.{decoration_of, set_style, unset_style}
 use Rattle.grammar_laws.specs.Proper.{IsText}
 use Rattle.grammar_laws.specs.Runs.{Proper}
 use Rattle.grammar_laws.proofs.Styles.{rest_text}

@@ -1,15 +1,15 @@
 -- Deleting keeps to the grammar.
 use Rattle.std.proofs.Common.{ℕ}
-use Rattle.edit_commands.specs.LiveRange.declared.places.Point.{Point}
-use Rattle.edit_commands.specs.InlineValue.Ancestors.{split_out}
-use Rattle.edit_commands.specs.TextDeletion.Approach.{drop_child, back_turn, go_back, climb_turn, climb}
-use Rattle.edit_commands.specs.TextInsertion.Entries.{rename_stray}
-use Rattle.edit_commands.specs.TextInsertion.Start.{erase}
-use Rattle.edit_commands.specs.TextDeletion.Entries.{lift_entry, outdent_line, part_entry, part_entries}
-use Rattle.edit_commands.specs.TextDeletion.Delete.{erase_single, erase_line, join, delete_across, delete_from, delete_at_caret, delete}
-use Rattle.edit_commands.specs.DeleteCore.Deletion.{delete_selection}
-use Rattle.edit_commands.specs.ForestChanges.Named.{Each}
-use Rattle.edit_commands.specs.InlineCommands.RestoringStates.{restore_states}
+use Rattle.edit_model.specs.LiveRange.declared.places.Point.{Point}
+use Rattle.inline_value.specs.Ancestors.{split_out}
+use Rattle.text_deletion.specs.Approach.{drop_child, back_turn, go_back, climb_turn, climb}
+use Rattle.text_insertion.specs.Entries.{rename_stray}
+use Rattle.text_insertion.specs.Start.{erase}
+use Rattle.text_deletion.specs.Entries.{lift_entry, outdent_line, part_entry, part_entries}
+use Rattle.text_deletion.specs.Delete.{erase_single, erase_line, join, delete_across, delete_from, delete_at_caret, delete}
+use Rattle.delete_core.specs.Deletion.{delete_selection}
+use Rattle.inline_value.specs.ForestChanges.Named.{Each}
+use Rattle.inline_commands.specs.RestoringStates.{restore_states}
 use Rattle.grammar_laws.specs.Runs.{Proper}
 use Rattle.grammar_laws.proofs.Values.{IsOverride}
 use Rattle.grammar_laws.proofs.AncestorRuns.{made_container, proper_fix_ancestors}

@@ -1,20 +1,20 @@
 -- Deleting the selection keeps to the grammar.
 use Rattle.std.proofs.Common.{◌≡◌, ℕ, ◌+◌, Bool, true, refl, arith, List, [], ◌∷◌, slice_get, Option, Some, None, IfSome}
-use Rattle.edit_commands.specs.LiveRange.declared.places.Point.{Point}
-use Rattle.edit_commands.specs.InlineValue.Recording.{Recorded, restore_values}
-use Rattle.edit_commands.specs.EditModel.Edit.{Replace}
+use Rattle.edit_model.specs.LiveRange.declared.places.Point.{Point}
+use Rattle.inline_value.specs.Recording.{Recorded, restore_values}
+use Rattle.edit_model.specs.Edit.{Replace}
 use Rattle.std.proofs.lemmas.Bool.Decides.{nat_tests}
-use Rattle.edit_commands.specs.DomModel.Forest.{children_of, first_of, next_of}
-use Rattle.edit_commands.specs.PointOrder.PointOrder.{child_toward}
-use Rattle.edit_commands.specs.EditModel.Run.{◌>>◌, answer, done, given}
-use Rattle.edit_commands.specs.ForestChanges.Named.{Each}
-use Rattle.edit_commands.specs.InlineValue.Overrides.{states_of}
-use Rattle.edit_commands.specs.DeleteCore.Spaces.{is_blank}
-use Rattle.edit_commands.specs.DeleteCore.Deletion.{erase_across, erase, delete_recorded, delete_selected, delete_range, delete_between, delete_selection}
-use Rattle.edit_commands.specs.DeleteCore.Ends.{collapse_selection, canonicalize_start, canonicalize_end, out_of_start, out_of_end, block_of_end}
-use Rattle.edit_commands.specs.DeleteCore.Erasing.{erase_within, cut_after, cut_before, fill_hollow, removed_up, strip_empty, strip_from, remove_under, remove_node, remove_nodes}
-use Rattle.edit_commands.specs.DeleteCore.Merging.{line_from, line_at, drop_prop, drop_sole, part_lines, remove_own, drop_parted, drop_soles, drop_block, split_line, split_out, drop_break_before, take_out_line, take_line, merge_content, merge_inner, drop_last_break, take_following, merge_outer, drop_emptied, take_children, merge_beside, merged, join_lists_at, join_next, join_once, join_lists, fill_empty, finish, finish_if, merge, merge_both, merge_if}
-use Rattle.edit_commands.specs.DeleteCore.Whitespace.{scan_blank, scan_char, scan_turn, scan_blanks, trim_char, trim_turn, trimmed, trimmed_if, starts_line, ends_line, spaces_for, put_space, next_laid, lay_char, lay_out, lay_text, lay_turn, lay_all, laid_between, canonicalize_from, canonicalize}
+use Rattle.edit_model.specs.DomModel.Forest.{children_of, first_of, next_of}
+use Rattle.edit_model.specs.PointOrder.PointOrder.{child_toward}
+use Rattle.edit_model.specs.Run.{◌>>◌, answer, done, given}
+use Rattle.inline_value.specs.ForestChanges.Named.{Each}
+use Rattle.inline_value.specs.Overrides.{states_of}
+use Rattle.delete_core.specs.Spaces.{is_blank}
+use Rattle.delete_core.specs.Deletion.{erase_across, erase, delete_recorded, delete_selected, delete_range, delete_between, delete_selection}
+use Rattle.delete_core.specs.Ends.{collapse_selection, canonicalize_start, canonicalize_end, out_of_start, out_of_end, block_of_end}
+use Rattle.delete_core.specs.Erasing.{erase_within, cut_after, cut_before, fill_hollow, removed_up, strip_empty, strip_from, remove_under, remove_node, remove_nodes}
+use Rattle.delete_core.specs.Merging.{line_from, line_at, drop_prop, drop_sole, part_lines, remove_own, drop_parted, drop_soles, drop_block, split_line, split_out, drop_break_before, take_out_line, take_line, merge_content, merge_inner, drop_last_break, take_following, merge_outer, drop_emptied, take_children, merge_beside, merged, join_lists_at, join_next, join_once, join_lists, fill_empty, finish, finish_if, merge, merge_both, merge_if}
+use Rattle.delete_core.specs.Whitespace.{scan_blank, scan_char, scan_turn, scan_blanks, trim_char, trim_turn, trimmed, trimmed_if, starts_line, ends_line, spaces_for, put_space, next_laid, lay_char, lay_out, lay_text, lay_turn, lay_all, laid_between, canonicalize_from, canonicalize}
 use Rattle.grammar_laws.specs.Proper.{IsText}
 use Rattle.grammar_laws.specs.Runs.{Proper}
 use Rattle.grammar_laws.proofs.Texts.{low_letter, text}

@@ -1,15 +1,15 @@
 -- Forcing a value keeps to the grammar.
 use Rattle.std.proofs.Common.{refl, ℕ, zero, suc, Bool, List, Option}
 use Rattle.std.specs.Prelude.{codes}
-use Rattle.edit_commands.specs.HtmlNames.declared.commands.Command.{Command}
-use Rattle.edit_commands.specs.CommandValue.Subjects.{subject}
-use Rattle.edit_commands.specs.CommandValue.declared.subject.Subject.{Subject}
-use Rattle.edit_commands.specs.CommandValue.declared.subject.Subject.TheVariants.{Link, Background, Script, Line, Weight, Slant, Family, Size, Foreground, Nothing}
-use Rattle.edit_commands.specs.EditModel.Run.{Run, done}
-use Rattle.edit_commands.specs.InlineValue.Forcing.{reorder_prev, reorder_next, joined, rename_link, rename_links, clear_way, make_wrapper, style_by, style_wrapper, taken_back, confirm_value, put_in, wrapped, unless_alike, force_node, force_self, heirs, force_child, force_heirs, forced, force_value, force}
-use Rattle.edit_commands.specs.CommandValue.Subjects.{relevant}
-use Rattle.edit_commands.specs.InlineValue.Clearing.{property_name}
-use Rattle.edit_commands.specs.InlineValue.Forcing.{set_relevant}
+use Rattle.edit_model.specs.HtmlNames.declared.commands.Command.{Command}
+use Rattle.inline_value.specs.CommandValue.Subjects.{subject}
+use Rattle.inline_value.specs.CommandValue.declared.subject.Subject.{Subject}
+use Rattle.inline_value.specs.CommandValue.declared.subject.Subject.TheVariants.{Link, Background, Script, Line, Weight, Slant, Family, Size, Foreground, Nothing}
+use Rattle.edit_model.specs.Run.{Run, done}
+use Rattle.inline_value.specs.Forcing.{reorder_prev, reorder_next, joined, rename_link, rename_links, clear_way, make_wrapper, style_by, style_wrapper, taken_back, confirm_value, put_in, wrapped, unless_alike, force_node, force_self, heirs, force_child, force_heirs, forced, force_value, force}
+use Rattle.inline_value.specs.CommandValue.Subjects.{relevant}
+use Rattle.inline_value.specs.Clearing.{property_name}
+use Rattle.inline_value.specs.Forcing.{set_relevant}
 use Rattle.grammar_laws.specs.Proper.{IsText}
 use Rattle.grammar_laws.specs.Runs.{Proper}
 use Rattle.grammar_laws.proofs.Values.{IsValue, property_text}

@@ -1,7 +1,7 @@
 -- Removing the format keeps to the grammar.
 use Rattle.std.proofs.Common.{ℕ, None}
-use Rattle.edit_commands.specs.InlineValue.Recording.{recorded_commands}
-use Rattle.edit_commands.specs.InlineCommands.RemovingFormat.{unwrap_candidates, part_from_format, part_nodes, clear_command, clear_commands, remove_format}
+use Rattle.inline_value.specs.Recording.{recorded_commands}
+use Rattle.inline_commands.specs.RemovingFormat.{unwrap_candidates, part_from_format, part_nodes, clear_command, clear_commands, remove_format}
 use Rattle.grammar_laws.specs.Runs.{Proper}
 use Rattle.grammar_laws.proofs.ProperRuns.{proper_each, proper_parts, proper_unwrap}
 use Rattle.grammar_laws.proofs.SelectionRuns.{proper_set_value, proper_split_ends}

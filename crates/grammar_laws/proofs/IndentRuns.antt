@@ -4,20 +4,20 @@ use Rattle.std.specs.Prelude.{codes, bytes_eq, unwrap_or}
 use Rattle.std.specs.Option.{option_map_or}
 use Rattle.std.proofs.lemmas.Bool.{or_cases}
 use Rattle.std.proofs.lemmas.Slice.Eq.{bytes_eq-Decides}
-use Rattle.edit_commands.specs.DomModel.Contents.{has_name, name_of}
-use Rattle.edit_commands.specs.DomModel.Forest.{first_in, parent_of}
-use Rattle.edit_commands.specs.EditModel.State.{State}
-use Rattle.edit_commands.specs.EditModel.Compositions.{tag_of}
-use Rattle.edit_commands.specs.EditModel.Valid.{IsValid}
-use Rattle.edit_commands.specs.EditModel.Run.{Run, done, given, look}
-use Rattle.edit_commands.specs.WrapSplit.declared.rule.Criterion.TheVariants.{Named, SimpleIndentation}
-use Rattle.edit_commands.specs.WrapSplit.declared.rule.Recipe.TheVariants.{Make}
-use Rattle.edit_commands.specs.InlineValue.Wrappers.{bare}
-use Rattle.edit_commands.specs.ListIndent.Sublists.{is_list}
-use Rattle.edit_commands.specs.ListIndent.Indenting.{if_list, nested, fixed, quoted, indent_list}
-use Rattle.edit_commands.specs.ListIndent.Outdenting.{to_div, unboxed, unindented, unwrapped, released, outdent_list, part_around, part_level, part_levels, outdent_through, outdent_along, outdent_node}
-use Rattle.edit_commands.specs.ListIndent.Commands.{normalize_range, normalize_before, goes_on, indent_nodes, indent, split_items, goes_on_items, outdent_series, outdent_nodes, outdent}
-use Rattle.edit_commands.specs.ListIndent.Series.{take_series, series_at_most, for_series}
+use Rattle.edit_model.specs.DomModel.Contents.{has_name, name_of}
+use Rattle.edit_model.specs.DomModel.Forest.{first_in, parent_of}
+use Rattle.edit_model.specs.State.{State}
+use Rattle.edit_model.specs.Compositions.{tag_of}
+use Rattle.edit_model.specs.Valid.{IsValid}
+use Rattle.edit_model.specs.Run.{Run, done, given, look}
+use Rattle.inline_value.specs.WrapSplit.declared.rule.Criterion.TheVariants.{Named, SimpleIndentation}
+use Rattle.inline_value.specs.WrapSplit.declared.rule.Recipe.TheVariants.{Make}
+use Rattle.inline_value.specs.Wrappers.{bare}
+use Rattle.list_indent.specs.Sublists.{is_list}
+use Rattle.list_indent.specs.Indenting.{if_list, nested, fixed, quoted, indent_list}
+use Rattle.list_indent.specs.Outdenting.{to_div, unboxed, unindented, unwrapped, released, outdent_list, part_around, part_level, part_levels, outdent_through, outdent_along, outdent_node}
+use Rattle.list_indent.specs.Commands.{normalize_range, normalize_before, goes_on, indent_nodes, indent, split_items, goes_on_items, outdent_series, outdent_nodes, outdent}
+use Rattle.list_indent.specs.Series.{take_series, series_at_most, for_series}
 use Rattle.making_laws.specs.Names.{made_names, is_made_name}
 use Rattle.grammar_laws.specs.Proper.{IsProperState}
 use Rattle.grammar_laws.specs.Runs.{Proper}

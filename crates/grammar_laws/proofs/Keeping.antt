@@ -2,42 +2,42 @@
 use Rattle.std.proofs.Common.{◌≡◌, ℕ, ◌<◌, ◌^◌, Bool, true, false, not, cond, eqb, List, [], ◌∷◌, length, Option, Some, None, refl, sym, ◌∙◌, arith}
 use Rattle.std.specs.Prelude.{nat_lt, codes, ◌&&◌, if◌then◌else◌}
 use Rattle.std.proofs.lemmas.Bool.{and_parts}
-use Rattle.edit_commands.specs.DomModel.declared.Content.{Content}
-use Rattle.edit_commands.specs.DomModel.declared.Content.TheVariants.{Document, Element, Words, Remark}
-use Rattle.edit_commands.specs.DomModel.declared.attributes.Attribute.{Attribute}
-use Rattle.edit_commands.specs.DomModel.AttributeList.{are_distinct}
-use Rattle.edit_commands.specs.DomModel.Contents.{is_parent_at}
-use Rattle.edit_commands.specs.DomModel.Editing.{editing_host}
-use Rattle.edit_commands.specs.DomModel.Forest.{Forest, IsWithin, count_of, parent_of}
-use Rattle.edit_commands.proofs.DomModel.AttributeLemmas.{distinct-nothing}
-use Rattle.edit_commands.proofs.DomModel.Links.{parent_count}
-use Rattle.edit_commands.proofs.DomModel.Totals.{total-without}
-use Rattle.edit_commands.specs.HtmlNames.declared.commands.Command.{Command}
-use Rattle.edit_commands.specs.LiveRange.LivePoints.{LivePoints}
-use Rattle.edit_commands.specs.LiveRange.declared.places.Pair.{Pair}
-use Rattle.edit_commands.specs.LiveRange.declared.places.Point.{Point}
-use Rattle.edit_commands.specs.PointOrder.PointOrder.{is_in_document}
-use Rattle.edit_commands.specs.ForestChanges.Named.{Each}
-use Rattle.edit_commands.specs.EditModel.State.{State}
-use Rattle.edit_commands.specs.EditModel.Confined.{is_editable_for, may_select, may_grow, may_send}
-use Rattle.edit_commands.specs.EditModel.Compositions.{attribute_list_of}
-use Rattle.edit_commands.specs.EditModel.Edit.{Edit, Insert, Remove, Move, Replace, Set, Unset, is_made_edit, trees_after, overrides_after, changed, change_of, with_change, with_replaced, with_set, with_unset, edited}
-use Rattle.edit_commands.specs.EditModel.Action as action
-use Rattle.edit_commands.specs.EditModel.Tail.{copy_of, document_size}
-use Rattle.edit_commands.specs.EditModel.Action.{Action, made, applied, tail_of, may_extract, extracted, words_content, with_selection, selected, extended, extended_from, grown, sent, scratched, acted, element_content}
-use Rattle.edit_commands.specs.EditModel.Overrides.{no_overrides, with_setting}
-use Rattle.edit_commands.specs.EditModel.Run.{Reaches, here, onward}
-use Rattle.edit_commands.specs.EditModel.Valid.{IsValid}
-use Rattle.edit_commands.specs.EditModel.declared.settings.Setting.{Setting}
-use Rattle.edit_commands.specs.EditModel.declared.settings.Setting.TheVariants.{Absent}
-use Rattle.edit_commands.proofs.EditModel.Steps.{either_way}
-use Rattle.edit_commands.proofs.EditModel.ValidRuns.{valid_along}
-use Rattle.edit_commands.proofs.EditModel.TailPossible.{tail_possible}
-use Rattle.edit_commands.proofs.EditModel.TailPlan.{IsCopy, is_copy, tail_fits}
-use Rattle.edit_commands.proofs.EditModel.TailSteps.{extract_tests, either_extracted}
-use Rattle.edit_commands.proofs.EditModel.TailRuns.{fit_steps}
-use Rattle.edit_commands.proofs.EditModel.TailOutside.{host_of}
-use Rattle.edit_commands.proofs.EditModel.TailStates.{host_between}
+use Rattle.edit_model.specs.DomModel.declared.Content.{Content}
+use Rattle.edit_model.specs.DomModel.declared.Content.TheVariants.{Document, Element, Words, Remark}
+use Rattle.edit_model.specs.DomModel.declared.attributes.Attribute.{Attribute}
+use Rattle.edit_model.specs.DomModel.AttributeList.{are_distinct}
+use Rattle.edit_model.specs.DomModel.Contents.{is_parent_at}
+use Rattle.edit_model.specs.DomModel.Editing.{editing_host}
+use Rattle.edit_model.specs.DomModel.Forest.{Forest, IsWithin, count_of, parent_of}
+use Rattle.edit_model.proofs.DomModel.AttributeLemmas.{distinct-nothing}
+use Rattle.edit_model.proofs.DomModel.Links.{parent_count}
+use Rattle.edit_model.proofs.DomModel.Totals.{total-without}
+use Rattle.edit_model.specs.HtmlNames.declared.commands.Command.{Command}
+use Rattle.edit_model.specs.LiveRange.LivePoints.{LivePoints}
+use Rattle.edit_model.specs.LiveRange.declared.places.Pair.{Pair}
+use Rattle.edit_model.specs.LiveRange.declared.places.Point.{Point}
+use Rattle.edit_model.specs.PointOrder.PointOrder.{is_in_document}
+use Rattle.inline_value.specs.ForestChanges.Named.{Each}
+use Rattle.edit_model.specs.State.{State}
+use Rattle.edit_model.specs.Confined.{is_editable_for, may_select, may_grow, may_send}
+use Rattle.edit_model.specs.Compositions.{attribute_list_of}
+use Rattle.edit_model.specs.Edit.{Edit, Insert, Remove, Move, Replace, Set, Unset, is_made_edit, trees_after, overrides_after, changed, change_of, with_change, with_replaced, with_set, with_unset, edited}
+use Rattle.edit_model.specs.Action as action
+use Rattle.edit_model.specs.Tail.{copy_of, document_size}
+use Rattle.edit_model.specs.Action.{Action, made, applied, tail_of, may_extract, extracted, words_content, with_selection, selected, extended, extended_from, grown, sent, scratched, acted, element_content}
+use Rattle.edit_model.specs.Overrides.{no_overrides, with_setting}
+use Rattle.edit_model.specs.Run.{Reaches, here, onward}
+use Rattle.edit_model.specs.Valid.{IsValid}
+use Rattle.edit_model.specs.declared.settings.Setting.{Setting}
+use Rattle.edit_model.specs.declared.settings.Setting.TheVariants.{Absent}
+use Rattle.edit_model.proofs.Steps.{either_way}
+use Rattle.edit_model.proofs.ValidRuns.{valid_along}
+use Rattle.edit_model.proofs.TailPossible.{tail_possible}
+use Rattle.edit_model.proofs.TailPlan.{IsCopy, is_copy, tail_fits}
+use Rattle.edit_model.proofs.TailSteps.{extract_tests, either_extracted}
+use Rattle.edit_model.proofs.TailRuns.{fit_steps}
+use Rattle.edit_model.proofs.TailOutside.{host_of}
+use Rattle.edit_model.proofs.TailStates.{host_between}
 use Rattle.making_laws.proofs.Named.{IsNamed, named_within}
 use Rattle.step_text.specs.StepLine.{is_attribute_name}
 use Rattle.grammar_laws.specs.Proper.{AllNodes, IsText, IsPageTag, IsProper, IsProperChange, IsProperSetting, IsProperNode, IsProperState}

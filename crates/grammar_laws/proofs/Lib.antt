@@ -31,4 +31,3 @@ pub mod ErasingRuns
 pub mod DeleteRuns
 pub mod TypingRuns
 pub mod ObjectRuns
-pub use Rattle.page_laws.proofs as PageLaws

@@ -1,12 +1,12 @@
 -- Making links, and unlink, keep to the grammar.
 use Rattle.std.proofs.Common.{ℕ, List, [], ◌∷◌, Some, true}
 use Rattle.std.specs.Prelude.{codes}
-use Rattle.edit_commands.specs.HtmlNames.declared.commands.Command.TheVariants as command
-use Rattle.edit_commands.specs.InlineCommands.Linking.{links_around, relink, relink_range, link_range, link_to, create_link}
-use Rattle.edit_commands.specs.InlineCommands.Unlink.{clear_links, unlink}
-use Rattle.edit_commands.specs.EditModel.Confined.{is_editable_for}
-use Rattle.edit_commands.specs.EditModel.Run.{◌>>◌, done, set_attribute}
-use Rattle.edit_commands.specs.InlineValue.Selections.{set_value}
+use Rattle.edit_model.specs.HtmlNames.declared.commands.Command.TheVariants as command
+use Rattle.inline_commands.specs.Linking.{links_around, relink, relink_range, link_range, link_to, create_link}
+use Rattle.inline_commands.specs.Unlink.{clear_links, unlink}
+use Rattle.edit_model.specs.Confined.{is_editable_for}
+use Rattle.edit_model.specs.Run.{◌>>◌, done, set_attribute}
+use Rattle.inline_value.specs.Selections.{set_value}
 use Rattle.grammar_laws.specs.Proper.{IsText}
 use Rattle.grammar_laws.specs.Runs.{Proper}
 use Rattle.making_laws.proofs.TameRuns.{set_href_name}

@@ -2,9 +2,9 @@
 use Rattle.std.proofs.Common.{◌≡◌, ℕ, Bool, true, false, cond, List, [], ◌∷◌, Some, IfSome}
 use Rattle.std.specs.Prelude.{bytes_eq}
 use Rattle.std.specs.List.{IsDistinct}
-use Rattle.edit_commands.specs.DomModel.declared.attributes.Attribute.{Attribute}
-use Rattle.edit_commands.specs.DomModel.AttributeList.{value_of, set_in, unset_in}
-use Rattle.edit_commands.proofs.DomModel.AttributeLemmas.{distinct-set, distinct-unset}
+use Rattle.edit_model.specs.DomModel.declared.attributes.Attribute.{Attribute}
+use Rattle.edit_model.specs.DomModel.AttributeList.{value_of, set_in, unset_in}
+use Rattle.edit_model.proofs.DomModel.AttributeLemmas.{distinct-set, distinct-unset}
 use Rattle.step_text.specs.StepLine.{is_attribute_name, AreAttributes}
 use Rattle.making_laws.specs.Names.{is_set_name}
 use Rattle.grammar_laws.specs.Proper.{IsText, IsList}

@@ -7,7 +7,7 @@ use Rattle.std.proofs.lemmas.Bool.{or_cases, and_parts, not-true}
 use Rattle.std.proofs.lemmas.Slice.Eq.{bytes_eq-Decides}
 use lib.Utf8.{encode}
 use Rattle.std.specs.Str.{is_utf8, chars}
-use Rattle.edit_commands.specs.HtmlNames.ElementNames.{is_one_of, refused_names}
+use Rattle.edit_model.specs.HtmlNames.ElementNames.{is_one_of, refused_names}
 use Rattle.step_text.specs.PageGrammar.Chars.{is_letter, lower, is_name_char, is_digit, is_attribute_name_char, is_space, is_control}
 use Rattle.step_text.specs.PageGrammar.Names.{is_refused}
 use Rattle.step_text.specs.StepLine.{is_element_name, is_attribute_name}

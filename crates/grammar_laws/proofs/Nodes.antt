@@ -1,12 +1,12 @@
 -- What holds of each node of a forest, as trees are moved, made and revised.
 use Rattle.std.proofs.Common.{ℕ, Bool, true, false, cond, eqb, nat_lt, List, [], ◌∷◌, Option, Some, None, IfSome}
 use Rattle.std.specs.Option.{option_map, option_or}
-use Rattle.edit_commands.specs.DomModel.Forest.{Forest, Seen, seek, either, tops, is_label, join, tree_of, without, put_before, put_under, put_rising, link, unlink, with_leaf, content_of}
-use Rattle.edit_commands.specs.DomModel.Forest.Forest.{Nil, Tree}
-use Rattle.edit_commands.specs.DomModel.Revised.{revised}
-use Rattle.edit_commands.specs.DomModel.declared.Content.{Content}
-use Rattle.edit_commands.specs.ForestChanges.Named.{Each}
-use Rattle.edit_commands.specs.NodeStyles.Lineage.{Ancestor, lineage_from, lineage}
+use Rattle.edit_model.specs.DomModel.Forest.{Forest, Seen, seek, either, tops, is_label, join, tree_of, without, put_before, put_under, put_rising, link, unlink, with_leaf, content_of}
+use Rattle.edit_model.specs.DomModel.Forest.Forest.{Nil, Tree}
+use Rattle.edit_model.specs.DomModel.Revised.{revised}
+use Rattle.edit_model.specs.DomModel.declared.Content.{Content}
+use Rattle.inline_value.specs.ForestChanges.Named.{Each}
+use Rattle.inline_value.specs.NodeStyles.Lineage.{Ancestor, lineage_from, lineage}
 use Rattle.grammar_laws.specs.Proper.{AllNodes}
 use Rattle.grammar_laws.proofs.Texts.{some_or, some_or_else}
 

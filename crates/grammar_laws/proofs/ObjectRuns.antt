@@ -1,14 +1,14 @@
 -- Inserting line breaks, rules and images keeps to the grammar.
 use Rattle.std.proofs.Common.{ℕ, List, [], ◌∷◌, refl, ◌≡◌, true}
 use Rattle.std.specs.Prelude.{codes}
-use Rattle.edit_commands.specs.DomModel.declared.attributes.Attribute.{Attribute}
-use Rattle.edit_commands.specs.LiveRange.declared.places.Point.{Point}
-use Rattle.edit_commands.specs.EditModel.Run.{◌>>◌, answer, make_element}
-use Rattle.edit_commands.specs.TextInsertion.Start.{insert_at_start}
-use Rattle.edit_commands.specs.InsertObjects.Image.{drop_lone_break, source, put_image, show_image, insert_source, insert_image}
-use Rattle.edit_commands.specs.InsertObjects.LineBreak.{repeat_break, put_break, break_line, insert_line_break}
-use Rattle.edit_commands.specs.InsertObjects.Putting.{collapse_before, collapse_after, leave_text, put}
-use Rattle.edit_commands.specs.InsertObjects.Rule.{widen_range, put_rule, insert_horizontal_rule}
+use Rattle.edit_model.specs.DomModel.declared.attributes.Attribute.{Attribute}
+use Rattle.edit_model.specs.LiveRange.declared.places.Point.{Point}
+use Rattle.edit_model.specs.Run.{◌>>◌, answer, make_element}
+use Rattle.text_insertion.specs.Start.{insert_at_start}
+use Rattle.insert_objects.specs.Image.{drop_lone_break, source, put_image, show_image, insert_source, insert_image}
+use Rattle.insert_objects.specs.LineBreak.{repeat_break, put_break, break_line, insert_line_break}
+use Rattle.insert_objects.specs.Putting.{collapse_before, collapse_after, leave_text, put}
+use Rattle.insert_objects.specs.Rule.{widen_range, put_rule, insert_horizontal_rule}
 use Rattle.making_laws.specs.Names.{made_names, set_names, is_made_name, is_set_name}
 use Rattle.grammar_laws.specs.Proper.{IsText, IsList}
 use Rattle.grammar_laws.specs.Runs.{Proper}

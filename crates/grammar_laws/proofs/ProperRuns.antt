@@ -1,22 +1,22 @@
 -- Runs that keep to the grammar, by their parts.
 use Rattle.std.proofs.Common.{◌≡◌, ℕ, zero, suc, ◌-◌, Bool, true, false, ◌||◌, not, if◌then◌else◌, List, [], ◌∷◌, length, drop, Option, Some, None, IfSome, subst, sym}
 use Rattle.std.specs.Prelude.{codes}
-use Rattle.edit_commands.specs.DomModel.declared.attributes.Attribute.{Attribute}
-use Rattle.edit_commands.specs.DomModel.Contents.{has_name}
-use Rattle.edit_commands.specs.DomModel.Places.{index_of}
-use Rattle.edit_commands.specs.DomModel.Forest.{parent_of, next_of, children_of}
-use Rattle.edit_commands.specs.EditModel.State.{State}
-use Rattle.edit_commands.specs.EditModel.Edit.{Edit, Set}
-use Rattle.edit_commands.specs.LiveRange.declared.places.Point.{Point}
-use Rattle.edit_commands.specs.EditModel.Action.{Action, Change, MakeElement, MakeWords, Select, Override}
-use Rattle.edit_commands.specs.EditModel.Confined.{is_editable_for}
-use Rattle.edit_commands.specs.EditModel.Compositions.{attribute_list_of, characters_of, points_sent, split_under, split_words, renamed, set_tag_name}
-use Rattle.edit_commands.specs.EditModel.Moves.{insert_before, insert_after, make_break, move_before, move_after, move_first, move_all_before, move_all_after, move_all_first, move_each_last, unwrap}
-use Rattle.edit_commands.specs.EditModel.Valid.{IsValid}
-use Rattle.edit_commands.specs.EditModel.Run.{Reaches, here, onward, reaches_trans, Run, final, value, ◌>>=◌, act, answer, look, given, for_each, while_at_most, edit, insert, remove, replace, set_attribute, make_element, make_words, perform, select, collapse}
-use Rattle.edit_commands.proofs.EditModel.Steps.{value-bind, value-answer, value-look}
-use Rattle.edit_commands.proofs.EditModel.ValidRuns.{valid_along}
-use Rattle.edit_commands.specs.ForestChanges.Named.{Each}
+use Rattle.edit_model.specs.DomModel.declared.attributes.Attribute.{Attribute}
+use Rattle.edit_model.specs.DomModel.Contents.{has_name}
+use Rattle.edit_model.specs.DomModel.Places.{index_of}
+use Rattle.edit_model.specs.DomModel.Forest.{parent_of, next_of, children_of}
+use Rattle.edit_model.specs.State.{State}
+use Rattle.edit_model.specs.Edit.{Edit, Set}
+use Rattle.edit_model.specs.LiveRange.declared.places.Point.{Point}
+use Rattle.edit_model.specs.Action.{Action, Change, MakeElement, MakeWords, Select, Override}
+use Rattle.edit_model.specs.Confined.{is_editable_for}
+use Rattle.edit_model.specs.Compositions.{attribute_list_of, characters_of, points_sent, split_under, split_words, renamed, set_tag_name}
+use Rattle.edit_model.specs.Moves.{insert_before, insert_after, make_break, move_before, move_after, move_first, move_all_before, move_all_after, move_all_first, move_each_last, unwrap}
+use Rattle.edit_model.specs.Valid.{IsValid}
+use Rattle.edit_model.specs.Run.{Reaches, here, onward, reaches_trans, Run, final, value, ◌>>=◌, act, answer, look, given, for_each, while_at_most, edit, insert, remove, replace, set_attribute, make_element, make_words, perform, select, collapse}
+use Rattle.edit_model.proofs.Steps.{value-bind, value-answer, value-look}
+use Rattle.edit_model.proofs.ValidRuns.{valid_along}
+use Rattle.inline_value.specs.ForestChanges.Named.{Each}
 use Rattle.making_laws.specs.Names.{is_made_name, is_set_name}
 use Rattle.making_laws.proofs.TameRuns.{made_br}
 use Rattle.grammar_laws.specs.Proper.{IsText, IsList, IsProperState}

@@ -1,15 +1,15 @@
 -- Pushing values down, and restoring recorded values, keeps to the grammar.
 use Rattle.std.proofs.Common.{ℕ, List, [], ◌∷◌, Option, Some, None, reverse}
 use Rattle.std.specs.Prelude.{is_some}
-use Rattle.edit_commands.specs.DomModel.Forest.{first_in, last_in}
-use Rattle.edit_commands.specs.HtmlNames.declared.commands.Command.{Command}
-use Rattle.edit_commands.specs.CommandValue.SpecifiedValues.{specified}
-use Rattle.edit_commands.specs.EditModel.Run.{Run, ◌>>=◌, done}
-use Rattle.edit_commands.specs.ForestChanges.Named.{Each}
-use Rattle.edit_commands.specs.CommandValue.Equivalence.{equivalent}
-use Rattle.edit_commands.specs.InlineValue.Forcing.{force}
-use Rattle.edit_commands.specs.InlineValue.Pushing.{push_to, clear_level, push_level, own_or, is_hopeless, push_levels, push_from, push_listed, push_down}
-use Rattle.edit_commands.specs.InlineValue.Recording.{Recorded, restored_to, restore_value, restore_values, given_value, record_values, values_of}
+use Rattle.edit_model.specs.DomModel.Forest.{first_in, last_in}
+use Rattle.edit_model.specs.HtmlNames.declared.commands.Command.{Command}
+use Rattle.inline_value.specs.CommandValue.SpecifiedValues.{specified}
+use Rattle.edit_model.specs.Run.{Run, ◌>>=◌, done}
+use Rattle.inline_value.specs.ForestChanges.Named.{Each}
+use Rattle.inline_value.specs.CommandValue.Equivalence.{equivalent}
+use Rattle.inline_value.specs.Forcing.{force}
+use Rattle.inline_value.specs.Pushing.{push_to, clear_level, push_level, own_or, is_hopeless, push_levels, push_from, push_listed, push_down}
+use Rattle.inline_value.specs.Recording.{Recorded, restored_to, restore_value, restore_values, given_value, record_values, values_of}
 use Rattle.grammar_laws.specs.Runs.{Proper}
 use Rattle.grammar_laws.proofs.ProperRuns.{Gives, gives_answer, gives_look, proper_after, proper_answer, proper_bind, proper_each_such, proper_given, proper_if, proper_look, proper_parts}
 use Rattle.grammar_laws.proofs.ClearingRuns.{proper_clear_value}

@@ -2,11 +2,11 @@
 use Rattle.std.proofs.Common.{◌≡◌, ℕ, List, [], Option, Some, None, IfSome, refl, sym, ap, subst}
 use Rattle.std.specs.Prelude.{unwrap_or}
 use Rattle.std.specs.Option.{option_and_then}
-use Rattle.edit_commands.specs.DomModel.declared.Content.{Content}
-use Rattle.edit_commands.specs.DomModel.declared.Content.TheVariants.{Document, Element, Words, Remark}
-use Rattle.edit_commands.specs.DomModel.Contents.{name_in, attributes_in, chars_in}
-use Rattle.edit_commands.specs.DomModel.Forest.{Forest, content_of}
-use Rattle.edit_commands.specs.EditModel.Compositions.{tag_of, attribute_list_of, characters_of}
+use Rattle.edit_model.specs.DomModel.declared.Content.{Content}
+use Rattle.edit_model.specs.DomModel.declared.Content.TheVariants.{Document, Element, Words, Remark}
+use Rattle.edit_model.specs.DomModel.Contents.{name_in, attributes_in, chars_in}
+use Rattle.edit_model.specs.DomModel.Forest.{Forest, content_of}
+use Rattle.edit_model.specs.Compositions.{tag_of, attribute_list_of, characters_of}
 use Rattle.making_laws.proofs.Named.{IsNamed}
 use Rattle.grammar_laws.specs.Proper.{AllNodes, IsText, IsList, IsProper}
 use Rattle.grammar_laws.proofs.Lists.{list_none}

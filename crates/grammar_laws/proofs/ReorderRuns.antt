@@ -1,7 +1,7 @@
 -- Reordering modifiable descendants keeps to the grammar.
 use Rattle.std.proofs.Common.{ℕ, List}
-use Rattle.edit_commands.specs.HtmlNames.declared.commands.Command.{Command}
-use Rattle.edit_commands.specs.InlineValue.Reordering.{swapped, reorder_with, reorder}
+use Rattle.edit_model.specs.HtmlNames.declared.commands.Command.{Command}
+use Rattle.inline_value.specs.Reordering.{swapped, reorder_with, reorder}
 use Rattle.grammar_laws.specs.Runs.{Proper}
 use Rattle.grammar_laws.proofs.ProperRuns.{proper_moves, proper_parts}
 

@@ -1,22 +1,22 @@
 -- Restoring states and values keeps to the grammar.
 use Rattle.std.proofs.Common.{ℕ, List}
-use Rattle.edit_commands.specs.HtmlNames.declared.commands.Command.{Command}
-use Rattle.edit_commands.specs.EditModel.Action.{Override}
-use Rattle.edit_commands.specs.EditModel.declared.settings.Setting.{Setting}
-use Rattle.edit_commands.specs.EditModel.declared.settings.Setting.TheVariants.{On, Off, Text, Absent}
-use Rattle.edit_commands.specs.InlineCommands.RestoringStates.{override_by, set_override, turn_round, toggle_state, restore_on, restore_off, restore_shown, restore_link, is_other_value, restore_size, restore_text, restore_setting, restore_entry, restore_states}
-use Rattle.edit_commands.specs.EditModel.Run.{◌>>◌, done, for_each}
-use Rattle.edit_commands.specs.InlineCommands.ValueCommands.{apply_value}
-use Rattle.edit_commands.specs.EditQuery.Rows.{legacy_text}
-use Rattle.edit_commands.specs.ForestChanges.Named.{Each}
+use Rattle.edit_model.specs.HtmlNames.declared.commands.Command.{Command}
+use Rattle.edit_model.specs.Action.{Override}
+use Rattle.edit_model.specs.declared.settings.Setting.{Setting}
+use Rattle.edit_model.specs.declared.settings.Setting.TheVariants.{On, Off, Text, Absent}
+use Rattle.inline_commands.specs.RestoringStates.{override_by, set_override, turn_round, toggle_state, restore_on, restore_off, restore_shown, restore_link, is_other_value, restore_size, restore_text, restore_setting, restore_entry, restore_states}
+use Rattle.edit_model.specs.Run.{◌>>◌, done, for_each}
+use Rattle.inline_commands.specs.ValueCommands.{apply_value}
+use Rattle.inline_value.specs.EditQuery.Rows.{legacy_text}
+use Rattle.inline_value.specs.ForestChanges.Named.{Each}
 use Rattle.grammar_laws.specs.Proper.{IsText, IsProperSetting}
 use Rattle.grammar_laws.specs.Runs.{Proper}
 use Rattle.grammar_laws.proofs.Values.{IsOverride, legacy_there}
 use Rattle.grammar_laws.proofs.ProperRuns.{proper_act, proper_answer, proper_bind, proper_each_such, proper_if, proper_look, proper_parts}
 use Rattle.grammar_laws.proofs.TogglingRuns.{proper_apply_value, proper_toggle_script, proper_toggle_style}
 use Rattle.grammar_laws.proofs.LinkingRuns.{proper_create_link}
-use Rattle.edit_commands.specs.HtmlNames.declared.commands.Command.TheVariants as command
-use Rattle.edit_commands.specs.InlineValue.declared.overrides.Override as overrides
+use Rattle.edit_model.specs.HtmlNames.declared.commands.Command.TheVariants as command
+use Rattle.inline_value.specs.declared.overrides.Override as overrides
 
 proper_override : (c : Command) (setting : Setting) → IsProperSetting setting → Proper (override_by c setting)
 proper_override c Absent own = proper_answer tt

@@ -2,17 +2,17 @@
 use Rattle.std.proofs.Common.{ℕ, Bool, true, false, List, Option, Some, None, IfSome}
 use Rattle.std.specs.Prelude.{is_none, if◌then◌else◌}
 use Rattle.std.specs.Option.{option_map_or}
-use Rattle.edit_commands.specs.HtmlNames.ActivatedValues.{activated_values}
-use Rattle.edit_commands.specs.HtmlNames.ElementNames.{is_one_of}
-use Rattle.edit_commands.specs.DomModel.declared.Content.{Content}
-use Rattle.edit_commands.specs.DomModel.Forest.{Forest}
-use Rattle.edit_commands.specs.HtmlNames.declared.commands.Command.{Command}
-use Rattle.edit_commands.specs.LiveRange.declared.places.Pair.{Pair}
-use Rattle.edit_commands.specs.LiveRange.declared.places.Point.{Point}
-use Rattle.edit_commands.specs.EditModel.Action.{Override}
-use Rattle.edit_commands.specs.EditModel.declared.settings.Setting.TheVariants.{On, Off, Absent}
-use Rattle.edit_commands.specs.InlineValue.Selections.{with_start, set_start, start_text, split_at_start, split_at_end, split_start, split_end, split_ends, state_setting, value_setting, override_for, unset_rival, set_overrides, clear_one, clear_elements, force_phrase, give_node, give_nodes, give_range, set_value}
-use Rattle.edit_commands.specs.EditModel.Run.{done, set_setting}
+use Rattle.edit_model.specs.HtmlNames.ActivatedValues.{activated_values}
+use Rattle.edit_model.specs.HtmlNames.ElementNames.{is_one_of}
+use Rattle.edit_model.specs.DomModel.declared.Content.{Content}
+use Rattle.edit_model.specs.DomModel.Forest.{Forest}
+use Rattle.edit_model.specs.HtmlNames.declared.commands.Command.{Command}
+use Rattle.edit_model.specs.LiveRange.declared.places.Pair.{Pair}
+use Rattle.edit_model.specs.LiveRange.declared.places.Point.{Point}
+use Rattle.edit_model.specs.Action.{Override}
+use Rattle.edit_model.specs.declared.settings.Setting.TheVariants.{On, Off, Absent}
+use Rattle.inline_value.specs.Selections.{with_start, set_start, start_text, split_at_start, split_at_end, split_start, split_end, split_ends, state_setting, value_setting, override_for, unset_rival, set_overrides, clear_one, clear_elements, force_phrase, give_node, give_nodes, give_range, set_value}
+use Rattle.edit_model.specs.Run.{done, set_setting}
 use Rattle.grammar_laws.specs.Proper.{IsProperSetting}
 use Rattle.grammar_laws.specs.Runs.{Proper}
 use Rattle.grammar_laws.proofs.Values.{IsValue}
@@ -20,7 +20,7 @@ use Rattle.grammar_laws.proofs.ProperRuns.{proper_act, proper_answer, proper_bin
 use Rattle.grammar_laws.proofs.ClearingRuns.{proper_clear_value}
 use Rattle.grammar_laws.proofs.ForcingRuns.{proper_force}
 use Rattle.grammar_laws.proofs.PushingRuns.{proper_push_down}
-use Rattle.edit_commands.specs.HtmlNames.declared.commands.Command.TheVariants as command
+use Rattle.edit_model.specs.HtmlNames.declared.commands.Command.TheVariants as command
 
 proper_with_start : (f : Forest Content) (pair : Pair) (at : Point) → Proper (with_start f pair at)
 proper_with_start f pair at = search proper_parts

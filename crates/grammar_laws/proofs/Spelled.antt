@@ -3,14 +3,14 @@
 use Rattle.std.proofs.Common.{ℕ, List, [], length, Option, Some, None, IfSome, refl}
 use Rattle.std.specs.Prelude.{unwrap_or}
 use Rattle.std.specs.Option.{option_and_then}
-use Rattle.edit_commands.specs.DomModel.declared.attributes.Attribute.{Attribute}
-use Rattle.edit_commands.specs.DomModel.declared.Content.{Content}
-use Rattle.edit_commands.specs.DomModel.declared.Content.TheVariants.{Document, Element, Words, Remark}
-use Rattle.edit_commands.specs.DomModel.Change.{Change}
-use Rattle.edit_commands.specs.DomModel.Contents.{chars_in, with_chars, with_attributes}
-use Rattle.edit_commands.specs.DomModel.Forest.{Forest, content_of}
-use Rattle.edit_commands.specs.ForestChanges.Change as forest
-use Rattle.edit_commands.specs.EditModel.Compositions.{characters_of}
+use Rattle.edit_model.specs.DomModel.declared.attributes.Attribute.{Attribute}
+use Rattle.edit_model.specs.DomModel.declared.Content.{Content}
+use Rattle.edit_model.specs.DomModel.declared.Content.TheVariants.{Document, Element, Words, Remark}
+use Rattle.edit_model.specs.DomModel.Change.{Change}
+use Rattle.edit_model.specs.DomModel.Contents.{chars_in, with_chars, with_attributes}
+use Rattle.edit_model.specs.DomModel.Forest.{Forest, content_of}
+use Rattle.inline_value.specs.ForestChanges.Change as forest
+use Rattle.edit_model.specs.Compositions.{characters_of}
 use Rattle.step_text.specs.StepLine.{IsTag}
 use Rattle.grammar_laws.specs.Proper.{AllNodes, IsText, IsList, IsProper, IsProperChange}
 use Rattle.grammar_laws.proofs.Nodes.{node_at, nodes_also, nodes_linked, nodes_unlinked, nodes_revised}

@@ -5,18 +5,18 @@ use Rattle.std.specs.Char.{to_ascii_lowercase, is_ascii_digit, is_ascii_hexdigit
 use Rattle.std.specs.List.{list_all, onto_first, slice_split}
 use Rattle.std.proofs.lemmas.Bool.{and_parts}
 use Rattle.std.proofs.lemmas.Bool.Decides.{nat_tests}
-use Rattle.edit_commands.specs.CssValue.StyleText.{Declaration, Nesting, is_space, trim_start, before_trimmed, trim_end, trimmed, lowered, before_colon, after_colon, is_cut, after, outside, pieces, is_closed, is_empty, named, declaration_of, stated}
-use Rattle.edit_commands.specs.CssValue.DeclarationList.{value_of, set_in, unset_in, with_declaration, declarations_in, text_of, reads_back, set_property, printed_after, printed}
-use Rattle.edit_commands.specs.CssValue.Colours.{opaque_colour, named_colours, colour_in, named_colour, hex_value, of_digits, hex_colour, number_before, channel, after_space, with_blue, with_green, with_red, rgb_colour, if_none, marked_colour, functional_colour, colour_of, colour_text, split_first, transparent}
-use Rattle.edit_commands.specs.CssValue.Numbers as numbers
-use Rattle.edit_commands.specs.CssValue.Numbers.{number_up_to, is_trim, legacy_size}
-use Rattle.edit_commands.specs.CssValue.SizeKeywords.{SizeRow, smallest, larger, of_number, of_keyword, of_pixels, size_keyword}
-use Rattle.edit_commands.specs.CssValue.TextDecoration.{words, line_word, without_line}
-use Rattle.edit_commands.specs.CssValue.declared.colours.Colour.{Colour}
-use Rattle.edit_commands.specs.CssValue.declared.decoration.DecorationLine.{DecorationLine}
-use Rattle.edit_commands.specs.CssValue.declared.decoration.DecorationLine.TheVariants as line
-use Rattle.edit_commands.specs.InlineValue.Wrappers.{hex_digit, hex_pair, hex_text, size_of_keyword}
-use Rattle.edit_commands.specs.ForestChanges.Named.{Each}
+use Rattle.inline_value.specs.CssValue.StyleText.{Declaration, Nesting, is_space, trim_start, before_trimmed, trim_end, trimmed, lowered, before_colon, after_colon, is_cut, after, outside, pieces, is_closed, is_empty, named, declaration_of, stated}
+use Rattle.inline_value.specs.CssValue.DeclarationList.{value_of, set_in, unset_in, with_declaration, declarations_in, text_of, reads_back, set_property, printed_after, printed}
+use Rattle.inline_value.specs.CssValue.Colours.{opaque_colour, named_colours, colour_in, named_colour, hex_value, of_digits, hex_colour, number_before, channel, after_space, with_blue, with_green, with_red, rgb_colour, if_none, marked_colour, functional_colour, colour_of, colour_text, split_first, transparent}
+use Rattle.inline_value.specs.CssValue.Numbers as numbers
+use Rattle.inline_value.specs.CssValue.Numbers.{number_up_to, is_trim, legacy_size}
+use Rattle.inline_value.specs.CssValue.SizeKeywords.{SizeRow, smallest, larger, of_number, of_keyword, of_pixels, size_keyword}
+use Rattle.inline_value.specs.CssValue.TextDecoration.{words, line_word, without_line}
+use Rattle.inline_value.specs.CssValue.declared.colours.Colour.{Colour}
+use Rattle.inline_value.specs.CssValue.declared.decoration.DecorationLine.{DecorationLine}
+use Rattle.inline_value.specs.CssValue.declared.decoration.DecorationLine.TheVariants as line
+use Rattle.inline_value.specs.Wrappers.{hex_digit, hex_pair, hex_text, size_of_keyword}
+use Rattle.inline_value.specs.ForestChanges.Named.{Each}
 use Rattle.grammar_laws.specs.Proper.{IsText}
 use Rattle.grammar_laws.proofs.Texts.{IsLetter, AreLetters, letters, text, low_letter, lower_letter, each_if, each_append, each_filter, each_mapped, each_chosen, each_onto_first, each_split, each_joined, some_if, some_mapped, text_append, text_decimal}
 

@@ -1,11 +1,11 @@
 -- Setting and unsetting a style keeps to the grammar.
 use Rattle.std.proofs.Common.{ℕ, List}
 use Rattle.std.specs.Prelude.{codes}
-use Rattle.edit_commands.specs.CssValue.DeclarationList.{set_property, unset_in, printed}
-use Rattle.edit_commands.specs.CssValue.StyleText.{is_empty}
-use Rattle.edit_commands.specs.EditModel.Edit.{Unset}
-use Rattle.edit_commands.specs.EditModel.Run.{◌>>◌, done, set_attribute, unset_attribute}
-use Rattle.edit_commands.specs.InlineValue.Styling.{declarations_of, write_text, set_style, unset_style}
+use Rattle.inline_value.specs.CssValue.DeclarationList.{set_property, unset_in, printed}
+use Rattle.inline_value.specs.CssValue.StyleText.{is_empty}
+use Rattle.edit_model.specs.Edit.{Unset}
+use Rattle.edit_model.specs.Run.{◌>>◌, done, set_attribute, unset_attribute}
+use Rattle.inline_value.specs.Styling.{declarations_of, write_text, set_style, unset_style}
 use Rattle.making_laws.proofs.TameRuns.{set_style_name}
 use Rattle.grammar_laws.specs.Proper.{IsText}
 use Rattle.grammar_laws.specs.Runs.{Proper}

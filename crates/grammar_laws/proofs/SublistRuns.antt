@@ -1,8 +1,8 @@
 -- Normalizing sublists keeps to the grammar.
 use Rattle.std.proofs.Common.{ℕ, [], Option}
 use Rattle.std.specs.Prelude.{codes}
-use Rattle.edit_commands.specs.EditModel.Run.{make_element}
-use Rattle.edit_commands.specs.ListIndent.Sublists.{make_follower, follower_of, handed_on, part_last, normalize_sublists}
+use Rattle.edit_model.specs.Run.{make_element}
+use Rattle.list_indent.specs.Sublists.{make_follower, follower_of, handed_on, part_last, normalize_sublists}
 use Rattle.grammar_laws.specs.Runs.{Proper}
 use Rattle.grammar_laws.proofs.Lists.{list_none}
 use Rattle.making_laws.proofs.TameRuns.{made_li}

@@ -9,8 +9,8 @@ use Rattle.std.proofs.Math.Utf8.{scalar}
 use Rattle.std.proofs.lemmas.Bool.{and_parts}
 use Rattle.std.proofs.lemmas.Bool.Decides.{nat_tests}
 use Rattle.std.specs.Fmt.{digit_glyph, digits_onto, digits}
-use Rattle.edit_commands.specs.EditModel.Confined.{spliced}
-use Rattle.edit_commands.specs.ForestChanges.Named.{Each}
+use Rattle.edit_model.specs.Confined.{spliced}
+use Rattle.inline_value.specs.ForestChanges.Named.{Each}
 use Rattle.grammar_laws.specs.Proper.{IsText}
 
 -- ---- lists

@@ -2,16 +2,16 @@
 use Rattle.std.proofs.Common.{ℕ, Bool, true, false, List, ◌∷◌, Option, Some, None, refl}
 use Rattle.std.specs.Prelude.{is_some}
 use Rattle.std.specs.Option.{option_map}
-use Rattle.edit_commands.specs.CssValue.Colours.{colour_of}
-use Rattle.edit_commands.specs.CssValue.SizeKeywords.{size_keyword}
-use Rattle.edit_commands.specs.EditQuery.Queries.{state_of}
-use Rattle.edit_commands.specs.EditModel.Run.{answer, done}
-use Rattle.edit_commands.specs.HtmlNames.declared.commands.Command.{Command}
-use Rattle.edit_commands.specs.HtmlNames.declared.commands.Command.TheVariants as command
-use Rattle.edit_commands.specs.InlineCommands.Toggling.{style_on, style_off, toggled, set_toggled, toggle_style, script_on, set_unless, set_script, toggle_script}
-use Rattle.edit_commands.specs.InlineCommands.ValueCommands.{size_value, if_colour, colour_value, value_taken, set_taken, take, apply_value}
-use Rattle.edit_commands.specs.InlineValue.Selections.{set_value}
-use Rattle.edit_commands.specs.NodeStyles.LegacySizes.{legacy_size_of}
+use Rattle.inline_value.specs.CssValue.Colours.{colour_of}
+use Rattle.inline_value.specs.CssValue.SizeKeywords.{size_keyword}
+use Rattle.inline_value.specs.EditQuery.Queries.{state_of}
+use Rattle.edit_model.specs.Run.{answer, done}
+use Rattle.edit_model.specs.HtmlNames.declared.commands.Command.{Command}
+use Rattle.edit_model.specs.HtmlNames.declared.commands.Command.TheVariants as command
+use Rattle.inline_commands.specs.Toggling.{style_on, style_off, toggled, set_toggled, toggle_style, script_on, set_unless, set_script, toggle_script}
+use Rattle.inline_commands.specs.ValueCommands.{size_value, if_colour, colour_value, value_taken, set_taken, take, apply_value}
+use Rattle.inline_value.specs.Selections.{set_value}
+use Rattle.inline_value.specs.NodeStyles.LegacySizes.{legacy_size_of}
 use Rattle.grammar_laws.specs.Proper.{IsText}
 use Rattle.grammar_laws.specs.Runs.{Proper}
 use Rattle.grammar_laws.proofs.ProperRuns.{proper_answer, proper_bind, proper_if, proper_look, proper_some}

@@ -3,52 +3,52 @@ use Rattle.std.proofs.Common.{ℕ, ◌+◌, Bool, true, false, cond, List, [], �
 use Rattle.std.specs.Prelude.{decimal, codes, unwrap_or, is_some}
 use Rattle.std.specs.List.{find, list_any}
 use Rattle.std.specs.Option.{option_map, option_map_or, option_and_then, option_or}
-use Rattle.edit_commands.specs.DomModel.declared.Content.{Content}
-use Rattle.edit_commands.specs.DomModel.declared.Content.TheVariants.{Document, Element, Words, Remark}
-use Rattle.edit_commands.specs.DomModel.AttributeList as attributes
-use Rattle.edit_commands.specs.DomModel.Contents.{is_element, name_in}
-use Rattle.edit_commands.specs.DomModel.Forest.{Forest, content_of}
-use Rattle.edit_commands.specs.CssValue.Colours.{colour_of}
-use Rattle.edit_commands.specs.CssValue.DeclarationList as declaration
-use Rattle.edit_commands.specs.CssValue.DeclarationList.{declarations_in}
-use Rattle.edit_commands.specs.CssValue.StyleText.{is_empty}
-use Rattle.edit_commands.specs.CssValue.SizeKeywords.{size_keyword}
-use Rattle.edit_commands.specs.CssValue.TextDecoration.{line_word}
-use Rattle.edit_commands.specs.CssValue.Numbers.{legacy_size}
-use Rattle.edit_commands.specs.CssValue.Values.{font_weight_of, font_style_of, font_size_of, font_style_keyword, pixels_text}
-use Rattle.edit_commands.specs.CssValue.declared.values.FontStyle.{FontStyle}
-use Rattle.edit_commands.specs.CssValue.declared.values.FontStyle.TheVariants as font_style_values
-use Rattle.edit_commands.specs.HtmlNames.declared.commands.Command.{Command}
-use Rattle.edit_commands.specs.HtmlNames.declared.commands.Command.TheVariants as command
-use Rattle.edit_commands.specs.NodeStyles.LegacySizes.{legacy_size_of}
-use Rattle.edit_commands.specs.NodeStyles.Lineage.{Ancestor, lineage, nearest, has_in_lineage}
-use Rattle.edit_commands.specs.NodeStyles.OwnStyles.{attribute, is_named, declared, defaulted, font_attribute, family_of, family_hint, own_font_family}
-use Rattle.edit_commands.specs.NodeStyles.Resolved.{font_weight, font_style, font_family, font_size, color}
-use Rattle.edit_commands.specs.NodeStyles.Blocks.{own_or_inline}
-use Rattle.edit_commands.specs.NodeStyles.TurnBound.{turn_bound}
-use Rattle.edit_commands.specs.StyleTable.DefaultStyles as table
-use Rattle.edit_commands.specs.StyleTable.DefaultStyles.{font_family_rows, default_font_family}
-use Rattle.edit_commands.specs.StyleTable.declared.Property.TheVariants as property
-use Rattle.edit_commands.specs.CommandValue.EffectiveValues.{is_link, link_at, background_at, inline_part, draws, script_by, script_at, line_at, value_at, element_of, effective, is_activated}
-use Rattle.edit_commands.specs.CommandValue.SpecifiedValues.{if_read, is_named_in, is_inline_display, gives_line, hinted_size, given_by, specified_in, specified}
-use Rattle.edit_commands.specs.CommandValue.Subjects.{subject}
-use Rattle.edit_commands.specs.CommandValue.declared.subject.Subject.{Subject}
-use Rattle.edit_commands.specs.CommandValue.declared.subject.Subject.TheVariants.{Link, Background, Script, Line, Weight, Slant, Family, Size, Foreground, Nothing}
-use Rattle.edit_commands.specs.EditModel.State.{State}
-use Rattle.edit_commands.specs.EditModel.Compositions.{attribute_list_of}
-use Rattle.edit_commands.specs.EditModel.Overrides.{setting_of}
-use Rattle.edit_commands.specs.EditModel.declared.settings.Setting.{Setting}
-use Rattle.edit_commands.specs.EditModel.declared.settings.Setting.TheVariants.{On, Off, Text, Absent}
-use Rattle.edit_commands.specs.EditQuery.Formattable.{first_formattable, start_node}
-use Rattle.edit_commands.specs.EditQuery.Queries.{overriding_value, value_of}
-use Rattle.edit_commands.specs.EditQuery.Rows.{first_value, legacy_text}
-use Rattle.edit_commands.specs.ForestChanges.Named.{Each}
-use Rattle.edit_commands.specs.InlineValue.Clearing.{property_name}
-use Rattle.edit_commands.specs.InlineValue.Overrides.{override, is_set, overrides_among, overriding_commands, overrides_of, text_setting, on_or_off, states_at, states_of}
-use Rattle.edit_commands.specs.InlineValue.Recording.{Recorded, recorded_commands, giver, given_value, value_at as recorded_at, values_at, values_of}
-use Rattle.edit_commands.specs.InlineValue.Styling.{style_of, declarations_of, decoration_of}
-use Rattle.edit_commands.specs.InlineValue.declared.overrides.Override.{Override}
-use Rattle.edit_commands.specs.StyleTable.declared.Property.{Property}
+use Rattle.edit_model.specs.DomModel.declared.Content.{Content}
+use Rattle.edit_model.specs.DomModel.declared.Content.TheVariants.{Document, Element, Words, Remark}
+use Rattle.edit_model.specs.DomModel.AttributeList as attributes
+use Rattle.edit_model.specs.DomModel.Contents.{is_element, name_in}
+use Rattle.edit_model.specs.DomModel.Forest.{Forest, content_of}
+use Rattle.inline_value.specs.CssValue.Colours.{colour_of}
+use Rattle.inline_value.specs.CssValue.DeclarationList as declaration
+use Rattle.inline_value.specs.CssValue.DeclarationList.{declarations_in}
+use Rattle.inline_value.specs.CssValue.StyleText.{is_empty}
+use Rattle.inline_value.specs.CssValue.SizeKeywords.{size_keyword}
+use Rattle.inline_value.specs.CssValue.TextDecoration.{line_word}
+use Rattle.inline_value.specs.CssValue.Numbers.{legacy_size}
+use Rattle.inline_value.specs.CssValue.Values.{font_weight_of, font_style_of, font_size_of, font_style_keyword, pixels_text}
+use Rattle.inline_value.specs.CssValue.declared.values.FontStyle.{FontStyle}
+use Rattle.inline_value.specs.CssValue.declared.values.FontStyle.TheVariants as font_style_values
+use Rattle.edit_model.specs.HtmlNames.declared.commands.Command.{Command}
+use Rattle.edit_model.specs.HtmlNames.declared.commands.Command.TheVariants as command
+use Rattle.inline_value.specs.NodeStyles.LegacySizes.{legacy_size_of}
+use Rattle.inline_value.specs.NodeStyles.Lineage.{Ancestor, lineage, nearest, has_in_lineage}
+use Rattle.inline_value.specs.NodeStyles.OwnStyles.{attribute, is_named, declared, defaulted, font_attribute, family_of, family_hint, own_font_family}
+use Rattle.inline_value.specs.NodeStyles.Resolved.{font_weight, font_style, font_family, font_size, color}
+use Rattle.inline_value.specs.NodeStyles.Blocks.{own_or_inline}
+use Rattle.inline_value.specs.NodeStyles.TurnBound.{turn_bound}
+use Rattle.inline_value.specs.StyleTable.DefaultStyles as table
+use Rattle.inline_value.specs.StyleTable.DefaultStyles.{font_family_rows, default_font_family}
+use Rattle.inline_value.specs.StyleTable.declared.Property.TheVariants as property
+use Rattle.inline_value.specs.CommandValue.EffectiveValues.{is_link, link_at, background_at, inline_part, draws, script_by, script_at, line_at, value_at, element_of, effective, is_activated}
+use Rattle.inline_value.specs.CommandValue.SpecifiedValues.{if_read, is_named_in, is_inline_display, gives_line, hinted_size, given_by, specified_in, specified}
+use Rattle.inline_value.specs.CommandValue.Subjects.{subject}
+use Rattle.inline_value.specs.CommandValue.declared.subject.Subject.{Subject}
+use Rattle.inline_value.specs.CommandValue.declared.subject.Subject.TheVariants.{Link, Background, Script, Line, Weight, Slant, Family, Size, Foreground, Nothing}
+use Rattle.edit_model.specs.State.{State}
+use Rattle.edit_model.specs.Compositions.{attribute_list_of}
+use Rattle.edit_model.specs.Overrides.{setting_of}
+use Rattle.edit_model.specs.declared.settings.Setting.{Setting}
+use Rattle.edit_model.specs.declared.settings.Setting.TheVariants.{On, Off, Text, Absent}
+use Rattle.inline_value.specs.EditQuery.Formattable.{first_formattable, start_node}
+use Rattle.inline_value.specs.EditQuery.Queries.{overriding_value, value_of}
+use Rattle.inline_value.specs.EditQuery.Rows.{first_value, legacy_text}
+use Rattle.inline_value.specs.ForestChanges.Named.{Each}
+use Rattle.inline_value.specs.Clearing.{property_name}
+use Rattle.inline_value.specs.Overrides.{override, is_set, overrides_among, overriding_commands, overrides_of, text_setting, on_or_off, states_at, states_of}
+use Rattle.inline_value.specs.Recording.{Recorded, recorded_commands, giver, given_value, value_at as recorded_at, values_at, values_of}
+use Rattle.inline_value.specs.Styling.{style_of, declarations_of, decoration_of}
+use Rattle.inline_value.specs.declared.overrides.Override.{Override}
+use Rattle.inline_value.specs.StyleTable.declared.Property.{Property}
 use Rattle.grammar_laws.specs.Proper.{AllNodes, IsText, IsProper, IsProperSetting, IsProperState}
 use Rattle.grammar_laws.proofs.Lists.{value_text}
 use Rattle.grammar_laws.proofs.Nodes.{node_at, line_nodes, IsSuch}

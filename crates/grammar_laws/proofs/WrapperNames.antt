@@ -2,17 +2,17 @@
 use Rattle.std.proofs.Common.{◌≡◌, ℕ, ◌+◌, [], ◌∷◌, Bool, true, false, ◌||◌, if◌then◌else◌, List, Option, Some, None, IfSome, refl}
 use Rattle.std.specs.Prelude.{codes, bytes_eq, unwrap_or, not, ◌==◌}
 use Rattle.std.specs.Option.{option_and_then}
-use Rattle.edit_commands.specs.DomModel.declared.attributes.Attribute.{Attribute}
-use Rattle.edit_commands.specs.CssValue.declared.colours.Colour.{Colour}
-use Rattle.edit_commands.specs.CssValue.Colours.{colour_of}
-use Rattle.edit_commands.specs.HtmlNames.declared.commands.Command.{Command}
-use Rattle.edit_commands.specs.WrapSplit.declared.rule.Blank.{Blank}
-use Rattle.edit_commands.specs.InlineValue.Wrappers.{bare, with_attribute, hex_text, size_of_keyword, font_of_size, size_font, script_element, colour_font_of, colour_font, presentational, unless_css, chosen, wrapper_for}
+use Rattle.edit_model.specs.DomModel.declared.attributes.Attribute.{Attribute}
+use Rattle.inline_value.specs.CssValue.declared.colours.Colour.{Colour}
+use Rattle.inline_value.specs.CssValue.Colours.{colour_of}
+use Rattle.edit_model.specs.HtmlNames.declared.commands.Command.{Command}
+use Rattle.inline_value.specs.WrapSplit.declared.rule.Blank.{Blank}
+use Rattle.inline_value.specs.Wrappers.{bare, with_attribute, hex_text, size_of_keyword, font_of_size, size_font, script_element, colour_font_of, colour_font, presentational, unless_css, chosen, wrapper_for}
 use Rattle.making_laws.specs.Names.{made_names, set_names, is_made_name, is_set_name}
 use Rattle.grammar_laws.specs.Proper.{IsText, IsList}
 use Rattle.grammar_laws.proofs.Lists.{list_none, list_one}
 use Rattle.grammar_laws.proofs.Styles.{IsDigit, IsSmall, size_digit, colour_small, hex_printed}
-use Rattle.edit_commands.specs.HtmlNames.declared.commands.Command.TheVariants as command
+use Rattle.edit_model.specs.HtmlNames.declared.commands.Command.TheVariants as command
 
 pub record IsListed (b : Blank) : Type 0 where
   pub named : is_made_name b.name ≡ true

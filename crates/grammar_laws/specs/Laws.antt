@@ -1,26 +1,26 @@
 -- What runs of the grammar keep, and that the runs of commands are such: a value that a command takes
 -- has to be a text of scalar values.
 use Rattle.std.specs.Prelude.{ℕ, List}
-use Rattle.edit_commands.specs.BlockCommands.FormatBlock.{format_block}
-use Rattle.edit_commands.specs.BlockCommands.Justify.{justify}
-use Rattle.edit_commands.specs.EditModel.State.{State}
-use Rattle.edit_commands.specs.EditModel.Valid.{IsValid}
-use Rattle.edit_commands.specs.EditModel.Run.{Reaches}
-use Rattle.edit_commands.specs.HtmlNames.declared.commands.Command.{Command}
-use Rattle.edit_commands.specs.InlineCommands.Linking.{create_link}
-use Rattle.edit_commands.specs.InlineCommands.RemovingFormat.{remove_format}
-use Rattle.edit_commands.specs.InlineCommands.Toggling.{toggle_style, toggle_script}
-use Rattle.edit_commands.specs.InlineCommands.Unlink.{unlink}
-use Rattle.edit_commands.specs.InlineCommands.ValueCommands.{apply_value}
-use Rattle.edit_commands.specs.InsertObjects.Image.{insert_image}
-use Rattle.edit_commands.specs.InsertObjects.LineBreak.{insert_line_break}
-use Rattle.edit_commands.specs.InsertObjects.Rule.{insert_horizontal_rule}
-use Rattle.edit_commands.specs.ListIndent.Commands.{indent, outdent}
-use Rattle.edit_commands.specs.ListToggle.Toggle.{toggle_lists}
-use Rattle.edit_commands.specs.ListToggle.declared.toggling.ListKind.{ListKind}
-use Rattle.edit_commands.specs.TextDeletion.Delete.{delete}
-use Rattle.edit_commands.specs.TextInsertion.Paragraph.{insert_paragraph}
-use Rattle.edit_commands.specs.TextInsertion.Typing.{insert_text}
+use Rattle.block_commands.specs.FormatBlock.{format_block}
+use Rattle.block_commands.specs.Justify.{justify}
+use Rattle.edit_model.specs.State.{State}
+use Rattle.edit_model.specs.Valid.{IsValid}
+use Rattle.edit_model.specs.Run.{Reaches}
+use Rattle.edit_model.specs.HtmlNames.declared.commands.Command.{Command}
+use Rattle.inline_commands.specs.Linking.{create_link}
+use Rattle.inline_commands.specs.RemovingFormat.{remove_format}
+use Rattle.inline_commands.specs.Toggling.{toggle_style, toggle_script}
+use Rattle.inline_commands.specs.Unlink.{unlink}
+use Rattle.inline_commands.specs.ValueCommands.{apply_value}
+use Rattle.insert_objects.specs.Image.{insert_image}
+use Rattle.insert_objects.specs.LineBreak.{insert_line_break}
+use Rattle.insert_objects.specs.Rule.{insert_horizontal_rule}
+use Rattle.list_indent.specs.Commands.{indent, outdent}
+use Rattle.list_toggle.specs.Toggle.{toggle_lists}
+use Rattle.list_toggle.specs.declared.toggling.ListKind.{ListKind}
+use Rattle.text_deletion.specs.Delete.{delete}
+use Rattle.text_insertion.specs.Paragraph.{insert_paragraph}
+use Rattle.text_insertion.specs.Typing.{insert_text}
 use Rattle.grammar_laws.specs.Proper.{IsText, IsProperState}
 use Rattle.grammar_laws.specs.Runs.{ProperOn, Proper}
 

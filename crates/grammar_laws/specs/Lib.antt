@@ -1,4 +1,3 @@
 pub mod Proper
 pub mod Runs
 pub mod Laws
-pub use Rattle.page_laws.specs as PageLaws

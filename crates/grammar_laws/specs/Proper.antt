@@ -4,17 +4,17 @@
 -- of a name.
 use Rattle.std.specs.Prelude.{◌≡◌, ℕ, List, true, false}
 use Rattle.std.specs.Str.{all_scalars}
-use Rattle.edit_commands.specs.DomModel.declared.attributes.Attribute.{Attribute}
-use Rattle.edit_commands.specs.DomModel.declared.Content.{Content}
-use Rattle.edit_commands.specs.DomModel.declared.Content.TheVariants.{Document, Element, Words, Remark}
-use Rattle.edit_commands.specs.DomModel.AttributeList.{IsDistinctNames}
-use Rattle.edit_commands.specs.DomModel.Change.{Change, SetText, Splice, SetAttributes}
-use Rattle.edit_commands.specs.DomModel.Forest.{Forest}
-use Rattle.edit_commands.specs.DomModel.Forest.Forest.{Nil, Tree}
-use Rattle.edit_commands.specs.ForestChanges.Named.{Each}
-use Rattle.edit_commands.specs.EditModel.State.{State}
-use Rattle.edit_commands.specs.EditModel.declared.settings.Setting.{Setting}
-use Rattle.edit_commands.specs.EditModel.declared.settings.Setting.TheVariants.{Text}
+use Rattle.edit_model.specs.DomModel.declared.attributes.Attribute.{Attribute}
+use Rattle.edit_model.specs.DomModel.declared.Content.{Content}
+use Rattle.edit_model.specs.DomModel.declared.Content.TheVariants.{Document, Element, Words, Remark}
+use Rattle.edit_model.specs.DomModel.AttributeList.{IsDistinctNames}
+use Rattle.edit_model.specs.DomModel.Change.{Change, SetText, Splice, SetAttributes}
+use Rattle.edit_model.specs.DomModel.Forest.{Forest}
+use Rattle.edit_model.specs.DomModel.Forest.Forest.{Nil, Tree}
+use Rattle.inline_value.specs.ForestChanges.Named.{Each}
+use Rattle.edit_model.specs.State.{State}
+use Rattle.edit_model.specs.declared.settings.Setting.{Setting}
+use Rattle.edit_model.specs.declared.settings.Setting.TheVariants.{Text}
 use Rattle.step_text.specs.PageGrammar.Names.{is_refused}
 use Rattle.page_laws.specs.Writable.{HasNoClose}
 use Rattle.step_text.specs.StepLine.{AreAttributes, IsTag}

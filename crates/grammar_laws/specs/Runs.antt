@@ -1,10 +1,10 @@
 -- Runs that keep a document within the grammar of pages.
 use Rattle.std.specs.Prelude.{◌≡◌, true}
-use Rattle.edit_commands.specs.EditModel.Action.{Action, Change, MakeElement, MakeWords, Override}
-use Rattle.edit_commands.specs.EditModel.Edit.{Edit, Replace, Set}
-use Rattle.edit_commands.specs.EditModel.State.{State}
-use Rattle.edit_commands.specs.EditModel.Valid.{IsValid}
-use Rattle.edit_commands.specs.EditModel.Run.{Reaches, here, onward, Run}
+use Rattle.edit_model.specs.Action.{Action, Change, MakeElement, MakeWords, Override}
+use Rattle.edit_model.specs.Edit.{Edit, Replace, Set}
+use Rattle.edit_model.specs.State.{State}
+use Rattle.edit_model.specs.Valid.{IsValid}
+use Rattle.edit_model.specs.Run.{Reaches, here, onward, Run}
 use Rattle.step_text.specs.StepLine.{is_attribute_name}
 use Rattle.grammar_laws.specs.Proper.{IsText, IsPageTag, IsProperSetting, IsProperState}
 

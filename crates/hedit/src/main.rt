@@ -8,7 +8,7 @@
 #[cfg(test)]
 mod tests;
 
-use edit_session::streams::{ReadSource, WriteSink};
+use edit_io::{ReadSource, WriteSink};
 use edit_session::{Status, run_session};
 use std::alloc::Global;
 use std::env::Env;

@@ -3,7 +3,7 @@
 //! What a function owns it lets go on as few ways as can be: the proof of that is made again on each.
 mod faults;
 
-use edit_session::streams::{MemorySink, MemorySource};
+use edit_io::{MemorySink, MemorySource};
 use edit_session::{Status, run_session};
 use std::alloc::{AllocError, Global};
 use std::test::Fail;

@@ -30,7 +30,7 @@ use Rattle.std.specs.contracts.alloc.Global as heap
 use Rattle.std.proofs.alloc.Global.TheLaws as heap_laws
 use Rattle.std.specs.contracts.impls.GlobalAllocator.TheImpl.{ghosts}
 use Rattle.std.proofs.GlobalToken.{dealloc_token-Testable}
-use Rattle.edit_session.specs.EditEngine.contracts.editor.Editor as editor
+use Rattle.edit_engine.specs.contracts.editor.Editor as editor
 use Rattle.hedit_c.specs.Held.{held}
 use Rattle.hedit_c.specs.contracts.editor.handle.Handle as handle
 use Rattle.hedit_c.proofs.RawBoxes.{both}

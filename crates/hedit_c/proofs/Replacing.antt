@@ -1,13 +1,13 @@
 -- What a replacement answers, as a status.
 use Rattle.std.proofs.Common.{◌≡◌, ℕ, List, Option, Some, None, Result, Ok, Err, refl, sym, ap, subst}
 use Rattle.std.specs.Prelude.{MatchOption}
-use Rattle.packed_edits.specs.LiveRange.declared.places.Pair.{Pair}
-use Rattle.edit_session.specs.EditEngine.Editing.{EditorValue}
-use Rattle.edit_session.specs.EditEngine.Execution.{TellsReplaced, replaced_outcome}
-use Rattle.edit_session.specs.EditEngine.declared.answers.Answer.{Answer}
-use Rattle.edit_session.specs.EditEngine.declared.answers.Answer.TheVariants.{Yes, No}
-use Rattle.edit_session.specs.EditEngine.declared.answers.ReplaceFault.{ReplaceFault}
-use Rattle.edit_session.specs.EditEngine.declared.answers.ReplaceFault.TheVariants.{BadPlace, Full, Deep, Memory}
+use Rattle.edit_model.specs.LiveRange.declared.places.Pair.{Pair}
+use Rattle.edit_engine.specs.Editing.{EditorValue}
+use Rattle.edit_engine.specs.Execution.{TellsReplaced, replaced_outcome}
+use Rattle.edit_engine.specs.declared.answers.Answer.{Answer}
+use Rattle.edit_engine.specs.declared.answers.Answer.TheVariants.{Yes, No}
+use Rattle.edit_engine.specs.declared.answers.ReplaceFault.{ReplaceFault}
+use Rattle.edit_engine.specs.declared.answers.ReplaceFault.TheVariants.{BadPlace, Full, Deep, Memory}
 use Rattle.hedit_c.specs.Calls.{ReplaceAnswers, replaced_status}
 
 pub replace_answers : (found : Option Pair) (answer : Result Answer ReplaceFault) (old new : EditorValue) (text : List ℕ) → MatchOption found ((answer ≡ Err BadPlace) × (new ≡ old)) (λ range. TellsReplaced answer old.editing new.editing (replaced_outcome old.editing range text)) →

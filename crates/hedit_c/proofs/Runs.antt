@@ -2,7 +2,7 @@
 use Rattle.std.proofs.Common.{◌≡◌, ◌≢◌, ◌⊎◌, inl, inr, ℕ, List, [], ◌++◌, refl, ap, ◌∙◌, arith}
 use Rattle.std.specs.Prelude.{Some}
 use Rattle.std.specs.Io.KnownBytes.{Appends}
-use Rattle.edit_session.specs.EditIo.Faults.{Rose}
+use Rattle.edit_io.specs.Faults.{Rose}
 use Rattle.edit_session.specs.Following.{RunFollows, ReadFailed, WriteFailed}
 use Rattle.edit_session.specs.Transcript.{Transcript, transcript_of}
 use Rattle.edit_session.specs.declared.session.Status.{Status}

@@ -1,2 +1,2 @@
 -- Definitions of the crates below that tactics of this crate name.
-unfoldable pub use Rattle.edit_session.specs.EditEngine.SelectedTexts.{selected_html, selected_text}
+unfoldable pub use Rattle.edit_engine.specs.SelectedTexts.{selected_html, selected_text}

@@ -2,37 +2,37 @@
 use Rattle.std.specs.Prelude.{◌≡◌, ◌⊎◌, ⊤, ℕ, ◌<◌, ◌≤◌, ◌++◌, ◌==◌, nat_lt, List, length, drop, Bool, true, false, encode_utf8_all, Option, Some, None, Result, Ok, Err, if◌then◌else◌}
 use Rattle.std.specs.Option.{option_and_then, option_map, IsSomeAnd}
 use Rattle.std.specs.Str.{IsUtf8, chars}
-use Rattle.edit_session.specs.DomModel.ArenaState.{ArenaState}
-use Rattle.packed_edits.specs.HtmlNames.declared.query.QueryKind.{QueryKind}
-use Rattle.packed_edits.specs.HtmlNames.declared.query.QueryKind.TheVariants as question
-use Rattle.packed_edits.specs.LiveRange.LivePoints.{has_mark}
-use Rattle.packed_edits.specs.LiveRange.declared.places.Pair.{Pair}
-use Rattle.packed_edits.specs.LiveRange.declared.places.Point.{Point}
-use Rattle.edit_session.specs.PageGrammar.Reading.{Refused, page_reading}
-use Rattle.edit_session.specs.PageRead.Answer.{IsAnswer}
-use Rattle.edit_session.specs.PageRead.Faults.{kind_of}
-use Rattle.edit_session.specs.PageRead.declared.faults.PageKind.{PageKind}
-use Rattle.edit_session.specs.PageRead.declared.faults.PageKind.TheVariants as page_kind
-use Rattle.edit_session.specs.ScriptRead.declared.act.Place.{Place}
-use Rattle.edit_session.specs.EditModel.History.{Entry}
-use Rattle.edit_session.specs.EditQuery.declared.reply.Reply.{Reply}
-use Rattle.edit_session.specs.EditQuery.declared.reply.Reply.TheVariants as reply
-use Rattle.edit_session.specs.EditEngine.declared.answers.Answer.{Answer}
-use Rattle.edit_session.specs.EditEngine.declared.answers.Answer.TheVariants as answer
-use Rattle.edit_session.specs.EditEngine.declared.answers.ExecFault.{ExecFault}
-use Rattle.edit_session.specs.EditEngine.declared.answers.ExecFault.TheVariants as exec_fault
-use Rattle.edit_session.specs.EditEngine.declared.answers.ReplaceFault.{ReplaceFault}
-use Rattle.edit_session.specs.EditEngine.declared.answers.ReplaceFault.TheVariants as replace_fault
-use Rattle.edit_session.specs.EditEngine.declared.answers.PlaceFault.{PlaceFault}
-use Rattle.edit_session.specs.EditEngine.declared.answers.PlaceFault.TheVariants as place_fault
-use Rattle.edit_session.specs.EditEngine.declared.answers.ViewKind.{ViewKind}
-use Rattle.edit_session.specs.EditEngine.declared.answers.ViewKind.TheVariants.{Html, Tree, Points, Stat}
-use Rattle.edit_session.specs.EditEngine.Editing.{Editing, EditorValue, new_editing}
-use Rattle.edit_session.specs.EditEngine.Execution.{Outcome, Acted, outcome_by, gated_outcome, replaced_outcome}
-use Rattle.edit_session.specs.EditEngine.Execution as exec
-use Rattle.edit_session.specs.EditEngine.Places.{pair_at, placed_pair, selecting, marking, unmarking, IsCrowded}
-use Rattle.edit_session.specs.EditEngine.Queries.{reply_of}
-use Rattle.edit_session.specs.EditEngine.Views.{view_text}
+use Rattle.edit_model.specs.DomModel.ArenaState.{ArenaState}
+use Rattle.edit_model.specs.HtmlNames.declared.query.QueryKind.{QueryKind}
+use Rattle.edit_model.specs.HtmlNames.declared.query.QueryKind.TheVariants as question
+use Rattle.edit_model.specs.LiveRange.LivePoints.{has_mark}
+use Rattle.edit_model.specs.LiveRange.declared.places.Pair.{Pair}
+use Rattle.edit_model.specs.LiveRange.declared.places.Point.{Point}
+use Rattle.page_read.specs.PageGrammar.Reading.{Refused, page_reading}
+use Rattle.page_read.specs.Answer.{IsAnswer}
+use Rattle.page_read.specs.Faults.{kind_of}
+use Rattle.page_read.specs.declared.faults.PageKind.{PageKind}
+use Rattle.page_read.specs.declared.faults.PageKind.TheVariants as page_kind
+use Rattle.script_read.specs.declared.act.Place.{Place}
+use Rattle.edit_model.specs.History.{Entry}
+use Rattle.inline_value.specs.EditQuery.declared.reply.Reply.{Reply}
+use Rattle.inline_value.specs.EditQuery.declared.reply.Reply.TheVariants as reply
+use Rattle.edit_engine.specs.declared.answers.Answer.{Answer}
+use Rattle.edit_engine.specs.declared.answers.Answer.TheVariants as answer
+use Rattle.edit_engine.specs.declared.answers.ExecFault.{ExecFault}
+use Rattle.edit_engine.specs.declared.answers.ExecFault.TheVariants as exec_fault
+use Rattle.edit_engine.specs.declared.answers.ReplaceFault.{ReplaceFault}
+use Rattle.edit_engine.specs.declared.answers.ReplaceFault.TheVariants as replace_fault
+use Rattle.edit_engine.specs.declared.answers.PlaceFault.{PlaceFault}
+use Rattle.edit_engine.specs.declared.answers.PlaceFault.TheVariants as place_fault
+use Rattle.edit_engine.specs.declared.answers.ViewKind.{ViewKind}
+use Rattle.edit_engine.specs.declared.answers.ViewKind.TheVariants.{Html, Tree, Points, Stat}
+use Rattle.edit_engine.specs.Editing.{Editing, EditorValue, new_editing}
+use Rattle.edit_engine.specs.Execution.{Outcome, Acted, outcome_by, gated_outcome, replaced_outcome}
+use Rattle.edit_engine.specs.Execution as exec
+use Rattle.edit_engine.specs.Places.{pair_at, placed_pair, selecting, marking, unmarking, IsCrowded}
+use Rattle.edit_engine.specs.Queries.{reply_of}
+use Rattle.edit_engine.specs.Views.{view_text}
 use Rattle.edit_session.specs.Denials.{denied_by}
 use Rattle.hedit_c.specs.Statuses.{number_of, answer_status}
 use Rattle.hedit_c.specs.declared.editor.opening.Refusal.{Refusal}

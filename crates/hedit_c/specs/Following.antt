@@ -1,10 +1,10 @@
 -- What a host that follows the document of a handle is told.
 use Rattle.std.specs.Prelude.{◌≡◌, ℕ, ◌<◌, List, Option, Some, None}
 use Rattle.packed_edits.specs.Packed.{packed}
-use Rattle.edit_session.specs.EditEngine.Changes.{CanFollow, changes_of}
-use Rattle.edit_session.specs.EditEngine.Editing.{EditorValue, document}
-use Rattle.edit_session.specs.EditEngine.Following.{first_following}
-use Rattle.edit_session.specs.EditEngine.KeptLabels.{IsKept, IsGone}
+use Rattle.edit_engine.specs.Changes.{CanFollow, changes_of}
+use Rattle.edit_engine.specs.Editing.{EditorValue, document}
+use Rattle.edit_engine.specs.Following.{first_following}
+use Rattle.edit_engine.specs.KeptLabels.{IsKept, IsGone}
 use Rattle.hedit_c.specs.declared.editor.status.Status.{Status}
 use Rattle.hedit_c.specs.declared.editor.status.Status.TheVariants.{Done, No}
 use Rattle.hedit_c.specs.Calls.{PutsUnlessMemory}

@@ -1,16 +1,16 @@
 -- What C is told of the nodes of an editor's document, of its selection, and of its numbers.
 use Rattle.std.specs.Prelude.{◌≡◌, ℕ, ◌<◌, List, [], length, encode_utf8_all, slice_get, Option, Some, None, IsSome, unwrap_or}
 use Rattle.std.specs.Option.{option_map_or, option_and_then, IsSomeAnd}
-use Rattle.edit_session.specs.DomModel.declared.Content.{Content}
-use Rattle.edit_session.specs.DomModel.declared.Content.TheVariants.{Document, Element, Words, Remark}
-use Rattle.edit_session.specs.DomModel.declared.attributes.Attribute.{Attribute}
-use Rattle.edit_session.specs.DomModel.Contents.{length_of}
-use Rattle.edit_session.specs.DomModel.Document.{node_count, char_count}
-use Rattle.edit_session.specs.DomModel.Forest.{Forest, content_of, count_of, parent_of, first_of, last_of, prev_of, next_of}
-use Rattle.packed_edits.specs.LiveRange.declared.places.Pair.{Pair}
-use Rattle.packed_edits.specs.NodePaths.Paths.{label_at}
-use Rattle.edit_session.specs.EditDoc.Whole.{first_edits}
-use Rattle.edit_session.specs.EditEngine.Editing.{Editing}
+use Rattle.edit_model.specs.DomModel.declared.Content.{Content}
+use Rattle.edit_model.specs.DomModel.declared.Content.TheVariants.{Document, Element, Words, Remark}
+use Rattle.edit_model.specs.DomModel.declared.attributes.Attribute.{Attribute}
+use Rattle.edit_model.specs.DomModel.Contents.{length_of}
+use Rattle.edit_model.specs.DomModel.Document.{node_count, char_count}
+use Rattle.edit_model.specs.DomModel.Forest.{Forest, content_of, count_of, parent_of, first_of, last_of, prev_of, next_of}
+use Rattle.edit_model.specs.LiveRange.declared.places.Pair.{Pair}
+use Rattle.inline_value.specs.NodePaths.Paths.{label_at}
+use Rattle.inline_value.specs.EditDoc.Whole.{first_edits}
+use Rattle.edit_engine.specs.Editing.{Editing}
 use Rattle.hedit_c.specs.Calls.{Puts}
 use Rattle.hedit_c.specs.declared.editor.nodes.NodeFacts.{NodeFacts}
 use Rattle.hedit_c.specs.declared.editor.nodes.SelectionFacts.{SelectionFacts}

@@ -2,13 +2,13 @@
 use Rattle.std.specs.Prelude.{◌≡◌, ℕ, ◌<◌, List, map, encode_utf8_all, Option, None}
 use Rattle.std.specs.Option.{option_map, IsSomeAnd}
 use Rattle.std.specs.Str.{IsUtf8, chars}
-use Rattle.edit_session.specs.DomModel.declared.Content.{Content}
-use Rattle.edit_session.specs.DomModel.Forest.{Forest, count_of}
-use Rattle.packed_edits.specs.LiveRange.declared.places.Point.{Point}
-use Rattle.edit_session.specs.NodeTexts.Occurrences.{found_in}
-use Rattle.edit_session.specs.NodeTexts.PlainText.{plain_text}
-use Rattle.edit_session.specs.EditEngine.Editing.{Editing}
-use Rattle.edit_session.specs.EditEngine.SelectedTexts.{selected_html, selected_text}
+use Rattle.edit_model.specs.DomModel.declared.Content.{Content}
+use Rattle.edit_model.specs.DomModel.Forest.{Forest, count_of}
+use Rattle.edit_model.specs.LiveRange.declared.places.Point.{Point}
+use Rattle.node_texts.specs.Occurrences.{found_in}
+use Rattle.node_texts.specs.PlainText.{plain_text}
+use Rattle.edit_engine.specs.Editing.{Editing}
+use Rattle.edit_engine.specs.SelectedTexts.{selected_html, selected_text}
 use Rattle.hedit_c.specs.Calls.{Puts}
 use Rattle.hedit_c.specs.declared.editor.subtrees.PointFacts.{PointFacts}
 use Rattle.hedit_c.specs.declared.editor.status.Status.{Status}

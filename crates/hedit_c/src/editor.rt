@@ -5,11 +5,11 @@
 
 ghost use Rattle.std.specs.Prelude.{◌≡◌, None, IfSome, true, false};
 ghost use Rattle.std.specs.Option.{option_map};
-ghost use Rattle.edit_session.specs.EditEngine.Editing.{undone, redone};
-ghost use Rattle.edit_session.specs.EditEngine.Places.{unselecting};
+ghost use Rattle.edit_engine.specs.Editing.{undone, redone};
+ghost use Rattle.edit_engine.specs.Places.{unselecting};
 ghost use Rattle.hedit_c.specs.Calls.{editing_of, Leaves, Asks, Answers, Opens, ExecTells, GatedTells, QueryTells, ViewTells, SelectTells, SelectPointsTell, MarkTells, UnmarkTells, ReplaceTells, pair_there, pair_of_points, place, point, taken_status, unselect_status};
 ghost use Rattle.hedit_c.specs.Following.{Between, StaysFollowed, BeginsFollowing, KeepsFollowing, KeepsUnlessDone, ChangesTell, KeptTells, RevisionTells};
-ghost use Rattle.edit_session.specs.NodeTexts.NodeHtml.{node_html};
+ghost use Rattle.node_texts.specs.NodeHtml.{node_html};
 ghost use Rattle.hedit_c.specs.Nodes.{NodeTells, LabelTells, PathTells, value_text, NameTells, TextTells, attribute_value, AttributeNameTells, AttributeTells, SelectionTells, MarkNameTells, MarkRangeTells, NumbersTell};
 ghost use Rattle.hedit_c.specs.Statuses.{number_of};
 ghost use Rattle.hedit_c.specs.Subtrees.{SubtreeTells, FindTells, SelectedTells, plain_bytes, html_selected, text_selected};
@@ -29,9 +29,9 @@ use acts::{
     exec, exec_gated, mark, mark_points, redo, replace, select, select_points, undo, unmark,
 };
 use answers::{query, view};
-use edit_session::doc::Point;
 use following::{changes, is_kept, revision};
 use handle::Handle;
+use inline_value::doc::Point;
 use nodes::{
     NodeFacts, NumberFacts, SelectionFacts, attribute_name, attribute_value, label_at, mark_name,
     mark_range, node, node_name, node_value, numbers, path_of, selection,

@@ -7,7 +7,7 @@ ghost use Rattle.hedit_c.specs.Session.{reply, reply_to, nothing_written, Replie
 ghost use Rattle.hedit_c.specs.Session.{session_number_of, memory_number, run_words, words_in};
 
 use crate::editor::status::Status as CallStatus;
-use edit_session::streams::{SliceSource, SureSink};
+use edit_io::{SliceSource, SureSink};
 use edit_session::{Status, after_line, line_end, run_session};
 use std::alloc::{AllocError, Global};
 

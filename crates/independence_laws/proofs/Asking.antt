@@ -1,18 +1,18 @@
 -- What is answered to a question is the same without marks and cap.
 use Rattle.std.proofs.Common.{◌≡◌, ℕ, List, Option, if◌then◌else◌, refl, sym, ap, ◌∙◌}
 use Rattle.std.specs.Option.{option_map_or}
-use Rattle.edit_engine.specs.HtmlNames.Commands.{command_named}
-use Rattle.edit_engine.specs.HtmlNames.declared.commands.Command.{Command}
-use Rattle.edit_engine.specs.HtmlNames.declared.query.QueryKind.{QueryKind}
-use Rattle.edit_engine.specs.HtmlNames.declared.query.QueryKind.TheVariants as kind
-use Rattle.edit_engine.specs.EditModel.State.{State}
-use Rattle.edit_engine.specs.EditActions.ActiveRange.{affected_host}
-use Rattle.edit_engine.specs.EditQuery.Formattable.{formattable_nodes, first_formattable, start_node}
-use Rattle.edit_engine.specs.EditQuery.Leaves.{leaves, first_leaf}
-use Rattle.edit_engine.specs.EditQuery.ListStates.{list_state}
-use Rattle.edit_engine.specs.EditQuery.Queries.{state_of, value_of, query_in}
-use Rattle.edit_engine.specs.EditQuery.Replies.{no_reply}
-use Rattle.edit_engine.specs.EditQuery.Rows.{is_on, first_value}
+use Rattle.edit_model.specs.HtmlNames.Commands.{command_named}
+use Rattle.edit_model.specs.HtmlNames.declared.commands.Command.{Command}
+use Rattle.edit_model.specs.HtmlNames.declared.query.QueryKind.{QueryKind}
+use Rattle.edit_model.specs.HtmlNames.declared.query.QueryKind.TheVariants as kind
+use Rattle.edit_model.specs.State.{State}
+use Rattle.inline_value.specs.EditActions.ActiveRange.{affected_host}
+use Rattle.inline_value.specs.EditQuery.Formattable.{formattable_nodes, first_formattable, start_node}
+use Rattle.inline_value.specs.EditQuery.Leaves.{leaves, first_leaf}
+use Rattle.inline_value.specs.EditQuery.ListStates.{list_state}
+use Rattle.inline_value.specs.EditQuery.Queries.{state_of, value_of, query_in}
+use Rattle.inline_value.specs.EditQuery.Replies.{no_reply}
+use Rattle.inline_value.specs.EditQuery.Rows.{is_on, first_value}
 use Rattle.edit_engine.specs.Commands.{is_enabled}
 use Rattle.edit_engine.specs.Queries.{asked_if_enabled, reply_for, reply_of}
 use Rattle.independence_laws.specs.Unmarked.{unmarked}

@@ -1,10 +1,10 @@
 -- The block commands ignore marks and the cap.
 use Rattle.std.proofs.Common.{ℕ, List}
-use Rattle.edit_engine.specs.EditModel.Confined.{is_editable_for}
-use Rattle.edit_engine.specs.EditQuery.Gathered.{outermost}
-use Rattle.edit_engine.specs.BlockCommands.FormatBlock.{leave_blocks, has_outer_block, is_outer_block, split_blocks, make_block, format_container, format_line, is_next_on_line, format_next, format_range, is_formatted, format_block}
-use Rattle.edit_engine.specs.BlockCommands.Justify.{drop_plain, clear_alignment, clear_alignments, is_aligning, align_next, justify, is_misaligned}
-use Rattle.edit_engine.specs.BlockCommands.Gathered.{contained}
+use Rattle.edit_model.specs.Confined.{is_editable_for}
+use Rattle.inline_value.specs.EditQuery.Gathered.{outermost}
+use Rattle.block_commands.specs.FormatBlock.{leave_blocks, has_outer_block, is_outer_block, split_blocks, make_block, format_container, format_line, is_next_on_line, format_next, format_range, is_formatted, format_block}
+use Rattle.block_commands.specs.Justify.{drop_plain, clear_alignment, clear_alignments, is_aligning, align_next, justify, is_misaligned}
+use Rattle.block_commands.specs.Gathered.{contained}
 use Rattle.independence_laws.proofs.SplitRuns.{ignores_split_around, ignores_remove_keeping_children}
 use Rattle.independence_laws.proofs.PushingRuns.{ignores_record_values, ignores_restore_values}
 use Rattle.independence_laws.proofs.WrapRuns.{ignores_wrap}

@@ -1,12 +1,12 @@
 -- Styles, and clearing values, ignore marks and the cap.
 use Rattle.std.proofs.Common.{ℕ, List, codes}
-use Rattle.edit_engine.specs.HtmlNames.declared.commands.Command.{Command}
-use Rattle.edit_engine.specs.CssValue.declared.decoration.DecorationLine.{DecorationLine}
-use Rattle.edit_engine.specs.CommandValue.declared.subject.Subject.{Subject}
-use Rattle.edit_engine.specs.CommandValue.declared.subject.Subject.TheVariants.{Line, Link}
-use Rattle.edit_engine.specs.EditModel.Confined.{is_editable_for}
-use Rattle.edit_engine.specs.InlineValue.Styling.{write_text, set_style, declarations_of, style_of, unset_style, decoration_of}
-use Rattle.edit_engine.specs.InlineValue.Clearing.{write_words, drop_line, drop_word, drop_property, drop_attribute, drop_hint, drop_link, span_for, stripped, unwrapped, clear_value}
+use Rattle.edit_model.specs.HtmlNames.declared.commands.Command.{Command}
+use Rattle.inline_value.specs.CssValue.declared.decoration.DecorationLine.{DecorationLine}
+use Rattle.inline_value.specs.CommandValue.declared.subject.Subject.{Subject}
+use Rattle.inline_value.specs.CommandValue.declared.subject.Subject.TheVariants.{Line, Link}
+use Rattle.edit_model.specs.Confined.{is_editable_for}
+use Rattle.inline_value.specs.Styling.{write_text, set_style, declarations_of, style_of, unset_style, decoration_of}
+use Rattle.inline_value.specs.Clearing.{write_words, drop_line, drop_word, drop_property, drop_attribute, drop_hint, drop_link, span_for, stripped, unwrapped, clear_value}
 use Rattle.independence_laws.proofs.IgnoringRuns.{ignores_answer, ignoring_parts}
 use Rattle.independence_laws.proofs.MoveRuns.{ignores_set_tag_name, ignores_unwrap}
 use Rattle.independence_laws.specs.Ignoring.{IgnoresMarks}

@@ -1,12 +1,12 @@
 -- The action of each command ignores marks and the cap.
 use Rattle.std.proofs.Common.{ℕ, Bool, List, true, false, codes, not}
-use Rattle.edit_engine.specs.HtmlNames.declared.commands.Command.{Command}
-use Rattle.edit_engine.specs.HtmlNames.declared.commands.Command.TheVariants as command
-use Rattle.edit_engine.specs.EditModel.Run.{Run}
-use Rattle.edit_engine.specs.EditQuery.Carets.{is_caret}
-use Rattle.edit_engine.specs.InlineValue.declared.overrides.Override.{Override}
-use Rattle.edit_engine.specs.InlineValue.Overrides.{overrides_of}
-use Rattle.edit_engine.specs.ListToggle.declared.toggling.ListKind.TheVariants.{Ordered, Unordered}
+use Rattle.edit_model.specs.HtmlNames.declared.commands.Command.{Command}
+use Rattle.edit_model.specs.HtmlNames.declared.commands.Command.TheVariants as command
+use Rattle.edit_model.specs.Run.{Run}
+use Rattle.inline_value.specs.EditQuery.Carets.{is_caret}
+use Rattle.inline_value.specs.declared.overrides.Override.{Override}
+use Rattle.inline_value.specs.Overrides.{overrides_of}
+use Rattle.list_toggle.specs.declared.toggling.ListKind.TheVariants.{Ordered, Unordered}
 use Rattle.edit_engine.specs.Framing.{restore_at_caret, give_back, recorded_action, framed}
 use Rattle.edit_engine.specs.Commands.{set_css_styling, set_separator, own_action, is_value, row_of, action_of}
 use Rattle.independence_laws.proofs.InlineRuns.{ignores_restore_states, ignores_toggle_style, ignores_toggle_script, ignores_create_link, ignores_unlink, ignores_apply_value, ignores_remove_format}

@@ -1,14 +1,14 @@
 -- Deleting ignores marks and the cap.
 use Rattle.std.proofs.Common.{ℕ}
-use Rattle.edit_engine.specs.LiveRange.declared.places.Point.{Point}
-use Rattle.edit_engine.specs.EditModel.Confined.{is_editable_for}
-use Rattle.edit_engine.specs.EditQuery.Carets.{is_caret}
-use Rattle.edit_engine.specs.InlineValue.Ancestors.{is_description}
-use Rattle.edit_engine.specs.ListIndent.Commands.{has_editable_below}
-use Rattle.edit_engine.specs.TextInsertion.Entries.{is_entry}
-use Rattle.edit_engine.specs.TextDeletion.Approach.{drop_child, back_turn, hidden_prev, hidden_child, out_of_node, link_before, into_child, go_back, climb_turn, out_of_start, climb}
-use Rattle.edit_engine.specs.TextDeletion.Entries.{lift_entry, outdent_line, bare_nodes, is_bare, part_entry, part_entries, opens_entry, starts_indented, is_indented, indents_line, has_indenter, starts_entry}
-use Rattle.edit_engine.specs.TextDeletion.Delete.{erase_single, erase_line, join, joined, deepest_before, into_last, delete_across, is_kept_from, follows_table, follows_line, is_empty_line, delete_from, follows_single, delete_at_caret, delete}
+use Rattle.edit_model.specs.LiveRange.declared.places.Point.{Point}
+use Rattle.edit_model.specs.Confined.{is_editable_for}
+use Rattle.inline_value.specs.EditQuery.Carets.{is_caret}
+use Rattle.inline_value.specs.Ancestors.{is_description}
+use Rattle.list_indent.specs.Commands.{has_editable_below}
+use Rattle.text_insertion.specs.Entries.{is_entry}
+use Rattle.text_deletion.specs.Approach.{drop_child, back_turn, hidden_prev, hidden_child, out_of_node, link_before, into_child, go_back, climb_turn, out_of_start, climb}
+use Rattle.text_deletion.specs.Entries.{lift_entry, outdent_line, bare_nodes, is_bare, part_entry, part_entries, opens_entry, starts_indented, is_indented, indents_line, has_indenter, starts_entry}
+use Rattle.text_deletion.specs.Delete.{erase_single, erase_line, join, joined, deepest_before, into_last, delete_across, is_kept_from, follows_table, follows_line, is_empty_line, delete_from, follows_single, delete_at_caret, delete}
 use Rattle.independence_laws.proofs.SplitRuns.{ignores_remove_keeping_children}
 use Rattle.independence_laws.proofs.IndentRuns.{ignores_normalize_sublists, ignores_outdent_node}
 use Rattle.independence_laws.proofs.SelectionRuns.{ignores_split_out, ignores_fix_ancestors}

@@ -1,15 +1,15 @@
 -- Deleting the selection ignores marks and the cap.
 use Rattle.std.proofs.Common.{ℕ, Option}
-use Rattle.edit_engine.specs.LiveRange.declared.places.Point.{Point}
-use Rattle.edit_engine.specs.EditModel.Confined.{is_editable_for, is_inside}
-use Rattle.edit_engine.specs.EditQuery.Queries.{value_of}
-use Rattle.edit_engine.specs.EditQuery.Rows.{first_value}
-use Rattle.edit_engine.specs.EditQuery.Formattable.{first_formattable, formattable_nodes, start_node}
-use Rattle.edit_engine.specs.EditQuery.Leaves.{first_leaf, leaves}
-use Rattle.edit_engine.specs.InlineValue.Overrides.{states_of, states_at}
-use Rattle.edit_engine.specs.DeleteCore.Deletion.{erase_across, erase, delete_recorded, delete_selected, delete_range, delete_between, delete_selection}
-use Rattle.edit_engine.specs.DeleteCore.Erasing.{is_own_text}
-use Rattle.edit_engine.specs.DeleteCore.Ends.{block_of_end, may_merge, top_inline, up_inline}
+use Rattle.edit_model.specs.LiveRange.declared.places.Point.{Point}
+use Rattle.edit_model.specs.Confined.{is_editable_for, is_inside}
+use Rattle.inline_value.specs.EditQuery.Queries.{value_of}
+use Rattle.inline_value.specs.EditQuery.Rows.{first_value}
+use Rattle.inline_value.specs.EditQuery.Formattable.{first_formattable, formattable_nodes, start_node}
+use Rattle.inline_value.specs.EditQuery.Leaves.{first_leaf, leaves}
+use Rattle.inline_value.specs.Overrides.{states_of, states_at}
+use Rattle.delete_core.specs.Deletion.{erase_across, erase, delete_recorded, delete_selected, delete_range, delete_between, delete_selection}
+use Rattle.delete_core.specs.Erasing.{is_own_text}
+use Rattle.delete_core.specs.Ends.{block_of_end, may_merge, top_inline, up_inline}
 use Rattle.independence_laws.proofs.ErasingRuns.{ignores_cut_after, ignores_remove_nodes, ignores_cut_before, ignores_canonicalize_start, ignores_canonicalize_end, ignores_erase_within, ignores_collapse_selection}
 use Rattle.independence_laws.proofs.MergingRuns.{ignores_merge_if}
 use Rattle.independence_laws.specs.Ignoring.{IgnoresMarks}

@@ -1,9 +1,9 @@
 -- What a deletion removes: its runs ignore marks and the cap.
 use Rattle.std.proofs.Common.{ℕ, Bool, Option, Some, None}
-use Rattle.edit_engine.specs.LiveRange.declared.places.Point.{Point}
-use Rattle.edit_engine.specs.EditModel.Confined.{is_editable_for, is_inside}
-use Rattle.edit_engine.specs.DeleteCore.Ends.{collapse_selection, canonicalize_start, canonicalize_end}
-use Rattle.edit_engine.specs.DeleteCore.Erasing.{erase_within, cut_after, is_own_text, cut_before, fill_hollow, removed_up, strip_empty, strip_from, remove_under, remove_node, remove_nodes, removable_nodes, is_removable}
+use Rattle.edit_model.specs.LiveRange.declared.places.Point.{Point}
+use Rattle.edit_model.specs.Confined.{is_editable_for, is_inside}
+use Rattle.delete_core.specs.Ends.{collapse_selection, canonicalize_start, canonicalize_end}
+use Rattle.delete_core.specs.Erasing.{erase_within, cut_after, is_own_text, cut_before, fill_hollow, removed_up, strip_empty, strip_from, remove_under, remove_node, remove_nodes, removable_nodes, is_removable}
 use Rattle.independence_laws.proofs.WhitespaceRuns.{ignores_canonicalize}
 use Rattle.independence_laws.proofs.WrapRuns.{ignores_append_break}
 use Rattle.independence_laws.proofs.IgnoringRuns.{ignores_answer, ignoring_parts}

@@ -1,12 +1,12 @@
 -- Forcing values ignores marks and the cap.
 use Rattle.std.proofs.Common.{ℕ, Bool, List, Option, zero, suc, codes}
-use Rattle.edit_engine.specs.HtmlNames.declared.commands.Command.{Command}
-use Rattle.edit_engine.specs.CommandValue.declared.subject.Subject.{Subject}
-use Rattle.edit_engine.specs.CommandValue.declared.subject.Subject.TheVariants.{Link, Line}
-use Rattle.edit_engine.specs.EditModel.Confined.{is_editable_for}
-use Rattle.edit_engine.specs.EditModel.Run.{Run}
-use Rattle.edit_engine.specs.InlineValue.Reordering.{swapped, reorder_with, reorder, reordered}
-use Rattle.edit_engine.specs.InlineValue.Forcing.{reorder_prev, reorder_next, joined, rename_link, rename_links, clear_way, make_wrapper, style_by, style_wrapper, has_alike, taken_back, confirm_value, put_in, wrapped, unless_alike, force_node, force_self, force_child, force_heirs, heirs, forced, force_value, force}
+use Rattle.edit_model.specs.HtmlNames.declared.commands.Command.{Command}
+use Rattle.inline_value.specs.CommandValue.declared.subject.Subject.{Subject}
+use Rattle.inline_value.specs.CommandValue.declared.subject.Subject.TheVariants.{Link, Line}
+use Rattle.edit_model.specs.Confined.{is_editable_for}
+use Rattle.edit_model.specs.Run.{Run}
+use Rattle.inline_value.specs.Reordering.{swapped, reorder_with, reorder, reordered}
+use Rattle.inline_value.specs.Forcing.{reorder_prev, reorder_next, joined, rename_link, rename_links, clear_way, make_wrapper, style_by, style_wrapper, has_alike, taken_back, confirm_value, put_in, wrapped, unless_alike, force_node, force_self, force_child, force_heirs, heirs, forced, force_value, force}
 use Rattle.independence_laws.proofs.MoveRuns.{ignores_move_all_before, ignores_insert_after, ignores_set_tag_name, ignores_move_before, ignores_insert_before}
 use Rattle.independence_laws.proofs.WrapRuns.{ignores_wrap}
 use Rattle.independence_laws.proofs.IgnoringRuns.{ignores_answer, ignoring_parts, ignores_bind}

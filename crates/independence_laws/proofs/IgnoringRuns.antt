@@ -1,10 +1,10 @@
 -- How runs that ignore marks and the cap are composed, and the runs of one action.
 use Rattle.std.proofs.Common.{◌≡◌, ℕ, zero, suc, Bool, true, false, List, [], ◌∷◌, Option, Some, None, if◌then◌else◌, refl, ap, ◌∙◌}
-use Rattle.edit_engine.specs.DomModel.declared.attributes.Attribute.{Attribute}
-use Rattle.edit_engine.specs.EditModel.State.{State}
-use Rattle.edit_engine.specs.EditModel.Action.{Action, Change, MakeElement, MakeWords}
-use Rattle.edit_engine.specs.EditModel.Edit.{Edit, is_made_edit}
-use Rattle.edit_engine.specs.EditModel.Run.{Run, final, value, ◌>>=◌, act, answer, look, given, for_each, while_at_most, edit, make_element, make_words, perform}
+use Rattle.edit_model.specs.DomModel.declared.attributes.Attribute.{Attribute}
+use Rattle.edit_model.specs.State.{State}
+use Rattle.edit_model.specs.Action.{Action, Change, MakeElement, MakeWords}
+use Rattle.edit_model.specs.Edit.{Edit, is_made_edit}
+use Rattle.edit_model.specs.Run.{Run, final, value, ◌>>=◌, act, answer, look, given, for_each, while_at_most, edit, make_element, make_words, perform}
 use Rattle.independence_laws.specs.Unmarked.{unmarked}
 use Rattle.independence_laws.specs.Ignoring.{IgnoresMarks}
 use Rattle.independence_laws.proofs.UnmarkedEdits.{made_edit_same, acted_same}

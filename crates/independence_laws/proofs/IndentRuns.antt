@@ -1,16 +1,16 @@
 -- Indent and outdent ignore marks and the cap.
 use Rattle.std.proofs.Common.{◌≡◌, ℕ, Bool, List, Option, zero, suc, [], ◌∷◌, length}
-use Rattle.edit_engine.specs.DomModel.Forest.{first_in}
-use Rattle.edit_engine.specs.EditModel.Run.{Run, ◌>>◌}
-use Rattle.edit_engine.specs.EditModel.State.{State}
-use Rattle.edit_engine.specs.EditModel.Confined.{is_editable_for}
-use Rattle.edit_engine.specs.WrapSplit.Wrap.{break_next}
-use Rattle.edit_engine.specs.EditQuery.Gathered.{outermost}
-use Rattle.edit_engine.specs.ListIndent.Series.{series_at_most, take_series, for_series}
-use Rattle.edit_engine.specs.ListIndent.Sublists.{make_follower, follower_of, handed_on, part_last, leaves, is_list, is_blank, normalize_sublists, is_normalizable, is_in_list}
-use Rattle.edit_engine.specs.ListIndent.Indenting.{nested, quoted, indent_list}
-use Rattle.edit_engine.specs.ListIndent.Outdenting.{to_div, unboxed, unindented, unwrapped, released, outdent_list, part_around, siblings_after, part_level, child_on_way, part_levels, outdent_through, outdent_along, outdent_node, way_of, way_by, is_passed}
-use Rattle.edit_engine.specs.ListIndent.Commands.{normalize_range, range_items, normalize_before, shown_before, indent_nodes, indent, is_indentable, split_items, outdent_series, is_lone, outdent_nodes, goes_on_items, outdent, is_outdentable, has_editable_below}
+use Rattle.edit_model.specs.DomModel.Forest.{first_in}
+use Rattle.edit_model.specs.Run.{Run, ◌>>◌}
+use Rattle.edit_model.specs.State.{State}
+use Rattle.edit_model.specs.Confined.{is_editable_for}
+use Rattle.inline_value.specs.WrapSplit.Wrap.{break_next}
+use Rattle.inline_value.specs.EditQuery.Gathered.{outermost}
+use Rattle.list_indent.specs.Series.{series_at_most, take_series, for_series}
+use Rattle.list_indent.specs.Sublists.{make_follower, follower_of, handed_on, part_last, leaves, is_list, is_blank, normalize_sublists, is_normalizable, is_in_list}
+use Rattle.list_indent.specs.Indenting.{nested, quoted, indent_list}
+use Rattle.list_indent.specs.Outdenting.{to_div, unboxed, unindented, unwrapped, released, outdent_list, part_around, siblings_after, part_level, child_on_way, part_levels, outdent_through, outdent_along, outdent_node, way_of, way_by, is_passed}
+use Rattle.list_indent.specs.Commands.{normalize_range, range_items, normalize_before, shown_before, indent_nodes, indent, is_indentable, split_items, outdent_series, is_lone, outdent_nodes, goes_on_items, outdent, is_outdentable, has_editable_below}
 use Rattle.independence_laws.proofs.IgnoringRuns.{ignores_answer, ignores_bind, ignores_look, ignoring_parts}
 use Rattle.independence_laws.specs.Unmarked.{unmarked}
 use Rattle.independence_laws.proofs.MoveRuns.{ignores_insert_after, ignores_move_first, ignores_move_after, ignores_set_tag_name}

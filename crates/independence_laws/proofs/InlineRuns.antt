@@ -1,24 +1,24 @@
 -- The inline commands ignore marks and the cap.
 use Rattle.std.proofs.Common.{ℕ, Bool, List, Option, false, [], ◌∷◌}
-use Rattle.edit_engine.specs.HtmlNames.declared.commands.Command.{Command}
-use Rattle.edit_engine.specs.HtmlNames.declared.commands.Command.TheVariants as command
-use Rattle.edit_engine.specs.EditModel.Confined.{is_editable_for}
-use Rattle.edit_engine.specs.EditModel.declared.settings.Setting.{Setting}
-use Rattle.edit_engine.specs.EditModel.declared.settings.Setting.TheVariants.{Absent, On, Off, Text}
-use Rattle.edit_engine.specs.EditQuery.Queries.{state_of, value_of}
-use Rattle.edit_engine.specs.EditQuery.Rows.{is_on, first_value}
-use Rattle.edit_engine.specs.EditQuery.Formattable.{start_node, formattable_nodes, first_formattable}
-use Rattle.edit_engine.specs.EditQuery.Leaves.{leaves, first_leaf}
-use Rattle.edit_engine.specs.EditQuery.ListStates.{list_state}
-use Rattle.edit_engine.specs.InlineValue.Selections.{nodes_in_range, editable_in_range}
-use Rattle.edit_engine.specs.InlineValue.declared.overrides.Override.{Override}
-use Rattle.edit_engine.specs.InlineValue.Forcing.{has_alike}
-use Rattle.edit_engine.specs.InlineCommands.Toggling.{set_toggled, toggle_style, set_unless, set_script, toggle_script}
-use Rattle.edit_engine.specs.InlineCommands.Linking.{relink, relink_range, links_around, is_around, link_range, link_to, create_link}
-use Rattle.edit_engine.specs.InlineCommands.Unlink.{clear_links, unlink, links_touched}
-use Rattle.edit_engine.specs.InlineCommands.RemovingFormat.{unwrap_candidates, candidates_in_range, is_candidate, part_from_format, is_formatted, part_nodes, clear_command, clear_commands, remove_format}
-use Rattle.edit_engine.specs.InlineCommands.ValueCommands.{set_taken, take, apply_value}
-use Rattle.edit_engine.specs.InlineCommands.RestoringStates.{override_by, set_override, turn_round, toggle_state, restore_on, restore_off, restore_shown, restore_link, is_other_value, restore_size, restore_text, restore_setting, restore_entry, restore_states}
+use Rattle.edit_model.specs.HtmlNames.declared.commands.Command.{Command}
+use Rattle.edit_model.specs.HtmlNames.declared.commands.Command.TheVariants as command
+use Rattle.edit_model.specs.Confined.{is_editable_for}
+use Rattle.edit_model.specs.declared.settings.Setting.{Setting}
+use Rattle.edit_model.specs.declared.settings.Setting.TheVariants.{Absent, On, Off, Text}
+use Rattle.inline_value.specs.EditQuery.Queries.{state_of, value_of}
+use Rattle.inline_value.specs.EditQuery.Rows.{is_on, first_value}
+use Rattle.inline_value.specs.EditQuery.Formattable.{start_node, formattable_nodes, first_formattable}
+use Rattle.inline_value.specs.EditQuery.Leaves.{leaves, first_leaf}
+use Rattle.inline_value.specs.EditQuery.ListStates.{list_state}
+use Rattle.inline_value.specs.Selections.{nodes_in_range, editable_in_range}
+use Rattle.inline_value.specs.declared.overrides.Override.{Override}
+use Rattle.inline_value.specs.Forcing.{has_alike}
+use Rattle.inline_commands.specs.Toggling.{set_toggled, toggle_style, set_unless, set_script, toggle_script}
+use Rattle.inline_commands.specs.Linking.{relink, relink_range, links_around, is_around, link_range, link_to, create_link}
+use Rattle.inline_commands.specs.Unlink.{clear_links, unlink, links_touched}
+use Rattle.inline_commands.specs.RemovingFormat.{unwrap_candidates, candidates_in_range, is_candidate, part_from_format, is_formatted, part_nodes, clear_command, clear_commands, remove_format}
+use Rattle.inline_commands.specs.ValueCommands.{set_taken, take, apply_value}
+use Rattle.inline_commands.specs.RestoringStates.{override_by, set_override, turn_round, toggle_state, restore_on, restore_off, restore_shown, restore_link, is_other_value, restore_size, restore_text, restore_setting, restore_entry, restore_states}
 use Rattle.independence_laws.proofs.SelectionRuns.{ignores_set_value, ignores_clear_one, ignores_split_ends}
 use Rattle.independence_laws.proofs.IgnoringRuns.{ignores_answer, ignores_perform, ignoring_parts}
 use Rattle.independence_laws.proofs.MoveRuns.{ignores_unwrap}

@@ -1,15 +1,15 @@
 -- Toggling lists ignores marks and the cap.
 use Rattle.std.proofs.Common.{ℕ, Bool, List}
-use Rattle.edit_engine.specs.EditModel.Confined.{is_editable_for}
-use Rattle.edit_engine.specs.WrapSplit.declared.rule.Criterion.{Criterion}
-use Rattle.edit_engine.specs.WrapSplit.declared.rule.Recipe.{Recipe}
-use Rattle.edit_engine.specs.EditQuery.ListStates.{list_state}
-use Rattle.edit_engine.specs.ListIndent.Sublists.{is_list, is_in_list}
-use Rattle.edit_engine.specs.ListToggle.Ranges.{RangeEnds, keep_range, kept_range, extended_range, other_lists, is_other_list, range_members, range_lines, is_line}
-use Rattle.edit_engine.specs.ListToggle.Converting.{move_items, convert_list, is_beside_fit, convert_each, convert_lists}
-use Rattle.edit_engine.specs.ListToggle.Collecting.{wrap_line, goes_on_line, make_item, is_container, Collected, collect_next, collect_items, goes_on}
-use Rattle.edit_engine.specs.ListToggle.Toggle.{release_series, release_all, goes_on_out, place_items, enlist_next, toggle_off, toggle_on, toggle_lists}
-use Rattle.edit_engine.specs.ListToggle.declared.toggling.ListKind.{ListKind}
+use Rattle.edit_model.specs.Confined.{is_editable_for}
+use Rattle.inline_value.specs.WrapSplit.declared.rule.Criterion.{Criterion}
+use Rattle.inline_value.specs.WrapSplit.declared.rule.Recipe.{Recipe}
+use Rattle.inline_value.specs.EditQuery.ListStates.{list_state}
+use Rattle.list_indent.specs.Sublists.{is_list, is_in_list}
+use Rattle.list_toggle.specs.Ranges.{RangeEnds, keep_range, kept_range, extended_range, other_lists, is_other_list, range_members, range_lines, is_line}
+use Rattle.list_toggle.specs.Converting.{move_items, convert_list, is_beside_fit, convert_each, convert_lists}
+use Rattle.list_toggle.specs.Collecting.{wrap_line, goes_on_line, make_item, is_container, Collected, collect_next, collect_items, goes_on}
+use Rattle.list_toggle.specs.Toggle.{release_series, release_all, goes_on_out, place_items, enlist_next, toggle_off, toggle_on, toggle_lists}
+use Rattle.list_toggle.specs.declared.toggling.ListKind.{ListKind}
 use Rattle.independence_laws.proofs.PushingRuns.{ignores_record_values, ignores_restore_values}
 use Rattle.independence_laws.proofs.SplitRuns.{ignores_split_parent}
 use Rattle.independence_laws.proofs.WrapRuns.{ignores_wrap}

@@ -1,11 +1,11 @@
 -- Lists of nodes that runs look at by recursion are the same without marks and cap.
 use Rattle.std.proofs.Common.{◌≡◌, ℕ, zero, suc, ◌&&◌, not, List, [], ◌∷◌, Some, None, if◌then◌else◌, refl, ap}
-use Rattle.edit_engine.specs.DomModel.Contents.{is_break}
-use Rattle.edit_engine.specs.DomModel.Forest.{is_label, either, parent_of, prev_of, next_of}
-use Rattle.edit_engine.specs.EditModel.State.{State}
-use Rattle.edit_engine.specs.EditActions.Siblings.{first_parent, members}
-use Rattle.edit_engine.specs.WrapSplit.Walks.{is_invisible}
-use Rattle.edit_engine.specs.WrapSplit.Wrap.{list_on, if_hidden, all_hidden, extended_front, hidden_after, first_visible, last_visible}
+use Rattle.edit_model.specs.DomModel.Contents.{is_break}
+use Rattle.edit_model.specs.DomModel.Forest.{is_label, either, parent_of, prev_of, next_of}
+use Rattle.edit_model.specs.State.{State}
+use Rattle.inline_value.specs.EditActions.Siblings.{first_parent, members}
+use Rattle.inline_value.specs.WrapSplit.Walks.{is_invisible}
+use Rattle.inline_value.specs.WrapSplit.Wrap.{list_on, if_hidden, all_hidden, extended_front, hidden_after, first_visible, last_visible}
 use Rattle.independence_laws.specs.Unmarked.{unmarked}
 
 -- ---- siblings

@@ -1,11 +1,11 @@
 -- Merging blocks after a deletion ignores marks and the cap.
 use Rattle.std.proofs.Common.{◌≡◌, ℕ, Bool, List, Option, zero, suc, [], ◌∷◌, refl}
-use Rattle.edit_engine.specs.EditModel.Confined.{is_editable_for, is_inside}
-use Rattle.edit_engine.specs.EditModel.State.{State}
-use Rattle.edit_engine.specs.WrapSplit.Wrap.{list_on}
-use Rattle.edit_engine.specs.WrapSplit.Walks.{turn_bound}
-use Rattle.edit_engine.specs.InlineValue.Recording.{Recorded}
-use Rattle.edit_engine.specs.DeleteCore.Merging.{drop_prop, drop_sole, part_lines, parts_lines, remove_own, drop_parted, drop_soles, is_sole, is_apart, drop_block, split_line, split_out, drop_break_before, take_out_line, line_from, take_line, merge_content, merge_inner, drop_last_break, take_following, line_at, merge_outer, drop_emptied, take_children, merge_beside, merged, join_lists_at, join_next, join_once, list_to_join, joins_next, join_lists, has_list_to_join, fill_empty, finish, finish_if, merge, merge_both, are_mergeable, merge_if, if_inline, next_in_line, line_after}
+use Rattle.edit_model.specs.Confined.{is_editable_for, is_inside}
+use Rattle.edit_model.specs.State.{State}
+use Rattle.inline_value.specs.WrapSplit.Wrap.{list_on}
+use Rattle.inline_value.specs.WrapSplit.Walks.{turn_bound}
+use Rattle.inline_value.specs.Recording.{Recorded}
+use Rattle.delete_core.specs.Merging.{drop_prop, drop_sole, part_lines, parts_lines, remove_own, drop_parted, drop_soles, is_sole, is_apart, drop_block, split_line, split_out, drop_break_before, take_out_line, line_from, take_line, merge_content, merge_inner, drop_last_break, take_following, line_at, merge_outer, drop_emptied, take_children, merge_beside, merged, join_lists_at, join_next, join_once, list_to_join, joins_next, join_lists, has_list_to_join, fill_empty, finish, finish_if, merge, merge_both, are_mergeable, merge_if, if_inline, next_in_line, line_after}
 use Rattle.independence_laws.proofs.MoveRuns.{ignores_make_break, ignores_insert_after, ignores_move_each_last}
 use Rattle.independence_laws.proofs.SplitRuns.{ignores_split_parent, ignores_breaks_at_end}
 use Rattle.independence_laws.proofs.PushingRuns.{values_of_same, ignores_restore_values}

@@ -1,8 +1,8 @@
 -- Moves, and the compositions of edits that standards name, ignore marks and the cap.
 use Rattle.std.proofs.Common.{ℕ, Bool, List}
-use Rattle.edit_engine.specs.EditModel.Moves.{insert_before, insert_after, make_break, move_before, move_after, move_first, move_all_before, move_all_after, move_all_first, move_each_last, unwrap}
-use Rattle.edit_engine.specs.EditModel.Compositions.{points_sent, split_words, split_under, set_tag_name, renamed}
-use Rattle.edit_engine.specs.EditModel.Confined.{is_editable_for}
+use Rattle.edit_model.specs.Moves.{insert_before, insert_after, make_break, move_before, move_after, move_first, move_all_before, move_all_after, move_all_first, move_each_last, unwrap}
+use Rattle.edit_model.specs.Compositions.{points_sent, split_words, split_under, set_tag_name, renamed}
+use Rattle.edit_model.specs.Confined.{is_editable_for}
 use Rattle.independence_laws.specs.Ignoring.{IgnoresMarks}
 use Rattle.independence_laws.proofs.IgnoringRuns.{ignoring_parts}
 

@@ -1,13 +1,13 @@
 -- Inserting line breaks, rules and images ignores marks and the cap.
 use Rattle.std.proofs.Common.{ℕ, List, false, [], ◌∷◌}
-use Rattle.edit_engine.specs.DomModel.declared.attributes.Attribute.{Attribute}
-use Rattle.edit_engine.specs.LiveRange.declared.places.Point.{Point}
-use Rattle.edit_engine.specs.EditModel.Confined.{is_inside, is_editable_for}
-use Rattle.edit_engine.specs.TextInsertion.Start.{active_start, start_inside}
-use Rattle.edit_engine.specs.InsertObjects.Putting.{collapse_before, collapse_after, leave_text, put}
-use Rattle.edit_engine.specs.InsertObjects.LineBreak.{repeat_break, put_break, break_line, takes_break, insert_line_break}
-use Rattle.edit_engine.specs.InsertObjects.Rule.{widen_range, outermost_start, out_of_start, outermost_end, out_of_end, put_rule, insert_horizontal_rule}
-use Rattle.edit_engine.specs.InsertObjects.Image.{drop_lone_break, put_image, show_image, insert_source, insert_image}
+use Rattle.edit_model.specs.DomModel.declared.attributes.Attribute.{Attribute}
+use Rattle.edit_model.specs.LiveRange.declared.places.Point.{Point}
+use Rattle.edit_model.specs.Confined.{is_inside, is_editable_for}
+use Rattle.text_insertion.specs.Start.{active_start, start_inside}
+use Rattle.insert_objects.specs.Putting.{collapse_before, collapse_after, leave_text, put}
+use Rattle.insert_objects.specs.LineBreak.{repeat_break, put_break, break_line, takes_break, insert_line_break}
+use Rattle.insert_objects.specs.Rule.{widen_range, outermost_start, out_of_start, outermost_end, out_of_end, put_rule, insert_horizontal_rule}
+use Rattle.insert_objects.specs.Image.{drop_lone_break, put_image, show_image, insert_source, insert_image}
 use Rattle.independence_laws.proofs.MoveRuns.{ignores_split_words, ignores_make_break}
 use Rattle.independence_laws.proofs.ParagraphRuns.{ignores_insert_at_start, ignores_erase}
 use Rattle.independence_laws.proofs.SelectionRuns.{ignores_fix_ancestors}

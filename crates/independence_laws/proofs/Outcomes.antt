@@ -3,17 +3,17 @@ use Rattle.std.proofs.Common.{◌≡◌, ◌≤◌, ℕ, Bool, true, false, not,
 use Rattle.std.specs.Prelude.{nat_lt}
 use Rattle.std.proofs.lemmas.Bool.Decides.{nat_tests}
 use Rattle.std.specs.Option.{option_map_or}
-use Rattle.edit_engine.specs.CommandGate.Denied.{is_denied}
-use Rattle.edit_engine.specs.HtmlNames.Commands.{command_named}
-use Rattle.edit_engine.specs.HtmlNames.declared.commands.Command.{Command}
-use Rattle.edit_engine.specs.HtmlNames.declared.commands.Command.TheVariants.{InsertText}
-use Rattle.edit_engine.specs.DomModel.Document.{page_depth}
-use Rattle.edit_engine.specs.LiveRange.declared.places.Pair.{Pair}
-use Rattle.edit_engine.specs.EditModel.State.{State}
-use Rattle.edit_engine.specs.EditModel.History.{rested, begun}
-use Rattle.edit_engine.specs.EditModel.Action.{Select}
-use Rattle.edit_engine.specs.EditModel.Run.{Run, select}
-use Rattle.edit_engine.specs.EditActions.ActiveRange.{affected_host}
+use Rattle.command_gate.specs.Denied.{is_denied}
+use Rattle.edit_model.specs.HtmlNames.Commands.{command_named}
+use Rattle.edit_model.specs.HtmlNames.declared.commands.Command.{Command}
+use Rattle.edit_model.specs.HtmlNames.declared.commands.Command.TheVariants.{InsertText}
+use Rattle.edit_model.specs.DomModel.Document.{page_depth}
+use Rattle.edit_model.specs.LiveRange.declared.places.Pair.{Pair}
+use Rattle.edit_model.specs.State.{State}
+use Rattle.edit_model.specs.History.{rested, begun}
+use Rattle.edit_model.specs.Action.{Select}
+use Rattle.edit_model.specs.Run.{Run, select}
+use Rattle.inline_value.specs.EditActions.ActiveRange.{affected_host}
 use Rattle.edit_engine.specs.Commands.{row_of, action_of, is_enabled_in}
 use Rattle.edit_engine.specs.Editing.{Editing}
 use Rattle.edit_engine.specs.Execution.{Outcome, Refused, Deep, Full, Acted, depth_limit, host_at, run_at, ran, answered, after_run, run_outcome, command_outcome, outcome_by, gated_outcome}

@@ -1,17 +1,17 @@
 -- Inserting a paragraph ignores marks and the cap.
 use Rattle.std.proofs.Common.{◌≡◌, ℕ, zero, suc, [], ◌∷◌, refl}
-use Rattle.edit_engine.specs.DomModel.Forest.{next_of}
-use Rattle.edit_engine.specs.LiveRange.declared.places.Point.{Point}
-use Rattle.edit_engine.specs.EditModel.Confined.{is_inside, is_editable_for}
-use Rattle.edit_engine.specs.EditModel.State.{State}
-use Rattle.edit_engine.specs.WrapSplit.Breaks.{last_below}
-use Rattle.edit_engine.specs.WrapSplit.Wrap.{list_on}
-use Rattle.edit_engine.specs.InlineValue.Ancestors.{is_description, has_place, is_prohibited}
-use Rattle.edit_engine.specs.TextInsertion.Start.{insert_at, insert_at_start, active_start, erase, start_inside}
-use Rattle.edit_engine.specs.TextInsertion.Entries.{rename_stray, is_stray, leave_list, is_empty_entry, is_entry, has_sole_break}
-use Rattle.edit_engine.specs.TextInsertion.Containers.{make_container, insert_container, add_container, takes_container, wrap_line, contents_from, make_line, first_content, is_line_content, own_container, is_own_container, container_of, entry_over, is_plain_block, nearest_entry, up_to_entry, nearest_container, up_to_container, if_paragraph_child, contents_after}
-use Rattle.edit_engine.specs.TextInsertion.Halves.{make_second, second_name, ends_line, name_after, is_heading_at, fill_hidden, close_both, deepest_last, into_last_block, part_at, part_container, parting_point, outer_end, leave_end, outer_start, leave_start}
-use Rattle.edit_engine.specs.TextInsertion.Paragraph.{leave_text, split_text, break_line, part_line, holds_lines, part_paragraph, insert_paragraph_inside, insert_paragraph}
+use Rattle.edit_model.specs.DomModel.Forest.{next_of}
+use Rattle.edit_model.specs.LiveRange.declared.places.Point.{Point}
+use Rattle.edit_model.specs.Confined.{is_inside, is_editable_for}
+use Rattle.edit_model.specs.State.{State}
+use Rattle.inline_value.specs.WrapSplit.Breaks.{last_below}
+use Rattle.inline_value.specs.WrapSplit.Wrap.{list_on}
+use Rattle.inline_value.specs.Ancestors.{is_description, has_place, is_prohibited}
+use Rattle.text_insertion.specs.Start.{insert_at, insert_at_start, active_start, erase, start_inside}
+use Rattle.text_insertion.specs.Entries.{rename_stray, is_stray, leave_list, is_empty_entry, is_entry, has_sole_break}
+use Rattle.text_insertion.specs.Containers.{make_container, insert_container, add_container, takes_container, wrap_line, contents_from, make_line, first_content, is_line_content, own_container, is_own_container, container_of, entry_over, is_plain_block, nearest_entry, up_to_entry, nearest_container, up_to_container, if_paragraph_child, contents_after}
+use Rattle.text_insertion.specs.Halves.{make_second, second_name, ends_line, name_after, is_heading_at, fill_hidden, close_both, deepest_last, into_last_block, part_at, part_container, parting_point, outer_end, leave_end, outer_start, leave_start}
+use Rattle.text_insertion.specs.Paragraph.{leave_text, split_text, break_line, part_line, holds_lines, part_paragraph, insert_paragraph_inside, insert_paragraph}
 use Rattle.independence_laws.proofs.DeletionRuns.{ignores_delete_selection}
 use Rattle.independence_laws.proofs.InlineRuns.{ignores_restore_states}
 use Rattle.independence_laws.proofs.MoveRuns.{ignores_set_tag_name, ignores_insert_after, ignores_split_words, ignores_make_break}

@@ -1,13 +1,13 @@
 -- Pushing values down, and recording and restoring them, ignore marks and the cap.
 use Rattle.std.proofs.Common.{◌≡◌, ℕ, List, Option, [], ◌∷◌, Some, None, refl, ap, ◌++◌}
-use Rattle.edit_engine.specs.DomModel.Forest.{first_in}
-use Rattle.edit_engine.specs.HtmlNames.declared.commands.Command.{Command}
-use Rattle.edit_engine.specs.CommandValue.SpecifiedValues.{specified}
-use Rattle.edit_engine.specs.EditModel.Confined.{is_editable_for}
-use Rattle.edit_engine.specs.EditModel.State.{State}
-use Rattle.edit_engine.specs.InlineValue.Pushing.{push_to, clear_level, push_level, push_levels, own_or, push_from, is_hopeless, push_listed, push_down, needs_none, others_above}
-use Rattle.edit_engine.specs.InlineValue.Forcing.{has_alike}
-use Rattle.edit_engine.specs.InlineValue.Recording.{record_values, restored_to, Recorded, restore_value, restore_values, value_at, values_at, values_of}
+use Rattle.edit_model.specs.DomModel.Forest.{first_in}
+use Rattle.edit_model.specs.HtmlNames.declared.commands.Command.{Command}
+use Rattle.inline_value.specs.CommandValue.SpecifiedValues.{specified}
+use Rattle.edit_model.specs.Confined.{is_editable_for}
+use Rattle.edit_model.specs.State.{State}
+use Rattle.inline_value.specs.Pushing.{push_to, clear_level, push_level, push_levels, own_or, push_from, is_hopeless, push_listed, push_down, needs_none, others_above}
+use Rattle.inline_value.specs.Forcing.{has_alike}
+use Rattle.inline_value.specs.Recording.{record_values, restored_to, Recorded, restore_value, restore_values, value_at, values_at, values_of}
 use Rattle.independence_laws.proofs.ForcingRuns.{ignores_force}
 use Rattle.independence_laws.proofs.ClearingRuns.{ignores_clear_value}
 use Rattle.independence_laws.proofs.IgnoringRuns.{ignores_answer, ignores_bind, ignores_look, ignoring_parts}

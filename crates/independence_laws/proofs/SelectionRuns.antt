@@ -1,12 +1,12 @@
 -- Setting a value on the selection, and fixing ancestors, ignore marks and the cap.
 use Rattle.std.proofs.Common.{ℕ, List, Option}
-use Rattle.edit_engine.specs.HtmlNames.declared.commands.Command.{Command}
-use Rattle.edit_engine.specs.HtmlNames.declared.commands.Command.TheVariants as command
-use Rattle.edit_engine.specs.LiveRange.declared.places.Point.{Point}
-use Rattle.edit_engine.specs.EditModel.Confined.{is_editable_for, is_inside}
-use Rattle.edit_engine.specs.EditQuery.Formattable.{first_formattable, formattable_nodes}
-use Rattle.edit_engine.specs.InlineValue.Selections.{set_start, start_text, split_at_start, is_amid, split_at_end, split_start, split_end, split_ends, unset_rival, set_overrides, clear_one, clear_elements, elements_in_range, editable_in_range, nodes_in_range, force_phrase, give_node, give_nodes, give_range, set_value}
-use Rattle.edit_engine.specs.InlineValue.Ancestors.{lifted, lift, wrap_description, split_out, part_child, is_prohibited, part_children, lift_renamed, rename, replace_misplaced, is_description, hosts_none, fix_ancestors, has_place}
+use Rattle.edit_model.specs.HtmlNames.declared.commands.Command.{Command}
+use Rattle.edit_model.specs.HtmlNames.declared.commands.Command.TheVariants as command
+use Rattle.edit_model.specs.LiveRange.declared.places.Point.{Point}
+use Rattle.edit_model.specs.Confined.{is_editable_for, is_inside}
+use Rattle.inline_value.specs.EditQuery.Formattable.{first_formattable, formattable_nodes}
+use Rattle.inline_value.specs.Selections.{set_start, start_text, split_at_start, is_amid, split_at_end, split_start, split_end, split_ends, unset_rival, set_overrides, clear_one, clear_elements, elements_in_range, editable_in_range, nodes_in_range, force_phrase, give_node, give_nodes, give_range, set_value}
+use Rattle.inline_value.specs.Ancestors.{lifted, lift, wrap_description, split_out, part_child, is_prohibited, part_children, lift_renamed, rename, replace_misplaced, is_description, hosts_none, fix_ancestors, has_place}
 use Rattle.independence_laws.proofs.MoveRuns.{ignores_split_words, ignores_set_tag_name}
 use Rattle.independence_laws.proofs.IgnoringRuns.{ignores_perform, ignores_answer, ignoring_parts}
 use Rattle.independence_laws.proofs.ClearingRuns.{ignores_clear_value}

@@ -1,9 +1,9 @@
 -- Removing line breaks and splitting parents ignore marks and the cap.
 use Rattle.std.proofs.Common.{ℕ, Bool, List}
-use Rattle.edit_engine.specs.EditModel.Confined.{is_editable_for}
-use Rattle.edit_engine.specs.EditActions.Siblings.{starts_in, ends_in}
-use Rattle.edit_engine.specs.WrapSplit.Breaks.{breaks_before, back, back_step, last_below, breaks_at_end, top_hidden, up_step, breaks_from}
-use Rattle.edit_engine.specs.WrapSplit.Split.{break_before, break_after, clear_before, copied, copy_front, drop_first_break, close, tidy_after, split_end, split_rest, split_marked, split_at, split_members, split_parent, split_around, remove_keeping_children}
+use Rattle.edit_model.specs.Confined.{is_editable_for}
+use Rattle.inline_value.specs.EditActions.Siblings.{starts_in, ends_in}
+use Rattle.inline_value.specs.WrapSplit.Breaks.{breaks_before, back, back_step, last_below, breaks_at_end, top_hidden, up_step, breaks_from}
+use Rattle.inline_value.specs.WrapSplit.Split.{break_before, break_after, clear_before, copied, copy_front, drop_first_break, close, tidy_after, split_end, split_rest, split_marked, split_at, split_members, split_parent, split_around, remove_keeping_children}
 use Rattle.independence_laws.proofs.MoveRuns.{ignores_make_break, ignores_insert_before, ignores_insert_after, ignores_move_each_last, ignores_move_all_after, ignores_move_all_before}
 use Rattle.independence_laws.proofs.LookedAt.{first_parent_same, members_same}
 use Rattle.independence_laws.proofs.IgnoringRuns.{ignores_look, ignoring_parts}

@@ -1,10 +1,10 @@
 -- Inserting text ignores marks and the cap.
 use Rattle.std.proofs.Common.{ℕ, List, [], ◌∷◌}
-use Rattle.edit_engine.specs.LiveRange.declared.places.Point.{Point}
-use Rattle.edit_engine.specs.EditModel.Confined.{is_inside, is_editable_for}
-use Rattle.edit_engine.specs.InlineValue.Overrides.{overrides_of}
-use Rattle.edit_engine.specs.TextInsertion.Typing.{drop_sole_break, put_at, put_char, close_text, type_char, insert_char_at, insert_char_inside, insert_char, insert_several, insert_chars, insert_text}
-use Rattle.edit_engine.specs.TextInsertion.Start.{active_start, start_inside}
+use Rattle.edit_model.specs.LiveRange.declared.places.Point.{Point}
+use Rattle.edit_model.specs.Confined.{is_inside, is_editable_for}
+use Rattle.inline_value.specs.Overrides.{overrides_of}
+use Rattle.text_insertion.specs.Typing.{drop_sole_break, put_at, put_char, close_text, type_char, insert_char_at, insert_char_inside, insert_char, insert_several, insert_chars, insert_text}
+use Rattle.text_insertion.specs.Start.{active_start, start_inside}
 use Rattle.independence_laws.proofs.ParagraphRuns.{ignores_insert_at_start, ignores_insert_paragraph, ignores_erase}
 use Rattle.independence_laws.proofs.ErasingRuns.{ignores_canonicalize_start, ignores_canonicalize_end, ignores_collapse_selection}
 use Rattle.independence_laws.proofs.WhitespaceRuns.{ignores_canonicalize}

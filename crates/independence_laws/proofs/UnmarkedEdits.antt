@@ -1,16 +1,16 @@
 -- What an action makes of a state without marks and cap is what it makes of the state, without them.
 use Rattle.std.proofs.Common.{◌≡◌, ℕ, Bool, true, false, ◌&&◌, List, [], ◌∷◌, Option, Some, None, if◌then◌else◌, refl, ap, ◌∙◌}
-use Rattle.edit_engine.specs.DomModel.declared.Content.{Content}
-use Rattle.edit_engine.specs.DomModel.Forest.{Forest}
-use Rattle.edit_engine.specs.LiveRange.LivePoints.{LivePoints, mapped}
-use Rattle.edit_engine.specs.LiveRange.PointsEdit as range
-use Rattle.edit_engine.specs.LiveRange.declared.places.Point.{Point}
-use Rattle.edit_engine.specs.LiveRange.declared.places.Pair.{Pair}
-use Rattle.edit_engine.specs.EditModel.State.{State}
-use Rattle.edit_engine.specs.EditModel.Confined.{is_editable_for, is_inside, is_made, is_open, is_own, may_insert, may_remove, may_move, may_replace, may_set, may_unset, may_select, may_grow, may_send}
-use Rattle.edit_engine.specs.EditModel.Edit.{Edit, Insert, Remove, Move, Replace, Set, Unset, trees_after, points_after, overrides_after, changed, is_made_edit, change_of, with_change, edited}
-use Rattle.edit_engine.specs.EditModel.Tail.{Step, Copy, Do}
-use Rattle.edit_engine.specs.EditModel.Action.{Action, Change, MakeElement, MakeWords, Select, Extend, Unselect, Grow, Send, Scratch, Override, Flag, Extract, made, with_selection, with_scratch, selected, extended_from, extended, grown, sent, scratched, applied, stepped, stepped_all, tail_of, may_extract, extracted, acted}
+use Rattle.edit_model.specs.DomModel.declared.Content.{Content}
+use Rattle.edit_model.specs.DomModel.Forest.{Forest}
+use Rattle.edit_model.specs.LiveRange.LivePoints.{LivePoints, mapped}
+use Rattle.edit_model.specs.LiveRange.PointsEdit as range
+use Rattle.edit_model.specs.LiveRange.declared.places.Point.{Point}
+use Rattle.edit_model.specs.LiveRange.declared.places.Pair.{Pair}
+use Rattle.edit_model.specs.State.{State}
+use Rattle.edit_model.specs.Confined.{is_editable_for, is_inside, is_made, is_open, is_own, may_insert, may_remove, may_move, may_replace, may_set, may_unset, may_select, may_grow, may_send}
+use Rattle.edit_model.specs.Edit.{Edit, Insert, Remove, Move, Replace, Set, Unset, trees_after, points_after, overrides_after, changed, is_made_edit, change_of, with_change, edited}
+use Rattle.edit_model.specs.Tail.{Step, Copy, Do}
+use Rattle.edit_model.specs.Action.{Action, Change, MakeElement, MakeWords, Select, Extend, Unselect, Grow, Send, Scratch, Override, Flag, Extract, made, with_selection, with_scratch, selected, extended_from, extended, grown, sent, scratched, applied, stepped, stepped_all, tail_of, may_extract, extracted, acted}
 use Rattle.independence_laws.specs.Unmarked.{unmarked_points, unmarked}
 
 -- ---- a state that a test chooses

@@ -1,8 +1,8 @@
 -- Making whitespace canonical ignores marks and the cap.
 use Rattle.std.proofs.Common.{ℕ, Bool, List}
-use Rattle.edit_engine.specs.LiveRange.declared.places.Point.{Point}
-use Rattle.edit_engine.specs.EditModel.Confined.{is_inside, is_editable_for}
-use Rattle.edit_engine.specs.DeleteCore.Whitespace.{scan_blank, scan_char, scan_turn, on_step, into_child_at, out_on, out_to_end, scan_blanks, first_scan, trim_char, ends_softly, trim_turn, trim_step, into_child_before, out_front, out_to_start, trimmed, trims, trimmed_if, put_space, lay_char, lay_out, lay_text, lay_turn, lay_all, lays, laid_between, spaces_for, canonicalize_from, canonicalize, start_of_blanks, back_step, out_back, over_blank}
+use Rattle.edit_model.specs.LiveRange.declared.places.Point.{Point}
+use Rattle.edit_model.specs.Confined.{is_inside, is_editable_for}
+use Rattle.delete_core.specs.Whitespace.{scan_blank, scan_char, scan_turn, on_step, into_child_at, out_on, out_to_end, scan_blanks, first_scan, trim_char, ends_softly, trim_turn, trim_step, into_child_before, out_front, out_to_start, trimmed, trims, trimmed_if, put_space, lay_char, lay_out, lay_text, lay_turn, lay_all, lays, laid_between, spaces_for, canonicalize_from, canonicalize, start_of_blanks, back_step, out_back, over_blank}
 use Rattle.independence_laws.specs.Ignoring.{IgnoresMarks}
 use Rattle.independence_laws.proofs.IgnoringRuns.{ignoring_parts}
 

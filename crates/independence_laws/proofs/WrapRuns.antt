@@ -1,11 +1,11 @@
 -- Wrapping a list ignores marks and the cap.
 use Rattle.std.proofs.Common.{ℕ, List, Option}
-use Rattle.edit_engine.specs.DomModel.declared.attributes.Attribute.{Attribute}
-use Rattle.edit_engine.specs.EditModel.Confined.{is_editable_for}
-use Rattle.edit_engine.specs.WrapSplit.Target.{made_of, made_by, target, beside}
-use Rattle.edit_engine.specs.WrapSplit.declared.rule.Recipe.{Recipe}
-use Rattle.edit_engine.specs.WrapSplit.declared.rule.Criterion.{Criterion}
-use Rattle.edit_engine.specs.WrapSplit.Wrap.{append_break, prepend_break, separate_with_br, needs_br, append_all, parted_front, joins_front, prepend_all, moved_in, grow_at, insert_if_loose, drop_empty, drop_parent, move_children, merged, merge_next, filled_from, filled, into_target, wrap_ends, wrap_list, wrap_members, widened, extended_back, extended, with_break, break_next, wrap}
+use Rattle.edit_model.specs.DomModel.declared.attributes.Attribute.{Attribute}
+use Rattle.edit_model.specs.Confined.{is_editable_for}
+use Rattle.inline_value.specs.WrapSplit.Target.{made_of, made_by, target, beside}
+use Rattle.inline_value.specs.WrapSplit.declared.rule.Recipe.{Recipe}
+use Rattle.inline_value.specs.WrapSplit.declared.rule.Criterion.{Criterion}
+use Rattle.inline_value.specs.WrapSplit.Wrap.{append_break, prepend_break, separate_with_br, needs_br, append_all, parted_front, joins_front, prepend_all, moved_in, grow_at, insert_if_loose, drop_empty, drop_parent, move_children, merged, merge_next, filled_from, filled, into_target, wrap_ends, wrap_list, wrap_members, widened, extended_back, extended, with_break, break_next, wrap}
 use Rattle.independence_laws.proofs.MoveRuns.{ignores_make_break, ignores_move_each_last, ignores_move_all_first, ignores_insert_before}
 use Rattle.independence_laws.proofs.LookedAt.{last_visible_same, first_visible_same, all_hidden_same, extended_front_same, hidden_after_same, first_parent_same, members_same}
 use Rattle.independence_laws.proofs.IgnoringRuns.{ignores_look, ignoring_parts}

@@ -1,9 +1,9 @@
 -- What a command comes to in an editor doesn't depend on marks or on the history, and on the cap
 -- only where it is refused for that. What is answered to a question depends on none of them.
 use Rattle.std.specs.Prelude.{◌≡◌, ◌≤◌, ℕ, Bool, List}
-use Rattle.edit_engine.specs.HtmlNames.declared.query.QueryKind.{QueryKind}
-use Rattle.edit_engine.specs.LiveRange.declared.places.Pair.{Pair}
-use Rattle.edit_engine.specs.EditModel.State.{State}
+use Rattle.edit_model.specs.HtmlNames.declared.query.QueryKind.{QueryKind}
+use Rattle.edit_model.specs.LiveRange.declared.places.Pair.{Pair}
+use Rattle.edit_model.specs.State.{State}
 use Rattle.edit_engine.specs.Editing.{Editing}
 use Rattle.edit_engine.specs.Execution.{Outcome, Refused, Deep, Full, Acted, outcome_by, replaced_outcome, gated_outcome}
 use Rattle.edit_engine.specs.Queries.{reply_of}

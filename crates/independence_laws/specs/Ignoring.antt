@@ -1,8 +1,8 @@
 -- Runs that don't look at marks or the cap: the certificate of an algorithm that does the same
 -- whatever these are.
 use Rattle.std.specs.Prelude.{◌≡◌}
-use Rattle.edit_engine.specs.EditModel.State.{State}
-use Rattle.edit_engine.specs.EditModel.Run.{Run, final, value}
+use Rattle.edit_model.specs.State.{State}
+use Rattle.edit_model.specs.Run.{Run, final, value}
 use Rattle.independence_laws.specs.Unmarked.{unmarked}
 
 -- From a state without marks and cap the run ends in what its end from the whole state is without

@@ -1,8 +1,8 @@
 -- The laws of actions and of the commands' runs.
 use Rattle.std.specs.Prelude.{◌≡◌, ℕ, List}
-use Rattle.edit_engine.specs.HtmlNames.declared.commands.Command.{Command}
-use Rattle.edit_engine.specs.EditModel.Action.{Action, acted}
-use Rattle.edit_engine.specs.EditModel.State.{State}
+use Rattle.edit_model.specs.HtmlNames.declared.commands.Command.{Command}
+use Rattle.edit_model.specs.Action.{Action, acted}
+use Rattle.edit_model.specs.State.{State}
 use Rattle.edit_engine.specs.Commands.{action_of}
 use Rattle.independence_laws.specs.Unmarked.{unmarked}
 use Rattle.independence_laws.specs.Ignoring.{IgnoresMarks}

@@ -1,7 +1,7 @@
 -- A state without its marks and its cap.
 use Rattle.std.specs.Prelude.{[]}
-use Rattle.edit_engine.specs.LiveRange.LivePoints.{LivePoints}
-use Rattle.edit_engine.specs.EditModel.State.{State}
+use Rattle.edit_model.specs.LiveRange.LivePoints.{LivePoints}
+use Rattle.edit_model.specs.State.{State}
 
 -- the selection and the scratch pair alone, without marks and the names that marks were given
 abbrev pub unmarked_points : LivePoints → LivePoints

@@ -5,9 +5,9 @@ use Rattle.edit_model.specs.DomModel.declared.attributes.Attribute.{Attribute}
 use Rattle.edit_model.specs.DomModel.Contents.{is_break}
 use Rattle.edit_model.specs.DomModel.Forest.{first_of, next_of}
 use Rattle.edit_model.specs.LiveRange.declared.places.Point.{Point}
-use Rattle.text_insertion.specs.NodeStyles.Blocks.{is_block}
+use Rattle.inline_value.specs.NodeStyles.Blocks.{is_block}
 use Rattle.edit_model.specs.Run.{Run, ◌>>=◌, ◌>>◌, answer, done, look, given, remove}
-use Rattle.text_insertion.specs.DeleteCore.declared.deletion.TheConstants.Manner.{KEEP_WRAPPERS}
+use Rattle.delete_core.specs.declared.deletion.TheConstants.Manner.{KEEP_WRAPPERS}
 use Rattle.text_insertion.specs.Start.{erase}
 use Rattle.insert_objects.specs.Putting.{from_start_inside, collapse_after, put}
 

@@ -5,12 +5,12 @@ use Rattle.std.specs.Option.{option_map_or}
 use Rattle.edit_model.specs.DomModel.Contents.{is_element_at}
 use Rattle.edit_model.specs.DomModel.Forest.{parent_of}
 use Rattle.edit_model.specs.LiveRange.declared.places.Point.{Point}
-use Rattle.text_insertion.specs.NodeStyles.Allowed.{name_allowed_in}
-use Rattle.text_insertion.specs.NodeTests.SolidNeighbours.{is_extraneous_break, is_collapsed_break}
+use Rattle.inline_value.specs.NodeStyles.Allowed.{name_allowed_in}
+use Rattle.inline_value.specs.NodeTests.SolidNeighbours.{is_extraneous_break, is_collapsed_break}
 use Rattle.edit_model.specs.State.{State}
 use Rattle.edit_model.specs.Moves.{make_break}
 use Rattle.edit_model.specs.Run.{Run, ◌>>=◌, ◌>>◌, answer, done, look}
-use Rattle.text_insertion.specs.DeleteCore.declared.deletion.TheConstants.Manner.{KEEP_WRAPPERS}
+use Rattle.delete_core.specs.declared.deletion.TheConstants.Manner.{KEEP_WRAPPERS}
 use Rattle.text_insertion.specs.Start.{insert_at_start, erase}
 use Rattle.insert_objects.specs.Putting.{from_start_inside, collapse_after, put}
 

@@ -8,7 +8,7 @@ use Rattle.edit_model.specs.DomModel.Contents.{has_chars_at, length_of}
 use Rattle.edit_model.specs.LiveRange.declared.places.Point.{Point}
 use Rattle.edit_model.specs.Compositions.{split_words}
 use Rattle.edit_model.specs.Run.{Run, ◌>>=◌, ◌>>◌, answer, done, look, given, make_element, collapse}
-use Rattle.text_insertion.specs.DeleteCore.Places.{before_node, after_node}
+use Rattle.delete_core.specs.Places.{before_node, after_node}
 use Rattle.text_insertion.specs.Start.{active_start, start_inside, insert_at_start, cuts_text}
 
 -- goes on from the start of the active range, where its node is inside; elsewhere nothing is

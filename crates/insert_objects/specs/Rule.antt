@@ -7,11 +7,11 @@ use Rattle.edit_model.specs.LiveRange.declared.places.Pair.{Pair}
 use Rattle.edit_model.specs.LiveRange.declared.places.Point.{Point}
 use Rattle.edit_model.specs.State.{State}
 use Rattle.edit_model.specs.Run.{Run, ◌>>=◌, ◌>>◌, answer, done, look, given, select}
-use Rattle.text_insertion.specs.EditActions.ActiveRange.{start_of, end_of}
-use Rattle.text_insertion.specs.WrapSplit.Walks.{turn_bound}
-use Rattle.text_insertion.specs.InlineValue.Ancestors.{fix_ancestors}
-use Rattle.text_insertion.specs.DeleteCore.declared.deletion.TheConstants.Manner.{KEEP_BLOCKS}
-use Rattle.text_insertion.specs.DeleteCore.Places.{before_node, after_node, walk_points}
+use Rattle.inline_value.specs.EditActions.ActiveRange.{start_of, end_of}
+use Rattle.inline_value.specs.WrapSplit.Walks.{turn_bound}
+use Rattle.inline_value.specs.Ancestors.{fix_ancestors}
+use Rattle.delete_core.specs.declared.deletion.TheConstants.Manner.{KEEP_BLOCKS}
+use Rattle.delete_core.specs.Places.{before_node, after_node, walk_points}
 use Rattle.text_insertion.specs.Start.{erase}
 use Rattle.insert_objects.specs.Putting.{from_start_inside, collapse_after, put}
 

@@ -3,16 +3,16 @@
 ghost use Rattle.std.specs.Prelude.{◌≡◌, ◌<◌, IfOk};
 ghost use Rattle.edit_model.specs.DomModel.Forest.{count_of};
 ghost use Rattle.edit_model.specs.Gives.{Gives};
-ghost use Rattle.text_insertion.specs.EditDoc.Whole.{IsOpen};
-ghost use Rattle.text_insertion.specs.EditDoc.Held.{Keeps};
+ghost use Rattle.inline_value.specs.EditDoc.Whole.{IsOpen};
+ghost use Rattle.inline_value.specs.EditDoc.Held.{Keeps};
 ghost use Rattle.insert_objects.specs.Image as command;
 
 use crate::putting::{collapse_after, put};
+use delete_core::Manner;
 use edit_model::boundary::node_of;
+use inline_value::doc::{Attributes, Chars, Doc, EditFault, Name, Point};
+use inline_value::questions::{is_block, is_break};
 use std::alloc::{AllocError, Global};
-use text_insertion::deleting::Manner;
-use text_insertion::doc::{Attributes, Chars, Doc, EditFault, Name, Point};
-use text_insertion::questions::{is_block, is_break};
 use text_insertion::{erase, start_inside};
 
 // Step 3: the br that is all that a block has goes, where a point is the start of that block.

@@ -11,9 +11,6 @@ mod line_break;
 mod putting;
 mod rule;
 
-pub use edit_model::{arena, boundary, dom, dom_ranges, element_names, stepping};
 pub use image::insert_image;
 pub use line_break::insert_line_break;
 pub use rule::insert_horizontal_rule;
-pub use text_insertion as typing;
-pub use text_insertion::{deleting, formats};

@@ -2,19 +2,19 @@
 
 ghost use Rattle.std.specs.Prelude.{◌≡◌};
 ghost use Rattle.edit_model.specs.Gives.{Gives};
-ghost use Rattle.text_insertion.specs.EditDoc.Whole.{IsOpen};
-ghost use Rattle.text_insertion.specs.EditDoc.Held.{Holds, Keeps};
+ghost use Rattle.inline_value.specs.EditDoc.Whole.{IsOpen};
+ghost use Rattle.inline_value.specs.EditDoc.Held.{Holds, Keeps};
 ghost use Rattle.insert_objects.specs.LineBreak as command;
 
 use crate::putting::{collapse_after, put};
+use delete_core::Manner;
 use edit_model::boundary::node_of;
-use std::alloc::Global;
-use text_insertion::actions::make_break;
-use text_insertion::deleting::Manner;
-use text_insertion::doc::{Attributes, Doc, EditFault, NodeRef};
-use text_insertion::questions::{
+use inline_value::actions::make_break;
+use inline_value::doc::{Attributes, Doc, EditFault, NodeRef};
+use inline_value::questions::{
     is_collapsed_break, is_element, is_extraneous_break, name_allowed_in,
 };
+use std::alloc::Global;
 use text_insertion::{erase, insert_at_start, start_inside};
 
 // Step 2: whether a br may stand in an element, or beside what is none.

@@ -4,15 +4,15 @@
 ghost use Rattle.std.specs.Prelude.{◌≡◌, IfOk};
 ghost use Rattle.edit_model.specs.Gives.{Gives, GivesNode};
 ghost use Rattle.edit_model.specs.Run.{final};
-ghost use Rattle.text_insertion.specs.EditDoc.Whole.{IsOpen};
-ghost use Rattle.text_insertion.specs.EditDoc.Held.{Holds, Keeps};
+ghost use Rattle.inline_value.specs.EditDoc.Whole.{IsOpen};
+ghost use Rattle.inline_value.specs.EditDoc.Held.{Holds, Keeps};
 ghost use Rattle.insert_objects.specs.Putting as putting;
 
+use delete_core::{after_node, before_node, select};
 use edit_model::boundary::node_of;
+use inline_value::actions::ends_of;
+use inline_value::doc::{Attributes, Doc, EditFault, Name, NodeRef};
 use std::alloc::Global;
-use text_insertion::actions::ends_of;
-use text_insertion::deleting::{after_node, before_node, select};
-use text_insertion::doc::{Attributes, Doc, EditFault, Name, NodeRef};
 use text_insertion::{cuts_text, has_chars, insert_at_start};
 
 // Collapses the active range to just before a node.

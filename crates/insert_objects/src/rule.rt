@@ -4,18 +4,18 @@ ghost use Rattle.std.specs.Prelude.{◌≡◌, ◌<◌, IfSome};
 ghost use Rattle.edit_model.specs.DomModel.Forest.{is_label, count_of};
 ghost use Rattle.edit_model.specs.Gives.{Gives};
 ghost use Rattle.edit_model.specs.Run.{final};
-ghost use Rattle.text_insertion.specs.EditDoc.Whole.{IsOpen};
-ghost use Rattle.text_insertion.specs.EditDoc.Held.{Keeps};
+ghost use Rattle.inline_value.specs.EditDoc.Whole.{IsOpen};
+ghost use Rattle.inline_value.specs.EditDoc.Held.{Keeps};
 ghost use Rattle.insert_objects.specs.Rule as command;
 
 use crate::putting::{collapse_after, put};
+use delete_core::{Manner, after_node, before_node, select};
 use edit_model::boundary::node_of;
+use inline_value::actions::{ends_of, is_same};
+use inline_value::doc::{Attributes, Doc, EditFault, NodeRef, Point};
+use inline_value::fix_ancestors;
+use inline_value::wrap::turn_bound;
 use std::alloc::Global;
-use text_insertion::actions::{ends_of, is_same};
-use text_insertion::deleting::{Manner, after_node, before_node, select};
-use text_insertion::doc::{Attributes, Doc, EditFault, NodeRef, Point};
-use text_insertion::inline::fix_ancestors;
-use text_insertion::wrap::turn_bound;
 use text_insertion::{erase, start_inside};
 
 // Step 1: from the start of a node to before it.

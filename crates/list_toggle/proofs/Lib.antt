@@ -1,10 +1,3 @@
 pub mod Exits
 pub mod Turns
-pub use Rattle.list_indent.proofs.CssValue
-pub use Rattle.list_indent.proofs.EditActions
-pub use Rattle.list_indent.proofs.EditDoc
-pub use Rattle.list_indent.proofs.ForestChanges
-pub use Rattle.list_indent.proofs.InlineValue
-pub use Rattle.list_indent.proofs.NodeStyles
-pub use Rattle.list_indent.proofs.NodeTests
 pub mod Below

@@ -12,8 +12,8 @@ use Rattle.edit_model.specs.Run.{Run, ◌>>=◌, final, value, answer, given, wh
 use Rattle.edit_model.specs.State.{State}
 use Rattle.edit_model.specs.declared.settings.EditFault.{EditFault}
 use Rattle.edit_model.proofs.Steps.{final-bind, value-bind, final-answer, value-answer, final-look, value-look, fails-bind, final_while_turn, value_while_turn, final_while_stop, value_while_stop, while_end}
-use Rattle.list_indent.specs.WrapSplit.Walks.{turn_bound}
-use Rattle.list_indent.specs.WrapSplit.Wrap.{one_of}
+use Rattle.inline_value.specs.WrapSplit.Walks.{turn_bound}
+use Rattle.inline_value.specs.WrapSplit.Wrap.{one_of}
 use Rattle.block_commands.proofs.Counting.{drop_more}
 use Rattle.list_toggle.specs.Collecting.{Made, Collected, is_container, make_item, goes_on, collect_next, collect_items}
 

@@ -1,2 +1,2 @@
 -- Definitions of the crates below that tactics of this crate name.
-unfoldable pub use Rattle.list_indent.specs.InlineValue.Recording.{record_values}
+unfoldable pub use Rattle.inline_value.specs.Recording.{record_values}

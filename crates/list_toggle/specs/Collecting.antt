@@ -3,17 +3,17 @@
 use Rattle.std.specs.Prelude.{ℕ, Bool, true, false, not, ◌&&◌, ◌||◌, List, [], ◌++◌, drop, codes, Option, Some, None, if◌then◌else◌}
 use Rattle.edit_model.specs.DomModel.Contents.{has_name, is_break}
 use Rattle.edit_model.specs.DomModel.Forest.{first_in, last_in}
-use Rattle.list_indent.specs.NodeStyles.Blocks.{is_block}
-use Rattle.list_indent.specs.BlockExtend.Series.{is_next}
+use Rattle.inline_value.specs.NodeStyles.Blocks.{is_block}
+use Rattle.inline_value.specs.BlockExtend.Series.{is_next}
 use Rattle.block_commands.specs.Series.{take_series}
 use Rattle.edit_model.specs.State.{State}
 use Rattle.edit_model.specs.Compositions.{set_tag_name}
 use Rattle.edit_model.specs.Run.{Run, ◌>>=◌, answer, look, given, while_at_most}
-use Rattle.list_indent.specs.WrapSplit.declared.rule.Criterion.TheVariants.{Never}
-use Rattle.list_indent.specs.WrapSplit.declared.rule.Recipe.TheVariants.{Make}
-use Rattle.list_indent.specs.WrapSplit.Walks.{turn_bound}
-use Rattle.list_indent.specs.WrapSplit.Wrap.{wrap, one_of}
-use Rattle.list_indent.specs.InlineValue.Wrappers.{bare}
+use Rattle.inline_value.specs.WrapSplit.declared.rule.Criterion.TheVariants.{Never}
+use Rattle.inline_value.specs.WrapSplit.declared.rule.Recipe.TheVariants.{Make}
+use Rattle.inline_value.specs.WrapSplit.Walks.{turn_bound}
+use Rattle.inline_value.specs.WrapSplit.Wrap.{wrap, one_of}
+use Rattle.inline_value.specs.Wrappers.{bare}
 use Rattle.list_indent.specs.Sublists.{is_list, is_item}
 
 -- what a turn has made of first members: an item, unless nothing was made, and the members that are

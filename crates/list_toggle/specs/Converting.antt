@@ -7,14 +7,14 @@ use Rattle.edit_model.specs.State.{State}
 use Rattle.edit_model.specs.Confined.{is_editable_for}
 use Rattle.edit_model.specs.Compositions.{set_tag_name}
 use Rattle.edit_model.specs.Run.{Run, ◌>>=◌, ◌>>◌, answer, done, look, given, for_each}
-use Rattle.list_indent.specs.WrapSplit.declared.rule.Criterion.{Criterion}
-use Rattle.list_indent.specs.WrapSplit.declared.rule.Criterion.TheVariants.{Named}
-use Rattle.list_indent.specs.WrapSplit.declared.rule.Recipe.{Recipe}
-use Rattle.list_indent.specs.WrapSplit.declared.rule.Recipe.TheVariants.{Nothing}
-use Rattle.list_indent.specs.WrapSplit.Split.{split_parent}
-use Rattle.list_indent.specs.WrapSplit.Wrap.{wrap}
-use Rattle.list_indent.specs.InlineValue.Recording.{record_values, restore_values}
-use Rattle.list_indent.specs.EditQuery.ListStates.{list_name, is_list_of}
+use Rattle.inline_value.specs.WrapSplit.declared.rule.Criterion.{Criterion}
+use Rattle.inline_value.specs.WrapSplit.declared.rule.Criterion.TheVariants.{Named}
+use Rattle.inline_value.specs.WrapSplit.declared.rule.Recipe.{Recipe}
+use Rattle.inline_value.specs.WrapSplit.declared.rule.Recipe.TheVariants.{Nothing}
+use Rattle.inline_value.specs.WrapSplit.Split.{split_parent}
+use Rattle.inline_value.specs.WrapSplit.Wrap.{wrap}
+use Rattle.inline_value.specs.Recording.{record_values, restore_values}
+use Rattle.inline_value.specs.EditQuery.ListStates.{list_name, is_list_of}
 use Rattle.list_toggle.specs.Ranges.{RangeEnds, extended_range, keep_range, kept_range, other_lists}
 
 -- the criterion: an element of the kind

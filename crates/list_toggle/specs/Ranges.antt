@@ -11,9 +11,9 @@ use Rattle.block_commands.specs.Gathered.{contained_in}
 use Rattle.edit_model.specs.State.{State}
 use Rattle.edit_model.specs.Confined.{is_editable_for}
 use Rattle.edit_model.specs.Run.{Run, done, given, set_scratch}
-use Rattle.list_indent.specs.EditActions.ActiveRange.{start_of, end_of}
-use Rattle.list_indent.specs.EditQuery.Gathered.{extended}
-use Rattle.list_indent.specs.EditQuery.ListStates.{is_list_of, members_in}
+use Rattle.inline_value.specs.EditActions.ActiveRange.{start_of, end_of}
+use Rattle.inline_value.specs.EditQuery.Gathered.{extended}
+use Rattle.inline_value.specs.EditQuery.ListStates.{is_list_of, members_in}
 use Rattle.list_indent.specs.Sublists.{is_list, is_in_list}
 
 -- ---- the range: its ends, or nothing without a selection

@@ -4,15 +4,15 @@
 use Rattle.std.specs.Prelude.{ℕ, Bool, true, false, not, ◌&&◌, ◌||◌, List, if◌then◌else◌}
 use Rattle.std.specs.List.{list_all}
 use Rattle.edit_model.specs.DomModel.Forest.{first_in}
-use Rattle.list_indent.specs.BlockExtend.Series.{is_next}
-use Rattle.list_indent.specs.InlineValue.Wrappers.{bare}
+use Rattle.inline_value.specs.BlockExtend.Series.{is_next}
+use Rattle.inline_value.specs.Wrappers.{bare}
 use Rattle.block_commands.specs.Series.{in_turns}
 use Rattle.edit_model.specs.State.{State}
 use Rattle.edit_model.specs.Run.{Run, ◌>>=◌, ◌>>◌, answer, done, look, given}
-use Rattle.list_indent.specs.WrapSplit.declared.rule.Recipe.{Recipe}
-use Rattle.list_indent.specs.WrapSplit.declared.rule.Recipe.TheVariants.{Make}
-use Rattle.list_indent.specs.WrapSplit.Wrap.{wrap}
-use Rattle.list_indent.specs.EditQuery.ListStates.{list_name, is_list_of, is_child_of, is_list_state, list_state}
+use Rattle.inline_value.specs.WrapSplit.declared.rule.Recipe.{Recipe}
+use Rattle.inline_value.specs.WrapSplit.declared.rule.Recipe.TheVariants.{Make}
+use Rattle.inline_value.specs.WrapSplit.Wrap.{wrap}
+use Rattle.inline_value.specs.EditQuery.ListStates.{list_name, is_list_of, is_child_of, is_list_state, list_state}
 use Rattle.list_indent.specs.Commands.{normalize_range, split_items}
 use Rattle.list_indent.specs.Indenting.{fixed}
 use Rattle.list_indent.specs.Outdenting.{outdent_node}

@@ -2,16 +2,16 @@
 
 ghost use Rattle.std.specs.Prelude.{◌≡◌, ◌≤◌, ◌<◌, ◌++◌, IfOk, OnOk, length, drop};
 ghost use Rattle.edit_model.specs.Gives.{GivesAs, label_of, labels_of};
-ghost use Rattle.list_indent.specs.EditDoc.Held.{Holds, IfHeld, EachHeld, Keeps};
-ghost use Rattle.list_indent.specs.EditDoc.Whole.{IsOpen};
-ghost use Rattle.list_indent.specs.WrapSplit.Wrap.{one_of};
+ghost use Rattle.inline_value.specs.EditDoc.Held.{Holds, IfHeld, EachHeld, Keeps};
+ghost use Rattle.inline_value.specs.EditDoc.Whole.{IsOpen};
+ghost use Rattle.inline_value.specs.WrapSplit.Wrap.{one_of};
 ghost use Rattle.list_toggle.specs.Collecting as collect;
 
-use list_indent::doc::{Doc, EditFault, Name, NodeList, NodeRef};
-use list_indent::extend::{Link, count_series, is_next};
-use list_indent::inline::bare;
-use list_indent::questions::{has_name, is_block, is_break};
-use list_indent::wrap::{CopyMade, NoSibling, WrapRule, turn_bound, wrap};
+use inline_value::bare;
+use inline_value::doc::{Doc, EditFault, Name, NodeList, NodeRef};
+use inline_value::extend::{Link, count_series, is_next};
+use inline_value::questions::{has_name, is_block, is_break};
+use inline_value::wrap::{CopyMade, NoSibling, WrapRule, turn_bound, wrap};
 use list_indent::{is_item, is_list};
 use std::alloc::{AllocError, Global};
 

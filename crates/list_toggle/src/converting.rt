@@ -3,17 +3,17 @@
 
 ghost use Rattle.std.specs.Prelude.{◌≡◌, IfOk, IfSome};
 ghost use Rattle.edit_model.specs.Gives.{Gives, label_of, labels_of};
-ghost use Rattle.list_indent.specs.EditDoc.Held.{Holds, IfHeld, EachHeld, Keeps};
-ghost use Rattle.list_indent.specs.EditDoc.Whole.{IsOpen};
+ghost use Rattle.inline_value.specs.EditDoc.Held.{Holds, IfHeld, EachHeld, Keeps};
+ghost use Rattle.inline_value.specs.EditDoc.Whole.{IsOpen};
 ghost use Rattle.list_toggle.specs.Converting as convert;
 ghost use Rattle.list_toggle.specs.Ranges.{AreThere};
 
 use crate::ranges::{RangeEnds, extended_range, keep_range, kept_range, other_lists};
-use list_indent::doc::{Doc, EditFault, Name, NodeList, NodeRef};
-use list_indent::inline::{record_values, restore_values};
-use list_indent::query::{is_list_of, list_name};
-use list_indent::questions::is_element;
-use list_indent::wrap::{Makes, Meets, NamedSibling, NothingMade, WrapRule, split_parent, wrap};
+use inline_value::doc::{Doc, EditFault, Name, NodeList, NodeRef};
+use inline_value::query::{is_list_of, list_name};
+use inline_value::questions::is_element;
+use inline_value::wrap::{Makes, Meets, NamedSibling, NothingMade, WrapRule, split_parent, wrap};
+use inline_value::{record_values, restore_values};
 use std::alloc::Global;
 
 // Whether a node is there, and is an editable list of the kind.

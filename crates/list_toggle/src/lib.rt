@@ -11,11 +11,5 @@ mod converting;
 mod ranges;
 mod toggling;
 
-pub use block_commands as blocks;
-pub use list_indent as indents;
-pub use list_indent::doc::{Doc, EditFault};
-pub use list_indent::{
-    actions, css, doc, document, extend, inline, node_place, properties, query, questions, values,
-    wrap,
-};
+pub use inline_value::doc::{Doc, EditFault};
 pub use toggling::{ListKind, toggle_lists};

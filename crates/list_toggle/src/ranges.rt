@@ -4,15 +4,15 @@
 ghost use Rattle.std.specs.Prelude.{◌≡◌, IfOk, IfSome};
 ghost use Rattle.edit_model.specs.Gives.{labels_of};
 ghost use Rattle.edit_model.specs.Run.{final};
-ghost use Rattle.list_indent.specs.EditDoc.Held.{EachHeld, Keeps};
-ghost use Rattle.list_indent.specs.EditDoc.Whole.{IsOpen};
+ghost use Rattle.inline_value.specs.EditDoc.Held.{EachHeld, Keeps};
+ghost use Rattle.inline_value.specs.EditDoc.Whole.{IsOpen};
 ghost use Rattle.list_toggle.specs.Ranges.{AreThere, extended_range, keep_range, kept_range, other_lists, range_members, range_lines};
 
 use block_commands::{chosen_of, contained_in};
-use list_indent::actions::ends_of;
-use list_indent::doc::{Doc, NodeList, NodeRef, Pair, Point};
-use list_indent::extend::Choice;
-use list_indent::query::{extended, is_list_of, list_members};
+use inline_value::actions::ends_of;
+use inline_value::doc::{Doc, NodeList, NodeRef, Pair, Point};
+use inline_value::extend::Choice;
+use inline_value::query::{extended, is_list_of, list_members};
 use list_indent::{is_in_list, is_list};
 use std::alloc::{AllocError, Global};
 

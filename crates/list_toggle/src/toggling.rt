@@ -3,8 +3,8 @@
 ghost use Rattle.std.specs.Prelude.{◌≡◌};
 ghost use Rattle.std.specs.List.{list_all};
 ghost use Rattle.edit_model.specs.Gives.{Gives, labels_of};
-ghost use Rattle.list_indent.specs.EditDoc.Held.{EachHeld, Keeps};
-ghost use Rattle.list_indent.specs.EditDoc.Whole.{IsOpen};
+ghost use Rattle.inline_value.specs.EditDoc.Held.{EachHeld, Keeps};
+ghost use Rattle.inline_value.specs.EditDoc.Whole.{IsOpen};
 ghost use Rattle.list_indent.specs.Sublists as sublists;
 ghost use Rattle.list_toggle.specs.Toggle as toggle;
 
@@ -12,11 +12,11 @@ use crate::collecting::collect_items;
 use crate::converting::{convert_lists, move_items};
 use crate::ranges::{extended_range, range_lines, range_members};
 use block_commands::{Turn, in_turns};
-use list_indent::doc::{Doc, EditFault, Name, NodeList, NodeRef};
-use list_indent::extend::{Link, count_series, is_next};
-use list_indent::inline::bare;
-use list_indent::query::{is_child_of, is_list_of, list_name, list_state};
-use list_indent::wrap::{CopyMade, NamedSibling, WrapRule, wrap};
+use inline_value::bare;
+use inline_value::doc::{Doc, EditFault, Name, NodeList, NodeRef};
+use inline_value::extend::{Link, count_series, is_next};
+use inline_value::query::{is_child_of, is_list_of, list_name, list_state};
+use inline_value::wrap::{CopyMade, NamedSibling, WrapRule, wrap};
 use list_indent::{fix, is_list, normalize_range, outdent_node, split_items};
 use std::alloc::Global;
 

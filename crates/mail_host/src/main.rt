@@ -6,14 +6,14 @@
 #![tactic(auto)]
 
 ghost use Rattle.std.specs.Prelude.{IfSome};
-ghost use Rattle.edit_engine.specs.EditDoc.Whole.{HasNoLoose};
+ghost use Rattle.inline_value.specs.EditDoc.Whole.{HasNoLoose};
 
-use edit_engine::element_names::QueryKind;
-use edit_engine::script::{Path, Place};
 use edit_engine::{Answer, Editor, ExecFault, Reply, Turn, ViewKind};
 use edit_io::{WriteSink, write_all};
-use page_read::arena::Arena;
+use edit_model::arena::Arena;
+use edit_model::element_names::QueryKind;
 use page_read::read_page;
+use script_read::{Path, Place};
 use std::alloc::{AllocError, Global};
 use std::process::ExitCode;
 

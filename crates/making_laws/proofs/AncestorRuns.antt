@@ -1,11 +1,11 @@
 -- Fixing disallowed ancestors is tame.
 use Rattle.std.proofs.Common.{◌≡◌, ℕ, Bool, true, false, [], ◌∷◌, refl}
 use Rattle.std.specs.Prelude.{codes}
-use Rattle.edit_commands.specs.EditModel.Run.{done}
-use Rattle.edit_commands.specs.WrapSplit.declared.rule.Criterion.TheVariants.{Named}
-use Rattle.edit_commands.specs.WrapSplit.declared.rule.Recipe.TheVariants.{Make}
-use Rattle.edit_commands.specs.EditQuery.Rows.{container_name}
-use Rattle.edit_commands.specs.InlineValue.Ancestors.{lifted, lift, description_list, wrap_description, split_out, part_child, part_children, lift_renamed, rename, replace_misplaced, fix_ancestors}
+use Rattle.edit_model.specs.Run.{done}
+use Rattle.inline_value.specs.WrapSplit.declared.rule.Criterion.TheVariants.{Named}
+use Rattle.inline_value.specs.WrapSplit.declared.rule.Recipe.TheVariants.{Make}
+use Rattle.inline_value.specs.EditQuery.Rows.{container_name}
+use Rattle.inline_value.specs.Ancestors.{lifted, lift, description_list, wrap_description, split_out, part_child, part_children, lift_renamed, rename, replace_misplaced, fix_ancestors}
 use Rattle.making_laws.specs.Names.{made_names, is_made_name}
 use Rattle.making_laws.specs.Tame.{Tame}
 use Rattle.making_laws.proofs.TameRuns.{made_div, made_p, tame_answer, tame_bind, tame_parts}

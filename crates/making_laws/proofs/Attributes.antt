@@ -4,14 +4,14 @@ use Rattle.std.specs.Prelude.{Contains, bytes_eq, unwrap_or}
 use Rattle.std.specs.Option.{option_and_then}
 use Rattle.std.proofs.lemmas.Bool.{cases_Bool}
 use Rattle.std.proofs.lemmas.Slice.Eq.{bytes_eq-Decides}
-use Rattle.edit_commands.specs.DomModel.declared.attributes.Attribute.{Attribute}
-use Rattle.edit_commands.specs.DomModel.declared.Content.{Content}
-use Rattle.edit_commands.specs.DomModel.declared.Content.TheVariants.{Document, Element, Words, Remark}
-use Rattle.edit_commands.specs.DomModel.AttributeList.{value_of, set_in, unset_in}
-use Rattle.edit_commands.specs.DomModel.Contents.{attributes_in}
-use Rattle.edit_commands.specs.DomModel.Forest.{Forest, content_of}
-use Rattle.edit_commands.specs.EditModel.Compositions.{attribute_list_of}
-use Rattle.edit_commands.specs.ForestChanges.Named.{Each}
+use Rattle.edit_model.specs.DomModel.declared.attributes.Attribute.{Attribute}
+use Rattle.edit_model.specs.DomModel.declared.Content.{Content}
+use Rattle.edit_model.specs.DomModel.declared.Content.TheVariants.{Document, Element, Words, Remark}
+use Rattle.edit_model.specs.DomModel.AttributeList.{value_of, set_in, unset_in}
+use Rattle.edit_model.specs.DomModel.Contents.{attributes_in}
+use Rattle.edit_model.specs.DomModel.Forest.{Forest, content_of}
+use Rattle.edit_model.specs.Compositions.{attribute_list_of}
+use Rattle.inline_value.specs.ForestChanges.Named.{Each}
 use Rattle.making_laws.specs.Names.{is_set_name}
 use Rattle.making_laws.specs.Known.{Source, IsKnownAttribute, KnowsAll}
 

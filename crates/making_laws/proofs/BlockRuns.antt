@@ -3,15 +3,15 @@ use Rattle.std.proofs.Common.{◌≡◌, ℕ, Bool, true, false, if◌then◌els
 use Rattle.std.specs.Prelude.{bytes_eq}
 use Rattle.std.proofs.lemmas.Bool.{or_cases}
 use Rattle.std.proofs.lemmas.Slice.Eq.{bytes_eq-Decides}
-use Rattle.edit_commands.specs.HtmlNames.ElementNames.{formattable_block_names, is_one_of}
-use Rattle.edit_commands.specs.EditModel.Run.{answer}
-use Rattle.edit_commands.specs.WrapSplit.declared.rule.Criterion.TheVariants.{Aligned}
-use Rattle.edit_commands.specs.WrapSplit.declared.rule.Recipe.TheVariants.{Make}
-use Rattle.edit_commands.specs.WrapSplit.Wrap.{wrap}
-use Rattle.edit_commands.specs.InlineValue.Wrappers.{bare}
-use Rattle.edit_commands.specs.BlockCommands.FormatBlock.{block_name, leave_blocks, split_blocks, same_block, make_block, format_container, format_line, format_next, format_range, format_block}
-use Rattle.edit_commands.specs.BlockCommands.Justify.{drop_plain, clear_alignment, clear_alignments, aligned_div, align_next, justify}
-use Rattle.edit_commands.specs.ForestChanges.Named.{Each}
+use Rattle.edit_model.specs.HtmlNames.ElementNames.{formattable_block_names, is_one_of}
+use Rattle.edit_model.specs.Run.{answer}
+use Rattle.inline_value.specs.WrapSplit.declared.rule.Criterion.TheVariants.{Aligned}
+use Rattle.inline_value.specs.WrapSplit.declared.rule.Recipe.TheVariants.{Make}
+use Rattle.inline_value.specs.WrapSplit.Wrap.{wrap}
+use Rattle.inline_value.specs.Wrappers.{bare}
+use Rattle.block_commands.specs.FormatBlock.{block_name, leave_blocks, split_blocks, same_block, make_block, format_container, format_line, format_next, format_range, format_block}
+use Rattle.block_commands.specs.Justify.{drop_plain, clear_alignment, clear_alignments, aligned_div, align_next, justify}
+use Rattle.inline_value.specs.ForestChanges.Named.{Each}
 use Rattle.making_laws.specs.Names.{made_names, is_made_name}
 use Rattle.making_laws.specs.Tame.{Tame}
 use Rattle.making_laws.proofs.TameRuns.{made_div, set_style_name, tame_answer, tame_bind, tame_if, tame_parts}
@@ -20,8 +20,8 @@ use Rattle.making_laws.proofs.Splits.{tame_keeping_children, tame_split_around}
 use Rattle.making_laws.proofs.PushingRuns.{tame_record_values, tame_restore_values}
 use Rattle.making_laws.proofs.StylingRuns.{tame_unset_style}
 use Rattle.making_laws.proofs.Wraps.{tame_wrap}
-use Rattle.edit_commands.specs.HtmlNames.ElementNames as names
-use Rattle.edit_commands.specs.BlockCommands.FormatBlock as blocks
+use Rattle.edit_model.specs.HtmlNames.ElementNames as names
+use Rattle.block_commands.specs.FormatBlock as blocks
 
 -- ---- formatBlock
 

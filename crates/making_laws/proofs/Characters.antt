@@ -2,14 +2,14 @@
 use Rattle.std.proofs.Common.{◌≡◌, ℕ, zero, suc, ◌+◌, Bool, true, false, ◌&&◌, ◌||◌, not, List, [], ◌∷◌, ◌++◌, take, drop, slice_get, Option, Some, None, IfSome, refl, inl}
 use Rattle.std.specs.Prelude.{unwrap_or}
 use Rattle.std.specs.Option.{option_and_then}
-use Rattle.edit_commands.specs.DomModel.declared.Content.{Content}
-use Rattle.edit_commands.specs.DomModel.declared.Content.TheVariants.{Document, Element, Words, Remark}
-use Rattle.edit_commands.specs.DomModel.Contents.{chars_in}
-use Rattle.edit_commands.specs.DomModel.Forest.{Forest, content_of}
-use Rattle.edit_commands.specs.EditModel.Compositions.{characters_of}
-use Rattle.edit_commands.specs.EditModel.Confined.{spliced}
-use Rattle.edit_commands.specs.ForestChanges.Named.{Each}
-use Rattle.edit_commands.specs.DeleteCore.Spaces.{is_blank, hard_if, canonical_spaces}
+use Rattle.edit_model.specs.DomModel.declared.Content.{Content}
+use Rattle.edit_model.specs.DomModel.declared.Content.TheVariants.{Document, Element, Words, Remark}
+use Rattle.edit_model.specs.DomModel.Contents.{chars_in}
+use Rattle.edit_model.specs.DomModel.Forest.{Forest, content_of}
+use Rattle.edit_model.specs.Compositions.{characters_of}
+use Rattle.edit_model.specs.Confined.{spliced}
+use Rattle.inline_value.specs.ForestChanges.Named.{Each}
+use Rattle.delete_core.specs.Spaces.{is_blank, hard_if, canonical_spaces}
 use Rattle.making_laws.specs.Known.{Source, IsKnownCharacter, KnowsAll}
 
 -- ---- parts of a list

@@ -1,13 +1,13 @@
 -- Clearing the value of an element is tame.
 use Rattle.std.proofs.Common.{ℕ, List}
 use Rattle.std.specs.Prelude.{codes}
-use Rattle.edit_commands.specs.CssValue.declared.decoration.DecorationLine.{DecorationLine}
-use Rattle.edit_commands.specs.HtmlNames.declared.commands.Command.{Command}
-use Rattle.edit_commands.specs.CommandValue.Subjects.{subject}
-use Rattle.edit_commands.specs.CommandValue.declared.subject.Subject.{Subject}
-use Rattle.edit_commands.specs.CommandValue.declared.subject.Subject.TheVariants.{Link, Background, Script, Line, Weight, Slant, Family, Size, Foreground, Nothing}
-use Rattle.edit_commands.specs.EditModel.Run.{done, given}
-use Rattle.edit_commands.specs.InlineValue.Clearing.{write_words, drop_line, drop_word, drop_property, hint_of, drop_attribute, drop_hint, drop_link, span_for, stripped, unwrapped, clear_value}
+use Rattle.inline_value.specs.CssValue.declared.decoration.DecorationLine.{DecorationLine}
+use Rattle.edit_model.specs.HtmlNames.declared.commands.Command.{Command}
+use Rattle.inline_value.specs.CommandValue.Subjects.{subject}
+use Rattle.inline_value.specs.CommandValue.declared.subject.Subject.{Subject}
+use Rattle.inline_value.specs.CommandValue.declared.subject.Subject.TheVariants.{Link, Background, Script, Line, Weight, Slant, Family, Size, Foreground, Nothing}
+use Rattle.edit_model.specs.Run.{done, given}
+use Rattle.inline_value.specs.Clearing.{write_words, drop_line, drop_word, drop_property, hint_of, drop_attribute, drop_hint, drop_link, span_for, stripped, unwrapped, clear_value}
 use Rattle.making_laws.specs.Tame.{Tame}
 use Rattle.making_laws.proofs.TameRuns.{made_span, tame_answer, tame_parts, tame_unwrap}
 use Rattle.making_laws.proofs.StylingRuns.{tame_set_style, tame_unset_style}

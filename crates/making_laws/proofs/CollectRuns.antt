@@ -1,11 +1,11 @@
 -- Collecting items is tame.
 use Rattle.std.proofs.Common.{ℕ, List}
 use Rattle.std.specs.Prelude.{codes}
-use Rattle.edit_commands.specs.WrapSplit.declared.rule.Criterion.TheVariants.{Never}
-use Rattle.edit_commands.specs.WrapSplit.declared.rule.Recipe.TheVariants.{Make}
-use Rattle.edit_commands.specs.WrapSplit.Wrap.{wrap}
-use Rattle.edit_commands.specs.InlineValue.Wrappers.{bare}
-use Rattle.edit_commands.specs.ListToggle.Collecting.{Collected, wrap_line, make_item, collect_next, collect_items}
+use Rattle.inline_value.specs.WrapSplit.declared.rule.Criterion.TheVariants.{Never}
+use Rattle.inline_value.specs.WrapSplit.declared.rule.Recipe.TheVariants.{Make}
+use Rattle.inline_value.specs.WrapSplit.Wrap.{wrap}
+use Rattle.inline_value.specs.Wrappers.{bare}
+use Rattle.list_toggle.specs.Collecting.{Collected, wrap_line, make_item, collect_next, collect_items}
 use Rattle.making_laws.specs.Tame.{Tame}
 use Rattle.making_laws.proofs.TameRuns.{made_li, tame_parts}
 use Rattle.making_laws.proofs.Wraps.{tame_wrap}

@@ -1,12 +1,12 @@
 -- Deleting is tame.
 use Rattle.std.proofs.Common.{ℕ}
-use Rattle.edit_commands.specs.LiveRange.declared.places.Point.{Point}
-use Rattle.edit_commands.specs.InlineValue.Ancestors.{split_out}
-use Rattle.edit_commands.specs.TextDeletion.Approach.{drop_child, back_turn, go_back, climb_turn, climb}
-use Rattle.edit_commands.specs.TextInsertion.Entries.{rename_stray}
-use Rattle.edit_commands.specs.TextInsertion.Start.{erase}
-use Rattle.edit_commands.specs.TextDeletion.Entries.{lift_entry, outdent_line, part_entry, part_entries}
-use Rattle.edit_commands.specs.TextDeletion.Delete.{erase_single, erase_line, join, delete_across, delete_from, delete_at_caret, delete}
+use Rattle.edit_model.specs.LiveRange.declared.places.Point.{Point}
+use Rattle.inline_value.specs.Ancestors.{split_out}
+use Rattle.text_deletion.specs.Approach.{drop_child, back_turn, go_back, climb_turn, climb}
+use Rattle.text_insertion.specs.Entries.{rename_stray}
+use Rattle.text_insertion.specs.Start.{erase}
+use Rattle.text_deletion.specs.Entries.{lift_entry, outdent_line, part_entry, part_entries}
+use Rattle.text_deletion.specs.Delete.{erase_single, erase_line, join, delete_across, delete_from, delete_at_caret, delete}
 use Rattle.making_laws.specs.Tame.{Tame}
 use Rattle.making_laws.proofs.AncestorRuns.{made_container, tame_fix_ancestors}
 use Rattle.making_laws.proofs.Wraps.{tame_append_break}

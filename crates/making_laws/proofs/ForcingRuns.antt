@@ -1,12 +1,12 @@
 -- Forcing a value is tame.
 use Rattle.std.proofs.Common.{ℕ, zero, suc, Bool, List, Option}
 use Rattle.std.specs.Prelude.{codes}
-use Rattle.edit_commands.specs.HtmlNames.declared.commands.Command.{Command}
-use Rattle.edit_commands.specs.CommandValue.Subjects.{subject}
-use Rattle.edit_commands.specs.CommandValue.declared.subject.Subject.{Subject}
-use Rattle.edit_commands.specs.CommandValue.declared.subject.Subject.TheVariants.{Link, Background, Script, Line, Weight, Slant, Family, Size, Foreground, Nothing}
-use Rattle.edit_commands.specs.EditModel.Run.{Run, done}
-use Rattle.edit_commands.specs.InlineValue.Forcing.{reorder_prev, reorder_next, joined, rename_link, rename_links, clear_way, make_wrapper, style_by, style_wrapper, taken_back, confirm_value, put_in, wrapped, unless_alike, force_node, force_self, heirs, force_child, force_heirs, forced, force_value, force}
+use Rattle.edit_model.specs.HtmlNames.declared.commands.Command.{Command}
+use Rattle.inline_value.specs.CommandValue.Subjects.{subject}
+use Rattle.inline_value.specs.CommandValue.declared.subject.Subject.{Subject}
+use Rattle.inline_value.specs.CommandValue.declared.subject.Subject.TheVariants.{Link, Background, Script, Line, Weight, Slant, Family, Size, Foreground, Nothing}
+use Rattle.edit_model.specs.Run.{Run, done}
+use Rattle.inline_value.specs.Forcing.{reorder_prev, reorder_next, joined, rename_link, rename_links, clear_way, make_wrapper, style_by, style_wrapper, taken_back, confirm_value, put_in, wrapped, unless_alike, force_node, force_self, heirs, force_child, force_heirs, forced, force_value, force}
 use Rattle.making_laws.specs.Tame.{Tame}
 use Rattle.making_laws.proofs.WrapperNames.{listed_wrapper}
 use Rattle.making_laws.proofs.TameRuns.{made_span, tame_answer, tame_bind, tame_each, tame_if, tame_look, tame_make, tame_moves, tame_parts}

@@ -1,6 +1,6 @@
 -- Removing the format is tame.
 use Rattle.std.proofs.Common.{ℕ}
-use Rattle.edit_commands.specs.InlineCommands.RemovingFormat.{unwrap_candidates, part_from_format, part_nodes, clear_command, clear_commands, remove_format}
+use Rattle.inline_commands.specs.RemovingFormat.{unwrap_candidates, part_from_format, part_nodes, clear_command, clear_commands, remove_format}
 use Rattle.making_laws.specs.Tame.{Tame}
 use Rattle.making_laws.proofs.TameRuns.{tame_parts, tame_unwrap}
 use Rattle.making_laws.proofs.SelectionRuns.{tame_set_value, tame_split_ends}

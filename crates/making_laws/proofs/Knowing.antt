@@ -4,41 +4,41 @@ use Rattle.std.specs.Prelude.{nat_lt, codes, unwrap_or}
 use Rattle.std.specs.Option.{option_map, option_and_then}
 use Rattle.std.proofs.lemmas.Bool.{and_parts, cases_Bool}
 use Rattle.std.proofs.lemmas.Bool.Decides.{eqb_tells}
-use Rattle.edit_commands.specs.DomModel.declared.Content.{Content}
-use Rattle.edit_commands.specs.DomModel.declared.Content.TheVariants.{Document, Element, Words, Remark}
-use Rattle.edit_commands.specs.DomModel.declared.attributes.Attribute.{Attribute}
-use Rattle.edit_commands.specs.DomModel.AttributeList.{are_distinct}
-use Rattle.edit_commands.specs.DomModel.Contents.{name_in, is_parent_at}
-use Rattle.edit_commands.specs.DomModel.Editing.{editing_host}
-use Rattle.edit_commands.specs.DomModel.Forest.{Forest, IsWithin, count_of, parent_of, content_of, link, unlink, with_leaf}
-use Rattle.edit_commands.specs.DomModel.Revised.{revised}
-use Rattle.edit_commands.proofs.DomModel.Kept.{content_of-link, content_of-unlink, content_of-with_leaf_other, content_of-with_leaf_new}
-use Rattle.edit_commands.proofs.DomModel.Links.{parent_count}
-use Rattle.edit_commands.proofs.DomModel.Totals.{total-without}
-use Rattle.edit_commands.proofs.DomModel.Revising.{content_of-revised}
-use Rattle.edit_commands.specs.LiveRange.declared.places.Point.{Point}
-use Rattle.edit_commands.specs.PointOrder.PointOrder.{is_in_document}
-use Rattle.edit_commands.specs.EditModel.State.{State}
-use Rattle.edit_commands.specs.EditModel.Confined.{is_editable_for}
-use Rattle.edit_commands.specs.EditModel.Compositions.{attribute_list_of}
-use Rattle.edit_commands.specs.EditModel.Edit.{Edit, Insert, Remove, Move, Replace, Set, Unset, is_made_edit, trees_after, changed, with_change, with_replaced, with_set, with_unset}
-use Rattle.edit_commands.specs.EditModel.Action as action
-use Rattle.edit_commands.specs.EditModel.Tail.{copy_of, document_size}
-use Rattle.edit_commands.specs.EditModel.Action.{Action, made, applied, tail_of, may_extract, extracted, words_content, extended, acted, element_content}
-use Rattle.edit_commands.specs.EditModel.Run.{Reaches, here, onward}
-use Rattle.edit_commands.specs.EditModel.Valid.{IsValid}
-use Rattle.edit_commands.proofs.EditModel.Tests.{inserts, removes, goes, parent_there}
-use Rattle.edit_commands.proofs.EditModel.Forests.{forest-unlink, can_go, fresh}
-use Rattle.edit_commands.proofs.EditModel.ValidRuns.{valid_along}
-use Rattle.edit_commands.proofs.EditModel.OutsideRuns.{trees-extended, trees-selected, trees-grown, trees-sent, trees-scratched}
-use Rattle.edit_commands.proofs.EditModel.IslandRuns.{trees_made, trees_left}
-use Rattle.edit_commands.proofs.EditModel.TailPossible.{tail_possible}
-use Rattle.edit_commands.proofs.EditModel.TailPlan.{IsCopy, is_copy, tail_fits}
-use Rattle.edit_commands.proofs.EditModel.TailSteps.{extract_tests, either_extracted}
-use Rattle.edit_commands.proofs.EditModel.TailRuns.{fit_steps}
-use Rattle.edit_commands.proofs.EditModel.TailOutside.{host_of}
-use Rattle.edit_commands.proofs.EditModel.TailStates.{host_between}
-use Rattle.edit_commands.specs.ForestChanges.Named.{Each}
+use Rattle.edit_model.specs.DomModel.declared.Content.{Content}
+use Rattle.edit_model.specs.DomModel.declared.Content.TheVariants.{Document, Element, Words, Remark}
+use Rattle.edit_model.specs.DomModel.declared.attributes.Attribute.{Attribute}
+use Rattle.edit_model.specs.DomModel.AttributeList.{are_distinct}
+use Rattle.edit_model.specs.DomModel.Contents.{name_in, is_parent_at}
+use Rattle.edit_model.specs.DomModel.Editing.{editing_host}
+use Rattle.edit_model.specs.DomModel.Forest.{Forest, IsWithin, count_of, parent_of, content_of, link, unlink, with_leaf}
+use Rattle.edit_model.specs.DomModel.Revised.{revised}
+use Rattle.edit_model.proofs.DomModel.Kept.{content_of-link, content_of-unlink, content_of-with_leaf_other, content_of-with_leaf_new}
+use Rattle.edit_model.proofs.DomModel.Links.{parent_count}
+use Rattle.edit_model.proofs.DomModel.Totals.{total-without}
+use Rattle.edit_model.proofs.DomModel.Revising.{content_of-revised}
+use Rattle.edit_model.specs.LiveRange.declared.places.Point.{Point}
+use Rattle.edit_model.specs.PointOrder.PointOrder.{is_in_document}
+use Rattle.edit_model.specs.State.{State}
+use Rattle.edit_model.specs.Confined.{is_editable_for}
+use Rattle.edit_model.specs.Compositions.{attribute_list_of}
+use Rattle.edit_model.specs.Edit.{Edit, Insert, Remove, Move, Replace, Set, Unset, is_made_edit, trees_after, changed, with_change, with_replaced, with_set, with_unset}
+use Rattle.edit_model.specs.Action as action
+use Rattle.edit_model.specs.Tail.{copy_of, document_size}
+use Rattle.edit_model.specs.Action.{Action, made, applied, tail_of, may_extract, extracted, words_content, extended, acted, element_content}
+use Rattle.edit_model.specs.Run.{Reaches, here, onward}
+use Rattle.edit_model.specs.Valid.{IsValid}
+use Rattle.edit_model.proofs.Tests.{inserts, removes, goes, parent_there}
+use Rattle.edit_model.proofs.Forests.{forest-unlink, can_go, fresh}
+use Rattle.edit_model.proofs.ValidRuns.{valid_along}
+use Rattle.edit_model.proofs.OutsideRuns.{trees-extended, trees-selected, trees-grown, trees-sent, trees-scratched}
+use Rattle.edit_model.proofs.IslandRuns.{trees_made, trees_left}
+use Rattle.edit_model.proofs.TailPossible.{tail_possible}
+use Rattle.edit_model.proofs.TailPlan.{IsCopy, is_copy, tail_fits}
+use Rattle.edit_model.proofs.TailSteps.{extract_tests, either_extracted}
+use Rattle.edit_model.proofs.TailRuns.{fit_steps}
+use Rattle.edit_model.proofs.TailOutside.{host_of}
+use Rattle.edit_model.proofs.TailStates.{host_between}
+use Rattle.inline_value.specs.ForestChanges.Named.{Each}
 use Rattle.making_laws.specs.Known.{Source, IsKnown, IsKnownName, IsKnownCharacter, KnowsAll}
 use Rattle.making_laws.specs.Names.{is_set_name}
 use Rattle.making_laws.specs.Tame.{IsTameEdit, IsTame, TameOn}

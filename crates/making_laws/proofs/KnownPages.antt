@@ -2,18 +2,18 @@
 use Rattle.std.proofs.Common.{◌≡◌, ℕ, ◌≤◌, cond, eqb, [], Option, Some, None, refl, sym, ap, ◌∙◌, inl, inr, arith}
 use Rattle.std.specs.Prelude.{unwrap_or}
 use Rattle.std.specs.Option.{option_map, option_and_then}
-use Rattle.edit_commands.specs.DomModel.declared.Content.{Content}
-use Rattle.edit_commands.specs.DomModel.declared.Content.TheVariants.{Document, Element, Words, Remark}
-use Rattle.edit_commands.specs.DomModel.AttributeList.{value_of}
-use Rattle.edit_commands.specs.DomModel.Contents.{name_in, attributes_in, chars_in}
-use Rattle.edit_commands.specs.DomModel.Forest.{Forest, Seen, seek, count_of, tree_of, content_of, IsDistinct}
-use Rattle.edit_commands.proofs.DomModel.Links.{found_count}
-use Rattle.edit_commands.proofs.DomModel.Stands.{Stands-count, Stands-tree_of, seek_Stands}
-use Rattle.edit_commands.proofs.DomModel.Totals.{total-without}
-use Rattle.edit_commands.specs.EditModel.History.{begun, rested}
-use Rattle.edit_commands.specs.EditModel.Valid.{IsValid}
-use Rattle.edit_commands.proofs.EditModel.Commands.{valid_begun}
-use Rattle.edit_commands.proofs.EditModel.ValidRuns.{valid_along}
+use Rattle.edit_model.specs.DomModel.declared.Content.{Content}
+use Rattle.edit_model.specs.DomModel.declared.Content.TheVariants.{Document, Element, Words, Remark}
+use Rattle.edit_model.specs.DomModel.AttributeList.{value_of}
+use Rattle.edit_model.specs.DomModel.Contents.{name_in, attributes_in, chars_in}
+use Rattle.edit_model.specs.DomModel.Forest.{Forest, Seen, seek, count_of, tree_of, content_of, IsDistinct}
+use Rattle.edit_model.proofs.DomModel.Links.{found_count}
+use Rattle.edit_model.proofs.DomModel.Stands.{Stands-count, Stands-tree_of, seek_Stands}
+use Rattle.edit_model.proofs.DomModel.Totals.{total-without}
+use Rattle.edit_model.specs.History.{begun, rested}
+use Rattle.edit_model.specs.Valid.{IsValid}
+use Rattle.edit_model.proofs.Commands.{valid_begun}
+use Rattle.edit_model.proofs.ValidRuns.{valid_along}
 use Rattle.making_laws.specs.Known.{IsKnownAttribute, IsKnownCharacter, source_of}
 use Rattle.making_laws.specs.Laws.{CommandsMakeKnown, NoneComes, OwnAreKnown}
 use Rattle.making_laws.proofs.Attributes.{each_contained, no_value}

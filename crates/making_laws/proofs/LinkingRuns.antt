@@ -1,7 +1,7 @@
 -- Making links, and unlink, are tame.
 use Rattle.std.proofs.Common.{ℕ, List, [], ◌∷◌}
-use Rattle.edit_commands.specs.InlineCommands.Linking.{relink, relink_range, link_range, link_to, create_link}
-use Rattle.edit_commands.specs.InlineCommands.Unlink.{clear_links, unlink}
+use Rattle.inline_commands.specs.Linking.{relink, relink_range, link_range, link_to, create_link}
+use Rattle.inline_commands.specs.Unlink.{clear_links, unlink}
 use Rattle.making_laws.specs.Tame.{Tame}
 use Rattle.making_laws.proofs.TameRuns.{set_href_name, tame_answer, tame_parts}
 use Rattle.making_laws.proofs.SelectionRuns.{tame_clear_one, tame_set_value}

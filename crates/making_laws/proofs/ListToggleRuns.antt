@@ -1,12 +1,12 @@
 -- Toggling lists is tame.
 use Rattle.std.proofs.Common.{◌≡◌, ℕ, Bool, true, false, List}
-use Rattle.edit_commands.specs.WrapSplit.declared.rule.Recipe.TheVariants.{Nothing}
-use Rattle.edit_commands.specs.WrapSplit.Wrap.{wrap}
-use Rattle.edit_commands.specs.ListToggle.Converting.{of_kind, move_items, convert_list, convert_each, convert_lists}
-use Rattle.edit_commands.specs.EditQuery.ListStates.{list_name}
-use Rattle.edit_commands.specs.ListToggle.Ranges.{RangeEnds, keep_range}
-use Rattle.edit_commands.specs.ListToggle.declared.toggling.ListKind.{ListKind}
-use Rattle.edit_commands.specs.ListToggle.Toggle.{goes_on_out, release_series, release_all, new_list, place_items, enlist_next, toggle_off, toggle_on, toggle_lists}
+use Rattle.inline_value.specs.WrapSplit.declared.rule.Recipe.TheVariants.{Nothing}
+use Rattle.inline_value.specs.WrapSplit.Wrap.{wrap}
+use Rattle.list_toggle.specs.Converting.{of_kind, move_items, convert_list, convert_each, convert_lists}
+use Rattle.inline_value.specs.EditQuery.ListStates.{list_name}
+use Rattle.list_toggle.specs.Ranges.{RangeEnds, keep_range}
+use Rattle.list_toggle.specs.declared.toggling.ListKind.{ListKind}
+use Rattle.list_toggle.specs.Toggle.{goes_on_out, release_series, release_all, new_list, place_items, enlist_next, toggle_off, toggle_on, toggle_lists}
 use Rattle.making_laws.specs.Names.{is_made_name}
 use Rattle.making_laws.specs.Tame.{Tame}
 use Rattle.making_laws.proofs.IndentRuns.{made_ol, made_ul, tame_fixed, tame_outdent_node, tame_range, tame_series, tame_split_items}

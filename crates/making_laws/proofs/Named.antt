@@ -3,16 +3,16 @@ use Rattle.std.proofs.Common.{◌≡◌, ℕ, ◌<◌, true, false, true≢false
 use Rattle.std.specs.Option.{option_map, option_map_or, option_and_then}
 use Rattle.std.proofs.lemmas.Bool.{cases_Bool}
 use Rattle.std.proofs.lemmas.Bool.Decides.{eqb_tells}
-use Rattle.edit_commands.specs.DomModel.declared.Content.{Content}
-use Rattle.edit_commands.specs.DomModel.declared.Content.TheVariants.{Document, Element, Words, Remark}
-use Rattle.edit_commands.specs.DomModel.Contents.{may_have_children, name_in, name_of, is_parent_at}
-use Rattle.edit_commands.specs.DomModel.Editing.{editing_host}
-use Rattle.edit_commands.specs.DomModel.Forest.{Forest, Seen, seek, tops, times, count_of, tree_of, parent_of, IsWithin}
-use Rattle.edit_commands.specs.DomModel.Forest.Forest.{Nil, Tree}
-use Rattle.edit_commands.proofs.DomModel.Hosts.{editing_host-root}
-use Rattle.edit_commands.proofs.DomModel.Links.{child_of_parent, seen, tree_is}
-use Rattle.edit_commands.proofs.DomModel.Stands.{Stands, Stands-tree_of, seek_Stands}
-use Rattle.edit_commands.specs.EditModel.Valid.{IsForest}
+use Rattle.edit_model.specs.DomModel.declared.Content.{Content}
+use Rattle.edit_model.specs.DomModel.declared.Content.TheVariants.{Document, Element, Words, Remark}
+use Rattle.edit_model.specs.DomModel.Contents.{may_have_children, name_in, name_of, is_parent_at}
+use Rattle.edit_model.specs.DomModel.Editing.{editing_host}
+use Rattle.edit_model.specs.DomModel.Forest.{Forest, Seen, seek, tops, times, count_of, tree_of, parent_of, IsWithin}
+use Rattle.edit_model.specs.DomModel.Forest.Forest.{Nil, Tree}
+use Rattle.edit_model.proofs.DomModel.Hosts.{editing_host-root}
+use Rattle.edit_model.proofs.DomModel.Links.{child_of_parent, seen, tree_is}
+use Rattle.edit_model.proofs.DomModel.Stands.{Stands, Stands-tree_of, seek_Stands}
+use Rattle.edit_model.specs.Valid.{IsForest}
 
 -- the node is an element
 abbrev pub IsNamed : Forest Content → ℕ → Type 0

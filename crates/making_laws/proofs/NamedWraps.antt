@@ -1,23 +1,23 @@
 -- What a wrap answers is an element, where no sibling is asked for.
 use Rattle.std.proofs.Common.{◌≡◌, ℕ, Bool, true, false, ◌&&◌, if◌then◌else◌, List, Option, Some, None, refl, sym, ◌∙◌, arith, ap, subst}
 use Rattle.std.specs.Option.{option_and_then}
-use Rattle.edit_commands.specs.DomModel.Forest.{prev_of, next_of}
-use Rattle.edit_commands.specs.EditModel.State.{State}
-use Rattle.edit_commands.specs.EditModel.Confined.{is_editable_for}
-use Rattle.edit_commands.specs.EditModel.Run.{Run, final, value, answer, look, given}
-use Rattle.edit_commands.proofs.EditModel.Steps.{value-bind, value-answer, value-look, value-make_element, final-bind, final-look, final-make_element, final-answer}
-use Rattle.edit_commands.specs.WrapSplit.declared.rule.Blank.{Blank}
-use Rattle.edit_commands.specs.WrapSplit.declared.rule.Criterion.{Criterion}
-use Rattle.edit_commands.specs.WrapSplit.declared.rule.Criterion.TheVariants.{Never}
-use Rattle.edit_commands.specs.WrapSplit.declared.rule.Recipe.TheVariants.{Make}
-use Rattle.edit_commands.specs.WrapSplit.Target.{meets, if_fits, beside, blank_of, made_of, made_by, target}
-use Rattle.edit_commands.specs.WrapSplit.Wrap.{filled_from, filled, into_target, wrap_ends, wrap_list, wrap_members, wrap}
-use Rattle.edit_commands.specs.EditModel.Action.{made, element_content}
-use Rattle.edit_commands.specs.DomModel.declared.Content.{Content}
-use Rattle.edit_commands.specs.DomModel.Contents.{name_in}
-use Rattle.edit_commands.proofs.DomModel.Kept.{content_of-with_leaf_new}
-use Rattle.edit_commands.specs.EditModel.Valid.{IsValid}
-use Rattle.edit_commands.proofs.EditModel.Forests.{fresh}
+use Rattle.edit_model.specs.DomModel.Forest.{prev_of, next_of}
+use Rattle.edit_model.specs.State.{State}
+use Rattle.edit_model.specs.Confined.{is_editable_for}
+use Rattle.edit_model.specs.Run.{Run, final, value, answer, look, given}
+use Rattle.edit_model.proofs.Steps.{value-bind, value-answer, value-look, value-make_element, final-bind, final-look, final-make_element, final-answer}
+use Rattle.inline_value.specs.WrapSplit.declared.rule.Blank.{Blank}
+use Rattle.inline_value.specs.WrapSplit.declared.rule.Criterion.{Criterion}
+use Rattle.inline_value.specs.WrapSplit.declared.rule.Criterion.TheVariants.{Never}
+use Rattle.inline_value.specs.WrapSplit.declared.rule.Recipe.TheVariants.{Make}
+use Rattle.inline_value.specs.WrapSplit.Target.{meets, if_fits, beside, blank_of, made_of, made_by, target}
+use Rattle.inline_value.specs.WrapSplit.Wrap.{filled_from, filled, into_target, wrap_ends, wrap_list, wrap_members, wrap}
+use Rattle.edit_model.specs.Action.{made, element_content}
+use Rattle.edit_model.specs.DomModel.declared.Content.{Content}
+use Rattle.edit_model.specs.DomModel.Contents.{name_in}
+use Rattle.edit_model.proofs.DomModel.Kept.{content_of-with_leaf_new}
+use Rattle.edit_model.specs.Valid.{IsValid}
+use Rattle.edit_model.proofs.Forests.{fresh}
 use Rattle.making_laws.proofs.Splits.{IsElement, still_named}
 use Rattle.making_laws.proofs.Named.{IsNamed}
 use Rattle.making_laws.proofs.TameRuns.{valid_final}

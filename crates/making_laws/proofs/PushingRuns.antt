@@ -1,10 +1,10 @@
 -- Pushing values down, and restoring recorded values, is tame.
 use Rattle.std.proofs.Common.{ℕ, List, [], ◌∷◌, Option, Some, None}
-use Rattle.edit_commands.specs.DomModel.Forest.{first_in}
-use Rattle.edit_commands.specs.HtmlNames.declared.commands.Command.{Command}
-use Rattle.edit_commands.specs.CommandValue.SpecifiedValues.{specified}
-use Rattle.edit_commands.specs.InlineValue.Pushing.{push_to, clear_level, push_level, own_or, push_levels, push_from, push_listed, push_down}
-use Rattle.edit_commands.specs.InlineValue.Recording.{Recorded, restored_to, restore_value, restore_values, record_values}
+use Rattle.edit_model.specs.DomModel.Forest.{first_in}
+use Rattle.edit_model.specs.HtmlNames.declared.commands.Command.{Command}
+use Rattle.inline_value.specs.CommandValue.SpecifiedValues.{specified}
+use Rattle.inline_value.specs.Pushing.{push_to, clear_level, push_level, own_or, push_levels, push_from, push_listed, push_down}
+use Rattle.inline_value.specs.Recording.{Recorded, restored_to, restore_value, restore_values, record_values}
 use Rattle.making_laws.specs.Tame.{Tame}
 use Rattle.making_laws.proofs.TameRuns.{tame_answer, tame_bind, tame_look, tame_parts}
 use Rattle.making_laws.proofs.ClearingRuns.{tame_clear_value}

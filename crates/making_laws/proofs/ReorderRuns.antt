@@ -1,7 +1,7 @@
 -- Reordering modifiable descendants is tame.
 use Rattle.std.proofs.Common.{ℕ, List}
-use Rattle.edit_commands.specs.HtmlNames.declared.commands.Command.{Command}
-use Rattle.edit_commands.specs.InlineValue.Reordering.{swapped, reorder_with, reorder}
+use Rattle.edit_model.specs.HtmlNames.declared.commands.Command.{Command}
+use Rattle.inline_value.specs.Reordering.{swapped, reorder_with, reorder}
 use Rattle.making_laws.specs.Tame.{Tame}
 use Rattle.making_laws.proofs.TameRuns.{tame_moves, tame_parts}
 

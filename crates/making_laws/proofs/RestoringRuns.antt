@@ -1,16 +1,16 @@
 -- Restoring states and values is tame.
 use Rattle.std.proofs.Common.{ℕ, List}
-use Rattle.edit_commands.specs.HtmlNames.declared.commands.Command.{Command}
-use Rattle.edit_commands.specs.EditModel.Action.{Override}
-use Rattle.edit_commands.specs.EditModel.declared.settings.Setting.{Setting}
-use Rattle.edit_commands.specs.EditModel.declared.settings.Setting.TheVariants.{On, Off, Text, Absent}
-use Rattle.edit_commands.specs.InlineCommands.RestoringStates.{override_by, set_override, turn_round, toggle_state, restore_on, restore_off, restore_shown, restore_link, restore_size, restore_text, restore_setting, restore_entry, restore_states}
+use Rattle.edit_model.specs.HtmlNames.declared.commands.Command.{Command}
+use Rattle.edit_model.specs.Action.{Override}
+use Rattle.edit_model.specs.declared.settings.Setting.{Setting}
+use Rattle.edit_model.specs.declared.settings.Setting.TheVariants.{On, Off, Text, Absent}
+use Rattle.inline_commands.specs.RestoringStates.{override_by, set_override, turn_round, toggle_state, restore_on, restore_off, restore_shown, restore_link, restore_size, restore_text, restore_setting, restore_entry, restore_states}
 use Rattle.making_laws.specs.Tame.{Tame}
 use Rattle.making_laws.proofs.TameRuns.{tame_answer, tame_parts, tame_perform}
 use Rattle.making_laws.proofs.TogglingRuns.{tame_apply_value, tame_toggle_script, tame_toggle_style}
 use Rattle.making_laws.proofs.LinkingRuns.{tame_create_link}
-use Rattle.edit_commands.specs.HtmlNames.declared.commands.Command.TheVariants as command
-use Rattle.edit_commands.specs.InlineValue.declared.overrides.Override as overrides
+use Rattle.edit_model.specs.HtmlNames.declared.commands.Command.TheVariants as command
+use Rattle.inline_value.specs.declared.overrides.Override as overrides
 
 tame_override : (c : Command) (setting : Setting) → Tame (override_by c setting)
 tame_override c Absent = tame_answer tt

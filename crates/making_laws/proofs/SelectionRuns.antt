@@ -1,19 +1,19 @@
 -- Setting a value on the selection is tame.
 use Rattle.std.proofs.Common.{ℕ, List, Option}
-use Rattle.edit_commands.specs.DomModel.declared.Content.{Content}
-use Rattle.edit_commands.specs.DomModel.Forest.{Forest}
-use Rattle.edit_commands.specs.HtmlNames.declared.commands.Command.{Command}
-use Rattle.edit_commands.specs.LiveRange.declared.places.Pair.{Pair}
-use Rattle.edit_commands.specs.LiveRange.declared.places.Point.{Point}
-use Rattle.edit_commands.specs.EditModel.Action.{Override}
-use Rattle.edit_commands.specs.EditModel.declared.settings.Setting.TheVariants.{Absent}
-use Rattle.edit_commands.specs.InlineValue.Selections.{with_start, set_start, start_text, split_at_start, split_at_end, split_start, split_end, split_ends, unset_rival, set_overrides, clear_one, clear_elements, force_phrase, give_node, give_nodes, give_range, set_value}
+use Rattle.edit_model.specs.DomModel.declared.Content.{Content}
+use Rattle.edit_model.specs.DomModel.Forest.{Forest}
+use Rattle.edit_model.specs.HtmlNames.declared.commands.Command.{Command}
+use Rattle.edit_model.specs.LiveRange.declared.places.Pair.{Pair}
+use Rattle.edit_model.specs.LiveRange.declared.places.Point.{Point}
+use Rattle.edit_model.specs.Action.{Override}
+use Rattle.edit_model.specs.declared.settings.Setting.TheVariants.{Absent}
+use Rattle.inline_value.specs.Selections.{with_start, set_start, start_text, split_at_start, split_at_end, split_start, split_end, split_ends, unset_rival, set_overrides, clear_one, clear_elements, force_phrase, give_node, give_nodes, give_range, set_value}
 use Rattle.making_laws.specs.Tame.{Tame}
 use Rattle.making_laws.proofs.TameRuns.{tame_answer, tame_parts, tame_perform}
 use Rattle.making_laws.proofs.ClearingRuns.{tame_clear_value}
 use Rattle.making_laws.proofs.ForcingRuns.{tame_force}
 use Rattle.making_laws.proofs.PushingRuns.{tame_push_down}
-use Rattle.edit_commands.specs.HtmlNames.declared.commands.Command.TheVariants as command
+use Rattle.edit_model.specs.HtmlNames.declared.commands.Command.TheVariants as command
 
 tame_with_start : (f : Forest Content) (pair : Pair) (at : Point) → Tame (with_start f pair at)
 tame_with_start f pair at = search tame_parts

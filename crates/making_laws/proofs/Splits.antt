@@ -2,25 +2,25 @@
 use Rattle.std.proofs.Common.{◌≡◌, ℕ, ◌<◌, Bool, true, false, ◌&&◌, ◌||◌, not, if◌then◌else◌, List, [], ◌∷◌, Option, Some, None, is_none, refl, sym, ap, subst, ◌∙◌}
 use Rattle.std.specs.Prelude.{codes, unwrap_or}
 use Rattle.std.specs.Option.{option_map, option_and_then}
-use Rattle.edit_commands.specs.DomModel.declared.Content.{Content}
-use Rattle.edit_commands.specs.DomModel.declared.Content.TheVariants.{Document, Element, Words, Remark}
-use Rattle.edit_commands.specs.DomModel.Contents.{name_in, name_of}
-use Rattle.edit_commands.specs.DomModel.Forest.{Forest, either, first_in, last_in, parent_of, children_of, content_of}
-use Rattle.edit_commands.proofs.DomModel.Links.{parent_count}
-use Rattle.edit_commands.specs.NodeTests.LineBreaks.{follows_break, precedes_break}
-use Rattle.edit_commands.specs.EditModel.State.{State}
-use Rattle.edit_commands.specs.EditModel.Compositions.{tag_of, attribute_list_of}
-use Rattle.edit_commands.specs.EditModel.Confined.{is_editable_for}
-use Rattle.edit_commands.specs.EditModel.Valid.{IsValid}
-use Rattle.edit_commands.specs.EditModel.Moves.{insert_before, move_all_before, move_each_last}
-use Rattle.edit_commands.specs.EditModel.Run.{Run, final, value, ◌>>◌, done, given, make_element, unset_attribute}
-use Rattle.edit_commands.proofs.EditModel.TailOutside.{host_of}
+use Rattle.edit_model.specs.DomModel.declared.Content.{Content}
+use Rattle.edit_model.specs.DomModel.declared.Content.TheVariants.{Document, Element, Words, Remark}
+use Rattle.edit_model.specs.DomModel.Contents.{name_in, name_of}
+use Rattle.edit_model.specs.DomModel.Forest.{Forest, either, first_in, last_in, parent_of, children_of, content_of}
+use Rattle.edit_model.proofs.DomModel.Links.{parent_count}
+use Rattle.inline_value.specs.NodeTests.LineBreaks.{follows_break, precedes_break}
+use Rattle.edit_model.specs.State.{State}
+use Rattle.edit_model.specs.Compositions.{tag_of, attribute_list_of}
+use Rattle.edit_model.specs.Confined.{is_editable_for}
+use Rattle.edit_model.specs.Valid.{IsValid}
+use Rattle.edit_model.specs.Moves.{insert_before, move_all_before, move_each_last}
+use Rattle.edit_model.specs.Run.{Run, final, value, ◌>>◌, done, given, make_element, unset_attribute}
+use Rattle.edit_model.proofs.TailOutside.{host_of}
 use Rattle.edit_laws.specs.Kinds.{kind_of}
 use Rattle.edit_laws.specs.Kinds as kinds
 use Rattle.edit_laws.proofs.StayingKinds.{kind_along}
-use Rattle.edit_commands.specs.EditActions.Siblings.{first_parent, members, starts_in, ends_in, until}
-use Rattle.edit_commands.specs.WrapSplit.Breaks.{breaks_before, breaks_at_end, breaks_from}
-use Rattle.edit_commands.specs.WrapSplit.Split.{break_before, break_after, clear_before, copied, copy_front, drop_first_break, close, tidy_after, split_end, split_rest, split_marked, is_void_thing, split_at, split_members, split_parent, split_around, remove_keeping_children}
+use Rattle.inline_value.specs.EditActions.Siblings.{first_parent, members, starts_in, ends_in, until}
+use Rattle.inline_value.specs.WrapSplit.Breaks.{breaks_before, breaks_at_end, breaks_from}
+use Rattle.inline_value.specs.WrapSplit.Split.{break_before, break_after, clear_before, copied, copy_front, drop_first_break, close, tidy_after, split_end, split_rest, split_marked, is_void_thing, split_at, split_members, split_parent, split_around, remove_keeping_children}
 use Rattle.making_laws.specs.Known.{Source, IsKnownName, KnowsAll}
 use Rattle.making_laws.specs.Tame.{Tame}
 use Rattle.making_laws.proofs.Attributes.{list_known}

@@ -1,7 +1,7 @@
 -- Setting and unsetting a style is tame.
 use Rattle.std.proofs.Common.{ℕ, List}
-use Rattle.edit_commands.specs.EditModel.Run.{value}
-use Rattle.edit_commands.specs.InlineValue.Styling.{write_text, set_style, unset_style}
+use Rattle.edit_model.specs.Run.{value}
+use Rattle.inline_value.specs.Styling.{write_text, set_style, unset_style}
 use Rattle.making_laws.specs.Tame.{Tame}
 use Rattle.making_laws.proofs.TameRuns.{set_style_name, tame_parts}
 

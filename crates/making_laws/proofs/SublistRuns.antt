@@ -1,8 +1,8 @@
 -- Normalizing sublists is tame.
 use Rattle.std.proofs.Common.{ℕ, [], Option}
 use Rattle.std.specs.Prelude.{codes}
-use Rattle.edit_commands.specs.EditModel.Run.{make_element}
-use Rattle.edit_commands.specs.ListIndent.Sublists.{make_follower, follower_of, handed_on, part_last, normalize_sublists}
+use Rattle.edit_model.specs.Run.{make_element}
+use Rattle.list_indent.specs.Sublists.{make_follower, follower_of, handed_on, part_last, normalize_sublists}
 use Rattle.making_laws.specs.Tame.{Tame}
 use Rattle.making_laws.proofs.TameRuns.{made_li, tame_make, tame_move_after, tame_move_first, tame_moves, tame_parts}
 

@@ -1,8 +1,8 @@
 -- The commands that toggle a style or a script, and those that take a value, are tame.
 use Rattle.std.proofs.Common.{ℕ, Bool, List, Option}
-use Rattle.edit_commands.specs.HtmlNames.declared.commands.Command.{Command}
-use Rattle.edit_commands.specs.InlineCommands.Toggling.{set_toggled, toggle_style, set_unless, set_script, toggle_script}
-use Rattle.edit_commands.specs.InlineCommands.ValueCommands.{set_taken, take, apply_value}
+use Rattle.edit_model.specs.HtmlNames.declared.commands.Command.{Command}
+use Rattle.inline_commands.specs.Toggling.{set_toggled, toggle_style, set_unless, set_script, toggle_script}
+use Rattle.inline_commands.specs.ValueCommands.{set_taken, take, apply_value}
 use Rattle.making_laws.specs.Tame.{Tame}
 use Rattle.making_laws.proofs.TameRuns.{tame_parts}
 use Rattle.making_laws.proofs.SelectionRuns.{tame_set_value}

@@ -3,37 +3,37 @@ use Rattle.std.proofs.Common.{◌≡◌, ℕ, Bool, true, false, ◌&&◌, if◌
 use Rattle.std.specs.Prelude.{codes}
 use Rattle.std.specs.Option.{option_map_or, option_and_then}
 use Rattle.std.proofs.lemmas.Bool.{and_parts}
-use Rattle.edit_commands.specs.DomModel.AttributeList.{unset_in}
-use Rattle.edit_commands.specs.LiveRange.declared.places.Point.{Point}
-use Rattle.edit_commands.specs.NodeStyles.NameClasses.{is_single_line}
-use Rattle.edit_commands.specs.EditModel.State.{State}
-use Rattle.edit_commands.specs.EditModel.Compositions.{attribute_list_of, tag_of}
-use Rattle.edit_commands.specs.EditModel.Confined.{is_editable_for}
-use Rattle.edit_commands.specs.EditModel.Valid.{IsValid}
-use Rattle.edit_commands.specs.EditModel.Moves.{insert_after}
-use Rattle.edit_commands.specs.EditModel.Edit.{Replace}
-use Rattle.edit_commands.specs.EditModel.Run.{◌>>=◌, ◌>>◌, final, value, answer, done, given, for_each, replace, make_words, extract_tail}
-use Rattle.edit_commands.proofs.EditModel.Steps.{final-answer, final-look, value-bind, value-answer, value-look}
-use Rattle.edit_commands.specs.WrapSplit.declared.rule.Criterion.TheVariants.{Never}
-use Rattle.edit_commands.specs.WrapSplit.declared.rule.Recipe.TheVariants.{Make}
-use Rattle.edit_commands.specs.WrapSplit.Wrap.{append_break}
-use Rattle.edit_commands.specs.TextInsertion.Containers.{make_container, insert_container, add_container, wrap_line, make_line, is_own_container, own_container, plain_container, contents_from, first_content}
-use Rattle.edit_commands.specs.TextInsertion.Entries.{is_empty_entry, leave_list}
-use Rattle.edit_commands.specs.TextInsertion.Halves.{parting_point, second_name, make_second, fill_hidden, close_both, part_at, part_container, ends_line, is_heading_at, name_after}
-use Rattle.edit_commands.specs.TextInsertion.Paragraph.{leave_text, split_text, holds_lines, break_line, part_line, part_line_if, part_paragraph, insert_paragraph_inside, insert_paragraph}
-use Rattle.edit_commands.specs.TextInsertion.Start.{active_start, insert_at, insert_at_start, erase}
-use Rattle.edit_commands.specs.TextInsertion.Typing.{drop_sole_break, put_at, put_char, close_text, type_char, insert_char_at, insert_char_inside, insert_char, insert_several, insert_chars, insert_text}
-use Rattle.edit_commands.specs.DomModel.declared.Content.{Content}
-use Rattle.edit_commands.specs.DomModel.declared.Content.TheVariants.{Document, Element, Words, Remark}
-use Rattle.edit_commands.specs.DomModel.Contents.{has_name, name_in}
-use Rattle.edit_commands.specs.DomModel.Forest.{Forest, content_of}
-use Rattle.edit_commands.specs.EditQuery.Rows.{container_name}
-use Rattle.edit_commands.specs.HtmlNames.ElementNames.{is_single_line_container}
-use Rattle.edit_commands.specs.ForestChanges.Named.{Each}
-use Rattle.edit_commands.specs.InlineCommands.RestoringStates.{restore_states}
-use Rattle.edit_commands.specs.InlineValue.declared.overrides.Override.{Override}
-use Rattle.edit_commands.specs.DeleteCore.declared.deletion.TheConstants.Manner.{KEEP_WRAPPERS}
-use Rattle.edit_commands.specs.DeleteCore.Whitespace.{canonicalize}
+use Rattle.edit_model.specs.DomModel.AttributeList.{unset_in}
+use Rattle.edit_model.specs.LiveRange.declared.places.Point.{Point}
+use Rattle.inline_value.specs.NodeStyles.NameClasses.{is_single_line}
+use Rattle.edit_model.specs.State.{State}
+use Rattle.edit_model.specs.Compositions.{attribute_list_of, tag_of}
+use Rattle.edit_model.specs.Confined.{is_editable_for}
+use Rattle.edit_model.specs.Valid.{IsValid}
+use Rattle.edit_model.specs.Moves.{insert_after}
+use Rattle.edit_model.specs.Edit.{Replace}
+use Rattle.edit_model.specs.Run.{◌>>=◌, ◌>>◌, final, value, answer, done, given, for_each, replace, make_words, extract_tail}
+use Rattle.edit_model.proofs.Steps.{final-answer, final-look, value-bind, value-answer, value-look}
+use Rattle.inline_value.specs.WrapSplit.declared.rule.Criterion.TheVariants.{Never}
+use Rattle.inline_value.specs.WrapSplit.declared.rule.Recipe.TheVariants.{Make}
+use Rattle.inline_value.specs.WrapSplit.Wrap.{append_break}
+use Rattle.text_insertion.specs.Containers.{make_container, insert_container, add_container, wrap_line, make_line, is_own_container, own_container, plain_container, contents_from, first_content}
+use Rattle.text_insertion.specs.Entries.{is_empty_entry, leave_list}
+use Rattle.text_insertion.specs.Halves.{parting_point, second_name, make_second, fill_hidden, close_both, part_at, part_container, ends_line, is_heading_at, name_after}
+use Rattle.text_insertion.specs.Paragraph.{leave_text, split_text, holds_lines, break_line, part_line, part_line_if, part_paragraph, insert_paragraph_inside, insert_paragraph}
+use Rattle.text_insertion.specs.Start.{active_start, insert_at, insert_at_start, erase}
+use Rattle.text_insertion.specs.Typing.{drop_sole_break, put_at, put_char, close_text, type_char, insert_char_at, insert_char_inside, insert_char, insert_several, insert_chars, insert_text}
+use Rattle.edit_model.specs.DomModel.declared.Content.{Content}
+use Rattle.edit_model.specs.DomModel.declared.Content.TheVariants.{Document, Element, Words, Remark}
+use Rattle.edit_model.specs.DomModel.Contents.{has_name, name_in}
+use Rattle.edit_model.specs.DomModel.Forest.{Forest, content_of}
+use Rattle.inline_value.specs.EditQuery.Rows.{container_name}
+use Rattle.edit_model.specs.HtmlNames.ElementNames.{is_single_line_container}
+use Rattle.inline_value.specs.ForestChanges.Named.{Each}
+use Rattle.inline_commands.specs.RestoringStates.{restore_states}
+use Rattle.inline_value.specs.declared.overrides.Override.{Override}
+use Rattle.delete_core.specs.declared.deletion.TheConstants.Manner.{KEEP_WRAPPERS}
+use Rattle.delete_core.specs.Whitespace.{canonicalize}
 use Rattle.making_laws.specs.Known.{Source, IsKnownName, IsKnownCharacter, KnowsAll}
 use Rattle.making_laws.specs.Names.{made_names, is_made_name}
 use Rattle.making_laws.specs.Tame.{Tame, TameFrom}

@@ -1,10 +1,10 @@
 -- Wrapping a list is tame, where what is made has a name that commands make, and attributes that they set.
 use Rattle.std.proofs.Common.{◌≡◌, ℕ, true, List, Option}
-use Rattle.edit_commands.specs.WrapSplit.declared.rule.Criterion.{Criterion}
-use Rattle.edit_commands.specs.WrapSplit.declared.rule.Recipe.{Recipe}
-use Rattle.edit_commands.specs.WrapSplit.declared.rule.Recipe.TheVariants.{Nothing, Make}
-use Rattle.edit_commands.specs.WrapSplit.Target.{blank_of, made_of, made_by, target}
-use Rattle.edit_commands.specs.WrapSplit.Wrap.{append_break, prepend_break, separate_with_br, append_all, parted_front, prepend_all, moved_in, grow_at, insert_if_loose, drop_empty, drop_parent, move_children, merged, merge_next, filled_from, filled, into_target, wrap_ends, wrap_list, wrap_members, wrap}
+use Rattle.inline_value.specs.WrapSplit.declared.rule.Criterion.{Criterion}
+use Rattle.inline_value.specs.WrapSplit.declared.rule.Recipe.{Recipe}
+use Rattle.inline_value.specs.WrapSplit.declared.rule.Recipe.TheVariants.{Nothing, Make}
+use Rattle.inline_value.specs.WrapSplit.Target.{blank_of, made_of, made_by, target}
+use Rattle.inline_value.specs.WrapSplit.Wrap.{append_break, prepend_break, separate_with_br, append_all, parted_front, prepend_all, moved_in, grow_at, insert_if_loose, drop_empty, drop_parent, move_children, merged, merge_next, filled_from, filled, into_target, wrap_ends, wrap_list, wrap_members, wrap}
 use Rattle.making_laws.specs.Names.{is_made_name}
 use Rattle.making_laws.specs.Tame.{Tame}
 use Rattle.making_laws.proofs.Splits.{tame_breaks_from}

@@ -1,7 +1,7 @@
 -- The laws of the block commands: the run of each is tame.
 use Rattle.std.specs.Prelude.{ℕ, List}
-use Rattle.edit_commands.specs.BlockCommands.FormatBlock.{format_block}
-use Rattle.edit_commands.specs.BlockCommands.Justify.{justify}
+use Rattle.block_commands.specs.FormatBlock.{format_block}
+use Rattle.block_commands.specs.Justify.{justify}
 use Rattle.making_laws.specs.Tame.{Tame}
 
 abbrev pub BlocksAreTame : Type 0

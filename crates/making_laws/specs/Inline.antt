@@ -1,15 +1,15 @@
 -- The laws of the inline commands, and of what other commands take from them: the run of each is
 -- tame.
 use Rattle.std.specs.Prelude.{ℕ, List}
-use Rattle.edit_commands.specs.HtmlNames.declared.commands.Command.{Command}
-use Rattle.edit_commands.specs.InlineValue.declared.overrides.Override.{Override}
-use Rattle.edit_commands.specs.InlineValue.Ancestors.{fix_ancestors}
-use Rattle.edit_commands.specs.InlineCommands.Linking.{create_link}
-use Rattle.edit_commands.specs.InlineCommands.RemovingFormat.{remove_format}
-use Rattle.edit_commands.specs.InlineCommands.RestoringStates.{restore_states}
-use Rattle.edit_commands.specs.InlineCommands.Toggling.{toggle_style, toggle_script}
-use Rattle.edit_commands.specs.InlineCommands.Unlink.{unlink}
-use Rattle.edit_commands.specs.InlineCommands.ValueCommands.{apply_value}
+use Rattle.edit_model.specs.HtmlNames.declared.commands.Command.{Command}
+use Rattle.inline_value.specs.declared.overrides.Override.{Override}
+use Rattle.inline_value.specs.Ancestors.{fix_ancestors}
+use Rattle.inline_commands.specs.Linking.{create_link}
+use Rattle.inline_commands.specs.RemovingFormat.{remove_format}
+use Rattle.inline_commands.specs.RestoringStates.{restore_states}
+use Rattle.inline_commands.specs.Toggling.{toggle_style, toggle_script}
+use Rattle.inline_commands.specs.Unlink.{unlink}
+use Rattle.inline_commands.specs.ValueCommands.{apply_value}
 use Rattle.making_laws.specs.Tame.{Tame}
 
 -- bold, italic, underline and strikethrough

@@ -1,13 +1,13 @@
 -- The laws of deleting and inserting: the run of each command is tame, where the source has the
 -- characters that are typed.
 use Rattle.std.specs.Prelude.{ℕ, List}
-use Rattle.edit_commands.specs.TextDeletion.Delete.{delete}
-use Rattle.edit_commands.specs.TextInsertion.Paragraph.{insert_paragraph}
-use Rattle.edit_commands.specs.TextInsertion.Typing.{insert_text}
-use Rattle.edit_commands.specs.InsertObjects.Image.{insert_image}
-use Rattle.edit_commands.specs.InsertObjects.LineBreak.{insert_line_break}
-use Rattle.edit_commands.specs.InsertObjects.Rule.{insert_horizontal_rule}
-use Rattle.edit_commands.specs.ForestChanges.Named.{Each}
+use Rattle.text_deletion.specs.Delete.{delete}
+use Rattle.text_insertion.specs.Paragraph.{insert_paragraph}
+use Rattle.text_insertion.specs.Typing.{insert_text}
+use Rattle.insert_objects.specs.Image.{insert_image}
+use Rattle.insert_objects.specs.LineBreak.{insert_line_break}
+use Rattle.insert_objects.specs.Rule.{insert_horizontal_rule}
+use Rattle.inline_value.specs.ForestChanges.Named.{Each}
 use Rattle.making_laws.specs.Known.{Source, IsKnownCharacter}
 use Rattle.making_laws.specs.Tame.{Tame, TameFrom}
 

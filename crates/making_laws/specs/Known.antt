@@ -2,14 +2,14 @@
 -- another one, or commands make them; and each character of its texts stands in a text of that one,
 -- or in what is typed, or is a blank.
 use Rattle.std.specs.Prelude.{◌≡◌, ◌⊎◌, ℕ, true, List, Contains, Some}
-use Rattle.edit_commands.specs.DomModel.declared.attributes.Attribute.{Attribute}
-use Rattle.edit_commands.specs.DomModel.declared.Content.{Content}
-use Rattle.edit_commands.specs.DomModel.declared.Content.TheVariants.{Element, Words, Remark}
-use Rattle.edit_commands.specs.DomModel.Contents.{name_of, attributes_of, chars_of}
-use Rattle.edit_commands.specs.DomModel.Forest.{Forest, content_of}
-use Rattle.edit_commands.specs.EditModel.State.{State}
-use Rattle.edit_commands.specs.ForestChanges.Named.{Each}
-use Rattle.edit_commands.specs.DeleteCore.Spaces.{is_blank}
+use Rattle.edit_model.specs.DomModel.declared.attributes.Attribute.{Attribute}
+use Rattle.edit_model.specs.DomModel.declared.Content.{Content}
+use Rattle.edit_model.specs.DomModel.declared.Content.TheVariants.{Element, Words, Remark}
+use Rattle.edit_model.specs.DomModel.Contents.{name_of, attributes_of, chars_of}
+use Rattle.edit_model.specs.DomModel.Forest.{Forest, content_of}
+use Rattle.edit_model.specs.State.{State}
+use Rattle.inline_value.specs.ForestChanges.Named.{Each}
+use Rattle.delete_core.specs.Spaces.{is_blank}
 use Rattle.making_laws.specs.Names.{is_made_name, is_set_name}
 
 -- where what a document has may come from: the document before a command, and the command's value

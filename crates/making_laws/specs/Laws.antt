@@ -1,13 +1,13 @@
 -- What tame runs bring into a document.
 use Rattle.std.specs.Prelude.{◌≡◌, ℕ, Bool, false, List, Option, None}
-use Rattle.edit_commands.specs.DomModel.AttributeList.{value_of}
-use Rattle.edit_commands.specs.DomModel.declared.Content.{Content}
-use Rattle.edit_commands.specs.DomModel.Forest.{Forest}
-use Rattle.edit_commands.specs.EditModel.State.{State}
-use Rattle.edit_commands.specs.EditModel.Compositions.{attribute_list_of}
-use Rattle.edit_commands.specs.EditModel.History.{begun, rested}
-use Rattle.edit_commands.specs.EditModel.Valid.{IsValid}
-use Rattle.edit_commands.specs.EditModel.Run.{Reaches}
+use Rattle.edit_model.specs.DomModel.AttributeList.{value_of}
+use Rattle.edit_model.specs.DomModel.declared.Content.{Content}
+use Rattle.edit_model.specs.DomModel.Forest.{Forest}
+use Rattle.edit_model.specs.State.{State}
+use Rattle.edit_model.specs.Compositions.{attribute_list_of}
+use Rattle.edit_model.specs.History.{begun, rested}
+use Rattle.edit_model.specs.Valid.{IsValid}
+use Rattle.edit_model.specs.Run.{Reaches}
 use Rattle.making_laws.specs.Names.{is_set_name}
 use Rattle.making_laws.specs.Known.{Source, source_of, KnowsAll}
 use Rattle.making_laws.specs.Tame.{TameOn}

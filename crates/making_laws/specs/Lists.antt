@@ -1,7 +1,7 @@
 -- The laws of the commands for lists: the run of each is tame.
-use Rattle.edit_commands.specs.ListIndent.Commands.{indent, outdent}
-use Rattle.edit_commands.specs.ListToggle.Toggle.{toggle_lists}
-use Rattle.edit_commands.specs.ListToggle.declared.toggling.ListKind.{ListKind}
+use Rattle.list_indent.specs.Commands.{indent, outdent}
+use Rattle.list_toggle.specs.Toggle.{toggle_lists}
+use Rattle.list_toggle.specs.declared.toggling.ListKind.{ListKind}
 use Rattle.making_laws.specs.Tame.{Tame}
 
 abbrev pub IndentIsTame : Type 0

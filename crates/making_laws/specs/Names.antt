@@ -1,6 +1,6 @@
 -- The names of the elements that commands make of themselves, and of the attributes that they set.
 use Rattle.std.specs.Prelude.{ℕ, Bool, List, [], ◌∷◌, codes}
-use Rattle.edit_commands.specs.HtmlNames.ElementNames.{is_one_of}
+use Rattle.edit_model.specs.HtmlNames.ElementNames.{is_one_of}
 
 -- the elements
 unfoldable pub made_names : List (List ℕ)

@@ -1,13 +1,13 @@
 -- Runs that make known elements alone, set no attributes but those that commands set, and put known
 -- characters alone: the certificate of an algorithm that brings nothing else into a document.
 use Rattle.std.specs.Prelude.{◌≡◌, true}
-use Rattle.edit_commands.specs.DomModel.declared.Content.TheVariants.{Element}
-use Rattle.edit_commands.specs.ForestChanges.Named.{Each}
-use Rattle.edit_commands.specs.EditModel.Action.{Action, Change, MakeElement, MakeWords}
-use Rattle.edit_commands.specs.EditModel.Edit.{Edit, Replace, Set}
-use Rattle.edit_commands.specs.EditModel.State.{State}
-use Rattle.edit_commands.specs.EditModel.Valid.{IsValid}
-use Rattle.edit_commands.specs.EditModel.Run.{Reaches, here, onward, Run}
+use Rattle.edit_model.specs.DomModel.declared.Content.TheVariants.{Element}
+use Rattle.inline_value.specs.ForestChanges.Named.{Each}
+use Rattle.edit_model.specs.Action.{Action, Change, MakeElement, MakeWords}
+use Rattle.edit_model.specs.Edit.{Edit, Replace, Set}
+use Rattle.edit_model.specs.State.{State}
+use Rattle.edit_model.specs.Valid.{IsValid}
+use Rattle.edit_model.specs.Run.{Reaches, here, onward, Run}
 use Rattle.making_laws.specs.Names.{is_set_name}
 use Rattle.making_laws.specs.Known.{Source, IsKnown, IsKnownCharacter, KnowsAll}
 

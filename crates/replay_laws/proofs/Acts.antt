@@ -7,48 +7,48 @@ use Rattle.std.specs.Option.{option_map_or, option_and_then}
 use Rattle.std.specs.Str.{bytes_eq}
 use Rattle.std.proofs.lemmas.Bool.Decides.{nat_tests}
 use Rattle.std.proofs.lemmas.List.Elements.{All-nil, All-cons}
-use Rattle.edit_session.specs.CommandGate.Denied.{is_denied}
-use Rattle.edit_session.specs.HtmlNames.Commands.{command_named}
-use Rattle.edit_session.specs.HtmlNames.declared.commands.Command.{Command}
-use Rattle.edit_session.specs.DomModel.declared.Content.{Content}
-use Rattle.edit_session.specs.DomModel.ArenaState.{ArenaState as Arena, IsValid as IsArena}
-use Rattle.edit_session.specs.DomModel.Contents.{length_of}
-use Rattle.edit_session.specs.DomModel.Document.{page_depth}
-use Rattle.edit_session.specs.DomModel.Forest.{Forest, tops}
-use Rattle.edit_session.specs.DomModel.Forest.Forest.{Nil, Tree}
-use Rattle.edit_session.specs.LiveRange.declared.places.Pair.{Pair}
-use Rattle.edit_session.specs.LiveRange.declared.places.Point.{Point}
-use Rattle.edit_session.specs.LiveRange.LivePoints.{with_mark, without_mark}
-use Rattle.edit_session.proofs.LiveRange.Apart.{All-head, All-tail}
-use Rattle.edit_session.specs.NodePaths.Paths.{label_at}
-use Rattle.edit_session.specs.PointOrder.PointOrder.{is_placed}
-use Rattle.edit_session.specs.ScriptRead.declared.act.Act.{Act}
-use Rattle.edit_session.specs.ScriptRead.declared.act.Act.TheVariants.{Select, Unselect, Mark, Unmark, Exec, Query, Undo, Redo, Probe, Html, Tree as Listing, Points, Stat, Log}
-use Rattle.edit_session.specs.ScriptRead.declared.act.Place.{Place}
-use Rattle.edit_session.specs.ScriptRead.Reading.{Line, Long, Unknown, Known, line_of}
-use Rattle.edit_session.specs.EditModel.State.{State}
-use Rattle.edit_session.specs.EditModel.Confined.{may_select}
-use Rattle.edit_session.specs.EditModel.Edit.{changed}
-use Rattle.edit_session.specs.EditModel.Action as action
-use Rattle.edit_session.specs.EditModel.Action.{selected, acted}
-use Rattle.edit_session.specs.EditModel.History.{document_of, begun}
-use Rattle.edit_session.specs.EditModel.Run.{Reaches, here, onward, Run, final}
-use Rattle.edit_session.specs.EditModel.Valid.{IsForest, IsPlacedPair, IsValid}
-use Rattle.edit_session.proofs.EditModel.CommandParts.{command_acted}
-use Rattle.edit_session.proofs.EditModel.Documents.{document_shape}
-use Rattle.edit_session.proofs.EditModel.OutsideRuns.{trees-selected}
-use Rattle.edit_session.proofs.EditModel.Steps.{either_way}
-use Rattle.edit_session.proofs.EditModel.ValidRuns.{valid_along}
-use Rattle.edit_session.specs.EditDoc.Whole.{HasNoLoose, first_state}
-use Rattle.edit_session.proofs.EditDoc.Rests.{arena_forest}
-use Rattle.edit_session.proofs.EditDoc.Turnings.{unset_length}
-use Rattle.edit_session.specs.EditEngine.Commands.{row_of, action_of, is_enabled_in}
-use Rattle.edit_session.specs.EditEngine.Editing.{Editing, new_editing, undone, redone, turned_times}
-use Rattle.edit_session.specs.EditEngine.Execution.{Outcome, Refused, Deep, Full, Acted, depth_limit, host_at, run_at, ran, answered, after_run, run_outcome, command_outcome, outcome_by, gated_outcome}
-use Rattle.edit_session.specs.EditEngine.Going.{goes_on, joins_by}
-use Rattle.edit_session.specs.EditEngine.Places.{point_in, point_at, pair_of, pair_at, pair_from, selecting, unselecting, marking, unmarking}
-use Rattle.edit_session.proofs.EditEngine.GoingOn.{joins_on}
-use Rattle.edit_session.proofs.EditEngine.Seeing.{path_inside, in_document, placed_by}
+use Rattle.command_gate.specs.Denied.{is_denied}
+use Rattle.edit_model.specs.HtmlNames.Commands.{command_named}
+use Rattle.edit_model.specs.HtmlNames.declared.commands.Command.{Command}
+use Rattle.edit_model.specs.DomModel.declared.Content.{Content}
+use Rattle.edit_model.specs.DomModel.ArenaState.{ArenaState as Arena, IsValid as IsArena}
+use Rattle.edit_model.specs.DomModel.Contents.{length_of}
+use Rattle.edit_model.specs.DomModel.Document.{page_depth}
+use Rattle.edit_model.specs.DomModel.Forest.{Forest, tops}
+use Rattle.edit_model.specs.DomModel.Forest.Forest.{Nil, Tree}
+use Rattle.edit_model.specs.LiveRange.declared.places.Pair.{Pair}
+use Rattle.edit_model.specs.LiveRange.declared.places.Point.{Point}
+use Rattle.edit_model.specs.LiveRange.LivePoints.{with_mark, without_mark}
+use Rattle.edit_model.proofs.LiveRange.Apart.{All-head, All-tail}
+use Rattle.inline_value.specs.NodePaths.Paths.{label_at}
+use Rattle.edit_model.specs.PointOrder.PointOrder.{is_placed}
+use Rattle.step_text.specs.ScriptRead.declared.act.Act.{Act}
+use Rattle.step_text.specs.ScriptRead.declared.act.Act.TheVariants.{Select, Unselect, Mark, Unmark, Exec, Query, Undo, Redo, Probe, Html, Tree as Listing, Points, Stat, Log}
+use Rattle.step_text.specs.ScriptRead.declared.act.Place.{Place}
+use Rattle.step_text.specs.ScriptRead.Reading.{Line, Long, Unknown, Known, line_of}
+use Rattle.edit_model.specs.State.{State}
+use Rattle.edit_model.specs.Confined.{may_select}
+use Rattle.edit_model.specs.Edit.{changed}
+use Rattle.edit_model.specs.Action as action
+use Rattle.edit_model.specs.Action.{selected, acted}
+use Rattle.edit_model.specs.History.{document_of, begun}
+use Rattle.edit_model.specs.Run.{Reaches, here, onward, Run, final}
+use Rattle.edit_model.specs.Valid.{IsForest, IsPlacedPair, IsValid}
+use Rattle.edit_model.proofs.CommandParts.{command_acted}
+use Rattle.edit_model.proofs.Documents.{document_shape}
+use Rattle.edit_model.proofs.OutsideRuns.{trees-selected}
+use Rattle.edit_model.proofs.Steps.{either_way}
+use Rattle.edit_model.proofs.ValidRuns.{valid_along}
+use Rattle.inline_value.specs.EditDoc.Whole.{HasNoLoose, first_state}
+use Rattle.inline_value.proofs.EditDoc.Rests.{arena_forest}
+use Rattle.inline_value.proofs.EditDoc.Turnings.{unset_length}
+use Rattle.edit_engine.specs.Commands.{row_of, action_of, is_enabled_in}
+use Rattle.edit_engine.specs.Editing.{Editing, new_editing, undone, redone, turned_times}
+use Rattle.edit_engine.specs.Execution.{Outcome, Refused, Deep, Full, Acted, depth_limit, host_at, run_at, ran, answered, after_run, run_outcome, command_outcome, outcome_by, gated_outcome}
+use Rattle.edit_engine.specs.Going.{goes_on, joins_by}
+use Rattle.edit_engine.specs.Places.{point_in, point_at, pair_of, pair_at, pair_from, selecting, unselecting, marking, unmarking}
+use Rattle.edit_engine.proofs.GoingOn.{joins_on}
+use Rattle.edit_engine.proofs.Seeing.{path_inside, in_document, placed_by}
 use Rattle.edit_session.specs.Replies.{replied, select_reply, is_crowded, mark_reply, exec_reply, undo_reply, redo_reply, act_reply, read_reply, line_reply}
 use Rattle.replay_laws.specs.Sessions.{after_lines, IsOfSession}
 use Rattle.replay_laws.proofs.Leaving.{run_leaves}

@@ -1,18 +1,18 @@
 -- What is known of an entry of a history, and what a command adds to that.
 use Rattle.std.proofs.Common.{◌≡◌, ℕ, ◌<◌, ◌≤◌, List, ◌++◌, Some, sym, subst, ◌∙◌, inl, inr, arith}
-use Rattle.edit_session.specs.DomModel.declared.Content.{Content}
-use Rattle.edit_session.specs.DomModel.Forest.{Forest, count_of}
-use Rattle.edit_session.specs.ForestChanges.Change.{Change, Remove, Insert, Move, SetText, Splice, SetAttributes}
-use Rattle.edit_session.specs.ForestChanges.Named.{Each}
-use Rattle.edit_session.proofs.ForestChanges.ChangeLists.{each_join, each_of}
-use Rattle.edit_session.specs.EditModel.State.{State}
-use Rattle.edit_session.specs.EditModel.History.{Entry, document_of, view_of, used, entry_of}
-use Rattle.edit_session.specs.EditModel.Valid.{IsValid, IsView}
-use Rattle.edit_session.proofs.EditModel.Resting.{view_valid, view_later}
-use Rattle.edit_session.specs.EditLaws.Kinds.{Text, Comment, kind_of, SameKinds}
-use Rattle.edit_session.proofs.EditLaws.Resting.{document_again}
-use Rattle.edit_session.proofs.EditLaws.StayingKinds.{kind_there}
-use Rattle.edit_session.proofs.EditDoc.MadeApart.{each_used}
+use Rattle.edit_model.specs.DomModel.declared.Content.{Content}
+use Rattle.edit_model.specs.DomModel.Forest.{Forest, count_of}
+use Rattle.inline_value.specs.ForestChanges.Change.{Change, Remove, Insert, Move, SetText, Splice, SetAttributes}
+use Rattle.inline_value.specs.ForestChanges.Named.{Each}
+use Rattle.inline_value.proofs.ForestChanges.ChangeLists.{each_join, each_of}
+use Rattle.edit_model.specs.State.{State}
+use Rattle.edit_model.specs.History.{Entry, document_of, view_of, used, entry_of}
+use Rattle.edit_model.specs.Valid.{IsValid, IsView}
+use Rattle.edit_model.proofs.Resting.{view_valid, view_later}
+use Rattle.edit_laws.specs.Kinds.{Text, Comment, kind_of, SameKinds}
+use Rattle.edit_laws.proofs.Resting.{document_again}
+use Rattle.edit_laws.proofs.StayingKinds.{kind_there}
+use Rattle.inline_value.proofs.EditDoc.MadeApart.{each_used}
 use Rattle.replay_laws.proofs.Leaving.{CanBeMade, IsFrom, IsTextOrNew, NamesTexts, Leaves}
 
 -- a change of characters is one of no comment of the forest

@@ -3,18 +3,18 @@ use Rattle.std.proofs.Common.{◌≡◌, ℕ, zero, suc, ◌+◌, Bool, true, fa
 use Rattle.std.specs.Prelude.{is_some, is_none}
 use Rattle.std.proofs.lemmas.Bool.{and_parts}
 use Rattle.std.proofs.lemmas.Bool.Decides.{nat_tests}
-use Rattle.edit_session.specs.DomModel.declared.Content.{Content}
-use Rattle.edit_session.specs.DomModel.Contents.{with_chars, with_attributes}
-use Rattle.edit_session.specs.DomModel.Forest.{Forest, join, parent_of, tree_of, without, put_before, put_under, put_rising, link, unlink, with_leaf}
-use Rattle.edit_session.specs.DomModel.Forest.Forest.{Nil, Tree}
-use Rattle.edit_session.specs.DomModel.Revised.{revised}
-use Rattle.edit_session.specs.ForestChanges.Change.{applied}
-use Rattle.edit_session.specs.EditModel.History.{document_of}
-use Rattle.edit_session.specs.StepText.Applying.{Labelled, has_labels, is_loose, can_stand, has_place, has_room, fault_of, made_content, trees_after, line_applied, refused_or, replayed_from}
-use Rattle.edit_session.specs.StepText.declared.line.StepFault.{StepFault}
-use Rattle.edit_session.specs.StepText.declared.line.StepFault.TheVariants.{BadLabel, BadPlace, TooDeep}
-use Rattle.edit_session.specs.StepText.declared.line.StepLine.{StepLine}
-use Rattle.edit_session.specs.StepText.declared.line.StepLine.TheVariants.{Entry, Make, Insert, Remove, Move, Words, Tag}
+use Rattle.edit_model.specs.DomModel.declared.Content.{Content}
+use Rattle.edit_model.specs.DomModel.Contents.{with_chars, with_attributes}
+use Rattle.edit_model.specs.DomModel.Forest.{Forest, join, parent_of, tree_of, without, put_before, put_under, put_rising, link, unlink, with_leaf}
+use Rattle.edit_model.specs.DomModel.Forest.Forest.{Nil, Tree}
+use Rattle.edit_model.specs.DomModel.Revised.{revised}
+use Rattle.inline_value.specs.ForestChanges.Change.{applied}
+use Rattle.edit_model.specs.History.{document_of}
+use Rattle.step_text.specs.Applying.{Labelled, has_labels, is_loose, can_stand, has_place, has_room, fault_of, made_content, trees_after, line_applied, refused_or, replayed_from}
+use Rattle.step_text.specs.declared.line.StepFault.{StepFault}
+use Rattle.step_text.specs.declared.line.StepFault.TheVariants.{BadLabel, BadPlace, TooDeep}
+use Rattle.step_text.specs.declared.line.StepLine.{StepLine}
+use Rattle.step_text.specs.declared.line.StepLine.TheVariants.{Entry, Make, Insert, Remove, Move, Words, Tag}
 use Rattle.edit_session.specs.Transcript.{replayed_text}
 use Rattle.edit_session.specs.declared.replay.Tally.{Tally}
 

@@ -4,19 +4,19 @@ use Rattle.std.specs.Prelude.{◌&&◌, nat_lt, nat_le}
 use Rattle.std.specs.Str.{all_scalars}
 use Rattle.std.proofs.lemmas.Bool.{and_parts, ltb-true, ne_eqb}
 use Rattle.std.proofs.lemmas.Bool.Decides.{eqb_tells}
-use Rattle.edit_session.specs.DomModel.declared.Content.{Content}
-use Rattle.edit_session.specs.DomModel.Contents.{with_chars, with_attributes}
-use Rattle.edit_session.specs.DomModel.Forest.{Forest, count_of, tree_of, without, put_before, put_under, link, unlink}
-use Rattle.edit_session.specs.DomModel.Forest.Forest.{Nil, Tree}
-use Rattle.edit_session.proofs.DomModel.Revising.{total-revised}
-use Rattle.edit_session.proofs.DomModel.Totals.{total-join, total-without, total-put_before, total-unlink}
-use Rattle.edit_session.specs.ForestChanges.Change.{applied}
-use Rattle.edit_session.specs.ForestChanges.Named.{Each}
-use Rattle.edit_session.specs.EditModel.Confined.{is_there}
-use Rattle.edit_session.specs.StepText.Applying.{Labelled, is_there_or_end, has_labels, fault_of, made_content, trees_after, line_applied, replayed_from}
-use Rattle.edit_session.specs.StepText.StepLine.{IsLabel, IsMade, IsTag, IsStepLine}
-use Rattle.edit_session.specs.StepText.declared.line.StepLine.{StepLine}
-use Rattle.edit_session.specs.StepText.declared.line.StepLine.TheVariants.{Entry, Make, Insert, Remove, Move, Words, Tag}
+use Rattle.edit_model.specs.DomModel.declared.Content.{Content}
+use Rattle.edit_model.specs.DomModel.Contents.{with_chars, with_attributes}
+use Rattle.edit_model.specs.DomModel.Forest.{Forest, count_of, tree_of, without, put_before, put_under, link, unlink}
+use Rattle.edit_model.specs.DomModel.Forest.Forest.{Nil, Tree}
+use Rattle.edit_model.proofs.DomModel.Revising.{total-revised}
+use Rattle.edit_model.proofs.DomModel.Totals.{total-join, total-without, total-put_before, total-unlink}
+use Rattle.inline_value.specs.ForestChanges.Change.{applied}
+use Rattle.inline_value.specs.ForestChanges.Named.{Each}
+use Rattle.edit_model.specs.Confined.{is_there}
+use Rattle.step_text.specs.Applying.{Labelled, is_there_or_end, has_labels, fault_of, made_content, trees_after, line_applied, replayed_from}
+use Rattle.step_text.specs.StepLine.{IsLabel, IsMade, IsTag, IsStepLine}
+use Rattle.step_text.specs.declared.line.StepLine.{StepLine}
+use Rattle.step_text.specs.declared.line.StepLine.TheVariants.{Entry, Make, Insert, Remove, Move, Words, Tag}
 use Rattle.replay_laws.proofs.Firsts.{line_fits, first_applied}
 
 -- the names of elements and attributes are those of the grammar of pages, in lower case; characters are scalar values; and no element has two attributes of a name

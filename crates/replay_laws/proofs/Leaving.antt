@@ -2,32 +2,32 @@
 use Rattle.std.proofs.Common.{◌≡◌, ◌⊎◌, ℕ, ◌≤◌, Bool, true, false, true≢false, List, [], ◌∷◌, Option, Some, None, refl, sym, subst, ◌∙◌, inl, inr, arith}
 use Rattle.std.specs.Option.{option_map, option_map_or}
 use Rattle.std.proofs.lemmas.Bool.{cases_lt}
-use Rattle.edit_session.specs.DomModel.declared.Content.{Content}
-use Rattle.edit_session.specs.DomModel.declared.Content.TheVariants as content
-use Rattle.edit_session.specs.DomModel.Forest.{Forest, content_of}
-use Rattle.edit_session.proofs.DomModel.Stands.{true_or_false}
-use Rattle.edit_session.specs.ForestChanges.Change.{Change, Remove, Insert, Move, SetText, Splice, SetAttributes}
-use Rattle.edit_session.specs.ForestChanges.Named.{Each}
-use Rattle.edit_session.proofs.ForestChanges.ChangeLists.{each_join, each_of}
-use Rattle.edit_session.specs.EditModel.State.{State}
-use Rattle.edit_session.specs.EditModel.Tail.{Step, Copy, Do}
-use Rattle.edit_session.specs.EditModel.Edit.{changed, with_change}
-use Rattle.edit_session.specs.EditModel.Action as action
-use Rattle.edit_session.specs.EditModel.Action.{Action, made, applied, stepped, tail_of, may_extract}
-use Rattle.edit_session.specs.EditModel.History.{document_of, begun, rested}
-use Rattle.edit_session.specs.EditModel.Run.{Reaches, here, onward, changes_of, changes_on, nodes_in, nodes_of, nodes_on}
-use Rattle.edit_session.specs.EditModel.Valid.{IsValid}
-use Rattle.edit_session.proofs.EditModel.CommandParts.{command_along}
-use Rattle.edit_session.proofs.EditModel.Commands.{valid_begun}
-use Rattle.edit_session.proofs.EditModel.EditLists.{adds_along}
-use Rattle.edit_session.proofs.EditModel.Steps.{next_along}
-use Rattle.edit_session.proofs.EditModel.ValidRuns.{valid_along}
-use Rattle.edit_session.specs.EditLaws.Kinds.{Text, kind_in, kind_of, SameKinds, DrawsKinds}
-use Rattle.edit_session.proofs.EditLaws.StayingKinds.{kind_along, kinds_at_rest}
-use Rattle.edit_session.specs.StepText.Applying.{is_text}
-use Rattle.edit_session.specs.EditEngine.PlainRuns.{ChangeTextsOn}
-use Rattle.edit_session.specs.EditEngine.Replaying.{can_be_made, ChangesText}
-use Rattle.edit_session.proofs.EditEngine.PlainRuns.{runs_are_plain}
+use Rattle.edit_model.specs.DomModel.declared.Content.{Content}
+use Rattle.edit_model.specs.DomModel.declared.Content.TheVariants as content
+use Rattle.edit_model.specs.DomModel.Forest.{Forest, content_of}
+use Rattle.edit_model.proofs.DomModel.Stands.{true_or_false}
+use Rattle.inline_value.specs.ForestChanges.Change.{Change, Remove, Insert, Move, SetText, Splice, SetAttributes}
+use Rattle.inline_value.specs.ForestChanges.Named.{Each}
+use Rattle.inline_value.proofs.ForestChanges.ChangeLists.{each_join, each_of}
+use Rattle.edit_model.specs.State.{State}
+use Rattle.edit_model.specs.Tail.{Step, Copy, Do}
+use Rattle.edit_model.specs.Edit.{changed, with_change}
+use Rattle.edit_model.specs.Action as action
+use Rattle.edit_model.specs.Action.{Action, made, applied, stepped, tail_of, may_extract}
+use Rattle.edit_model.specs.History.{document_of, begun, rested}
+use Rattle.edit_model.specs.Run.{Reaches, here, onward, changes_of, changes_on, nodes_in, nodes_of, nodes_on}
+use Rattle.edit_model.specs.Valid.{IsValid}
+use Rattle.edit_model.proofs.CommandParts.{command_along}
+use Rattle.edit_model.proofs.Commands.{valid_begun}
+use Rattle.edit_model.proofs.EditLists.{adds_along}
+use Rattle.edit_model.proofs.Steps.{next_along}
+use Rattle.edit_model.proofs.ValidRuns.{valid_along}
+use Rattle.edit_laws.specs.Kinds.{Text, kind_in, kind_of, SameKinds, DrawsKinds}
+use Rattle.edit_laws.proofs.StayingKinds.{kind_along, kinds_at_rest}
+use Rattle.step_text.specs.Applying.{is_text}
+use Rattle.edit_engine.specs.PlainRuns.{ChangeTextsOn}
+use Rattle.edit_engine.specs.Replaying.{can_be_made, ChangesText}
+use Rattle.edit_engine.proofs.PlainRuns.{runs_are_plain}
 
 abbrev pub CanBeMade : ℕ × Content → Type 0
 CanBeMade n = can_be_made n.1 ≡ true

@@ -6,20 +6,20 @@ use Rattle.std.specs.List.{flat_map, list_all}
 use Rattle.std.specs.Str.Parse.{digits_value}
 use Rattle.std.proofs.lemmas.Fmt.{digits_decimal}
 use Rattle.std.proofs.lemmas.Str.Parse.{IsNumeralModel, numerals_by_value}
-use Rattle.edit_session.specs.EscapedText.Escaped.{escape_of, escaped, escaped_bytes}
-use Rattle.edit_session.specs.PageWrite.Html.{start_tag}
-use Rattle.edit_session.proofs.ScriptRead.Cutting.{Avoids, Avoids-append, passing_avoids}
-use Rattle.edit_session.specs.StepText.Applying.{Labelled, fault_of, line_applied, refused_or, replayed_from}
-use Rattle.edit_session.specs.StepText.StepLine.{quoted, tag_byte, tag_bytes, made_text, before_text, line_text, IsLabel, IsStepLine}
-use Rattle.edit_session.specs.StepText.StepReading.{step_in}
-use Rattle.edit_session.specs.StepText.declared.line.Made.{Made}
-use Rattle.edit_session.specs.StepText.declared.line.Made.TheVariants as made
-use Rattle.edit_session.specs.StepText.declared.line.StepFault.{StepFault}
-use Rattle.edit_session.specs.StepText.declared.line.StepLine.{StepLine}
-use Rattle.edit_session.specs.StepText.declared.line.StepLine.TheVariants.{Entry, Make, Insert, Remove, Move, Words, Tag}
-use Rattle.edit_session.proofs.StepText.Bytes.{encodes_avoid}
-use Rattle.edit_session.proofs.StepText.SoundSteps.{step_of_line}
-use Rattle.edit_session.specs.EditEngine.Logs.{step_line, step_lines}
+use Rattle.step_text.specs.EscapedText.Escaped.{escape_of, escaped, escaped_bytes}
+use Rattle.page_write.specs.Html.{start_tag}
+use Rattle.step_text.proofs.ScriptRead.Cutting.{Avoids, Avoids-append, passing_avoids}
+use Rattle.step_text.specs.Applying.{Labelled, fault_of, line_applied, refused_or, replayed_from}
+use Rattle.step_text.specs.StepLine.{quoted, tag_byte, tag_bytes, made_text, before_text, line_text, IsLabel, IsStepLine}
+use Rattle.step_text.specs.StepReading.{step_in}
+use Rattle.step_text.specs.declared.line.Made.{Made}
+use Rattle.step_text.specs.declared.line.Made.TheVariants as made
+use Rattle.step_text.specs.declared.line.StepFault.{StepFault}
+use Rattle.step_text.specs.declared.line.StepLine.{StepLine}
+use Rattle.step_text.specs.declared.line.StepLine.TheVariants.{Entry, Make, Insert, Remove, Move, Words, Tag}
+use Rattle.step_text.proofs.Bytes.{encodes_avoid}
+use Rattle.step_text.proofs.SoundSteps.{step_of_line}
+use Rattle.edit_engine.specs.Logs.{step_line, step_lines}
 use Rattle.edit_session.specs.Block.{lines_of}
 use Rattle.edit_session.specs.Replay.{Replayed, tallied, replayed, step_fitting, step_replayed, line_replayed, onward, lines_replayed}
 use Rattle.replay_laws.specs.Lines.{StepsAreLines, LinesReplay, tallied_all}

@@ -6,18 +6,18 @@ use Rattle.std.specs.Str.{IsUtf8, is_utf8, chars}
 use Rattle.std.proofs.Math.Utf8.{scalar, scalars}
 use Rattle.std.proofs.lemmas.Bool.Decides.{nat_tests, Decides-eqb}
 use Rattle.std.proofs.lemmas.Str.{chars-nil, chars-encodes, is_utf8-from_IsUtf8}
-use Rattle.edit_session.specs.DomModel.declared.Content.{Content}
-use Rattle.edit_session.specs.DomModel.declared.Content.TheVariants.{Document, Element, Words, Remark}
-use Rattle.edit_session.specs.DomModel.declared.attributes.Attribute.{Attribute}
-use Rattle.edit_session.specs.DomModel.Forest.{Forest}
-use Rattle.edit_session.specs.DomModel.Forest.Forest.{Nil, Tree}
-use Rattle.edit_session.specs.PageGrammar.Bytes.{PageBytes}
-use Rattle.edit_session.specs.PageGrammar.Chars.{is_letter, is_name_char, is_attribute_name_char, lower}
-use Rattle.edit_session.specs.PageGrammar.Nodes.{nodes_of, document_of}
-use Rattle.edit_session.specs.PageGrammar.Page.{Siblings}
-use Rattle.grammar_laws.specs.PageLaws.Writable.{IsNameChar, IsElementName, IsKeyChar, IsAttribute, IsWritableNode, IsWritable}
-use Rattle.grammar_laws.proofs.PageLaws.ReadBack.{page_tree}
-use Rattle.edit_session.specs.StepText.StepLine.{is_lowered, is_element_name, is_attribute_text, is_attribute_name, AreAttributes}
+use Rattle.edit_model.specs.DomModel.declared.Content.{Content}
+use Rattle.edit_model.specs.DomModel.declared.Content.TheVariants.{Document, Element, Words, Remark}
+use Rattle.edit_model.specs.DomModel.declared.attributes.Attribute.{Attribute}
+use Rattle.edit_model.specs.DomModel.Forest.{Forest}
+use Rattle.edit_model.specs.DomModel.Forest.Forest.{Nil, Tree}
+use Rattle.step_text.specs.PageGrammar.Bytes.{PageBytes}
+use Rattle.step_text.specs.PageGrammar.Chars.{is_letter, is_name_char, is_attribute_name_char, lower}
+use Rattle.step_text.specs.PageGrammar.Nodes.{nodes_of, document_of}
+use Rattle.step_text.specs.PageGrammar.Page.{Siblings}
+use Rattle.page_laws.specs.Writable.{IsNameChar, IsElementName, IsKeyChar, IsAttribute, IsWritableNode, IsWritable}
+use Rattle.page_laws.proofs.ReadBack.{page_tree}
+use Rattle.step_text.specs.StepLine.{is_lowered, is_element_name, is_attribute_text, is_attribute_name, AreAttributes}
 use Rattle.grammar_laws.specs.Proper.{AllNodes, IsProper}
 
 both : (a b : Bool) → a ≡ true → b ≡ true → (a && b) ≡ true

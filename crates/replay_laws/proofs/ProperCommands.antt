@@ -1,19 +1,19 @@
 -- The run of each command keeps to the grammar, where its value is a text of scalar values: a line for each command.
 use Rattle.std.proofs.Common.{ℕ, Bool, true, false, List, refl}
 use Rattle.std.specs.Prelude.{not, codes, if◌then◌else◌}
-use Rattle.edit_session.specs.HtmlNames.declared.commands.Command.{Command}
-use Rattle.edit_session.specs.HtmlNames.declared.commands.Command.TheVariants as command
-use Rattle.edit_session.specs.ListToggle.declared.toggling.ListKind.TheVariants.{Ordered, Unordered}
-use Rattle.edit_session.specs.EditModel.Action.{Flag}
-use Rattle.edit_session.specs.EditModel.Run.{Run, ◌>>=◌, answer, done, given, set_flags}
-use Rattle.edit_session.specs.EditModel.declared.settings.Flags.{Flags}
-use Rattle.edit_session.specs.EditQuery.Carets.{is_caret}
-use Rattle.edit_session.specs.ForestChanges.Named.{Each}
-use Rattle.edit_session.specs.InlineCommands.RestoringStates.{restore_states}
-use Rattle.edit_session.specs.InlineValue.Overrides.{overrides_of}
-use Rattle.edit_session.specs.InlineValue.declared.overrides.Override.{Override}
-use Rattle.edit_session.specs.EditEngine.Commands.{row_of, own_action, action_of, is_value, flags_taken, set_css_styling, separator_set, set_separator}
-use Rattle.edit_session.specs.EditEngine.Framing.{restore_at_caret, give_back, recorded_action, framed}
+use Rattle.edit_model.specs.HtmlNames.declared.commands.Command.{Command}
+use Rattle.edit_model.specs.HtmlNames.declared.commands.Command.TheVariants as command
+use Rattle.list_toggle.specs.declared.toggling.ListKind.TheVariants.{Ordered, Unordered}
+use Rattle.edit_model.specs.Action.{Flag}
+use Rattle.edit_model.specs.Run.{Run, ◌>>=◌, answer, done, given, set_flags}
+use Rattle.edit_model.specs.declared.settings.Flags.{Flags}
+use Rattle.inline_value.specs.EditQuery.Carets.{is_caret}
+use Rattle.inline_value.specs.ForestChanges.Named.{Each}
+use Rattle.inline_commands.specs.RestoringStates.{restore_states}
+use Rattle.inline_value.specs.Overrides.{overrides_of}
+use Rattle.inline_value.specs.declared.overrides.Override.{Override}
+use Rattle.edit_engine.specs.Commands.{row_of, own_action, action_of, is_value, flags_taken, set_css_styling, separator_set, set_separator}
+use Rattle.edit_engine.specs.Framing.{restore_at_caret, give_back, recorded_action, framed}
 use Rattle.grammar_laws.specs.Proper.{IsText}
 use Rattle.grammar_laws.specs.Runs.{Proper}
 use Rattle.grammar_laws.proofs.BlockRuns.{proper_format_block, proper_justify}

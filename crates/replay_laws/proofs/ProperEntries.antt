@@ -2,21 +2,21 @@
 use Rattle.std.proofs.Common.{◌≡◌, ℕ, Bool, true, false, true≢false, cond, eqb, List, [], ◌∷◌, length, map, Option, Some, None, IfSome, sym, ◌∙◌}
 use Rattle.std.specs.List.{flat_map}
 use Rattle.std.specs.Option.{option_map, option_map_or}
-use Rattle.edit_session.specs.DomModel.declared.Content.{Content}
-use Rattle.edit_session.specs.DomModel.declared.Content.TheVariants as content
-use Rattle.edit_session.specs.DomModel.Contents.{is_element}
-use Rattle.edit_session.specs.DomModel.Forest.{Forest, either, content_of, with_leaf}
-use Rattle.edit_session.specs.UndoLog.Turning.{FitsForth}
-use Rattle.edit_session.specs.ForestChanges.Change.{Change, Remove, Insert, Move, SetText, Splice, SetAttributes, Fits, applied, whole, wholes}
-use Rattle.edit_session.specs.ForestChanges.Named.{Each}
-use Rattle.edit_session.proofs.ForestChanges.ChangeLists.{each_join}
-use Rattle.edit_session.specs.EditModel.History.{Entry}
-use Rattle.edit_session.specs.EditLaws.Kinds.{kind_in}
-use Rattle.edit_session.specs.EditLaws.Kinds as kinds
-use Rattle.edit_session.specs.EditDoc.Logged.{content_made, content_in, element_name, logged_edit, logged_entry, made_node}
-use Rattle.edit_session.specs.EditDoc.Onward.{with_made, at_begin, LeadsOnward}
-use Rattle.edit_session.specs.StepText.StepLine.{is_element_name}
-use Rattle.edit_session.specs.EditEngine.Logs.{content_steps, made_steps, edit_step, entry_steps}
+use Rattle.edit_model.specs.DomModel.declared.Content.{Content}
+use Rattle.edit_model.specs.DomModel.declared.Content.TheVariants as content
+use Rattle.edit_model.specs.DomModel.Contents.{is_element}
+use Rattle.edit_model.specs.DomModel.Forest.{Forest, either, content_of, with_leaf}
+use Rattle.inline_value.specs.UndoLog.Turning.{FitsForth}
+use Rattle.inline_value.specs.ForestChanges.Change.{Change, Remove, Insert, Move, SetText, Splice, SetAttributes, Fits, applied, whole, wholes}
+use Rattle.inline_value.specs.ForestChanges.Named.{Each}
+use Rattle.inline_value.proofs.ForestChanges.ChangeLists.{each_join}
+use Rattle.edit_model.specs.History.{Entry}
+use Rattle.edit_laws.specs.Kinds.{kind_in}
+use Rattle.edit_laws.specs.Kinds as kinds
+use Rattle.inline_value.specs.EditDoc.Logged.{content_made, content_in, element_name, logged_edit, logged_entry, made_node}
+use Rattle.inline_value.specs.EditDoc.Onward.{with_made, at_begin, LeadsOnward}
+use Rattle.step_text.specs.StepLine.{is_element_name}
+use Rattle.edit_engine.specs.Logs.{content_steps, made_steps, edit_step, entry_steps}
 use Rattle.grammar_laws.specs.Proper.{AllNodes, IsProper, IsProperChange, IsProperNode}
 use Rattle.grammar_laws.proofs.Nodes.{node_at, nodes_leaf}
 use Rattle.grammar_laws.proofs.Spelled.{IsSpelled, nodes_applied, nodes_spelled, splice_text}

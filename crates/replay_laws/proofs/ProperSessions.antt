@@ -5,39 +5,39 @@ use Rattle.std.specs.List.{flat_map}
 use Rattle.std.specs.Option.{option_map_or}
 use Rattle.std.specs.Str.{bytes_eq}
 use Rattle.std.proofs.lemmas.List.{reverse-reverse}
-use Rattle.edit_session.specs.CommandGate.Denied.{is_denied}
-use Rattle.edit_session.specs.HtmlNames.Commands.{command_named}
-use Rattle.edit_session.specs.HtmlNames.declared.commands.Command.{Command}
-use Rattle.edit_session.specs.DomModel.declared.Content.{Content}
-use Rattle.edit_session.specs.DomModel.ArenaState.{ArenaState as Arena, IsValid as IsArena}
-use Rattle.edit_session.specs.DomModel.Document.{page_depth}
-use Rattle.edit_session.specs.DomModel.Forest.{Forest}
-use Rattle.edit_session.specs.LiveRange.declared.places.Pair.{Pair}
-use Rattle.edit_session.specs.ScriptRead.declared.act.Act.{Act}
-use Rattle.edit_session.specs.ScriptRead.declared.act.Act.TheVariants.{Select, Unselect, Mark, Unmark, Exec, Query, Undo, Redo, Probe, Html, Tree as Listing, Points, Stat, Log}
-use Rattle.edit_session.specs.ScriptRead.Acts.{Spells}
-use Rattle.edit_session.specs.ScriptRead.Reading.{Line, Long, Unknown, Known, line_of}
-use Rattle.edit_session.proofs.ScriptRead.Values.{spelled_scalars}
-use Rattle.edit_session.specs.ForestChanges.Change.{Change}
-use Rattle.edit_session.specs.ForestChanges.Named.{Each}
-use Rattle.edit_session.proofs.ForestChanges.ChangeLists.{each_join}
-use Rattle.edit_session.specs.EditModel.State.{State}
-use Rattle.edit_session.specs.EditModel.History.{Entry, History, view_of, begun, rested, at_view, used, entry_of, with_entry, joined, joined_in, recorded, undone_state, undone_state_by, undone_history, undone_history_by, redone_state, redone_state_by, redone_history, redone_history_by}
-use Rattle.edit_session.specs.EditModel.declared.settings.Setting.{Setting}
-use Rattle.edit_session.specs.EditModel.Run.{Run}
-use Rattle.edit_session.specs.EditModel.Valid.{IsValid}
-use Rattle.edit_session.specs.EditModel.Action.{acted}
-use Rattle.edit_session.proofs.EditModel.Commands.{valid_begun}
-use Rattle.edit_session.specs.EditDoc.Logged.{logged_entry}
-use Rattle.edit_session.specs.EditDoc.Onward.{LeadFrom}
-use Rattle.edit_session.specs.EditDoc.Whole.{first_state}
-use Rattle.edit_session.proofs.EditDoc.MadeApart.{each_used}
-use Rattle.edit_session.specs.EditEngine.Commands.{row_of, action_of, is_enabled_in}
-use Rattle.edit_session.specs.EditEngine.Editing.{Editing, new_editing, undone, redone, going_past, turned_times}
-use Rattle.edit_session.specs.EditEngine.Execution.{Outcome, Refused, Deep, Full, Acted, depth_limit, host_at, run_at, ran, answered, after_run, run_outcome, command_outcome, outcome_by, gated_outcome}
-use Rattle.edit_session.specs.EditEngine.Going.{joins_by}
-use Rattle.edit_session.specs.EditEngine.Logs.{entry_steps, log_steps}
-use Rattle.edit_session.specs.EditEngine.Places.{pair_at, selecting, unselecting, marking, unmarking}
+use Rattle.command_gate.specs.Denied.{is_denied}
+use Rattle.edit_model.specs.HtmlNames.Commands.{command_named}
+use Rattle.edit_model.specs.HtmlNames.declared.commands.Command.{Command}
+use Rattle.edit_model.specs.DomModel.declared.Content.{Content}
+use Rattle.edit_model.specs.DomModel.ArenaState.{ArenaState as Arena, IsValid as IsArena}
+use Rattle.edit_model.specs.DomModel.Document.{page_depth}
+use Rattle.edit_model.specs.DomModel.Forest.{Forest}
+use Rattle.edit_model.specs.LiveRange.declared.places.Pair.{Pair}
+use Rattle.step_text.specs.ScriptRead.declared.act.Act.{Act}
+use Rattle.step_text.specs.ScriptRead.declared.act.Act.TheVariants.{Select, Unselect, Mark, Unmark, Exec, Query, Undo, Redo, Probe, Html, Tree as Listing, Points, Stat, Log}
+use Rattle.step_text.specs.ScriptRead.Acts.{Spells}
+use Rattle.step_text.specs.ScriptRead.Reading.{Line, Long, Unknown, Known, line_of}
+use Rattle.step_text.proofs.ScriptRead.Values.{spelled_scalars}
+use Rattle.inline_value.specs.ForestChanges.Change.{Change}
+use Rattle.inline_value.specs.ForestChanges.Named.{Each}
+use Rattle.inline_value.proofs.ForestChanges.ChangeLists.{each_join}
+use Rattle.edit_model.specs.State.{State}
+use Rattle.edit_model.specs.History.{Entry, History, view_of, begun, rested, at_view, used, entry_of, with_entry, joined, joined_in, recorded, undone_state, undone_state_by, undone_history, undone_history_by, redone_state, redone_state_by, redone_history, redone_history_by}
+use Rattle.edit_model.specs.declared.settings.Setting.{Setting}
+use Rattle.edit_model.specs.Run.{Run}
+use Rattle.edit_model.specs.Valid.{IsValid}
+use Rattle.edit_model.specs.Action.{acted}
+use Rattle.edit_model.proofs.Commands.{valid_begun}
+use Rattle.inline_value.specs.EditDoc.Logged.{logged_entry}
+use Rattle.inline_value.specs.EditDoc.Onward.{LeadFrom}
+use Rattle.inline_value.specs.EditDoc.Whole.{first_state}
+use Rattle.inline_value.proofs.EditDoc.MadeApart.{each_used}
+use Rattle.edit_engine.specs.Commands.{row_of, action_of, is_enabled_in}
+use Rattle.edit_engine.specs.Editing.{Editing, new_editing, undone, redone, going_past, turned_times}
+use Rattle.edit_engine.specs.Execution.{Outcome, Refused, Deep, Full, Acted, depth_limit, host_at, run_at, ran, answered, after_run, run_outcome, command_outcome, outcome_by, gated_outcome}
+use Rattle.edit_engine.specs.Going.{joins_by}
+use Rattle.edit_engine.specs.Logs.{entry_steps, log_steps}
+use Rattle.edit_engine.specs.Places.{pair_at, selecting, unselecting, marking, unmarking}
 use Rattle.edit_session.specs.Replies.{replied, select_reply, is_crowded, mark_reply, exec_reply, undo_reply, redo_reply, act_reply, read_reply, line_reply}
 use Rattle.edit_session.proofs.Grammars.{rests}
 use Rattle.grammar_laws.specs.Proper.{AllNodes, IsText, IsProper, IsProperChange, IsProperNode, IsProperSetting, IsProperState}

@@ -1,17 +1,17 @@
 -- The document that a session leaves is read back.
 use Rattle.std.proofs.Common.{◌≡◌, ℕ, suc, ◌+◌, ◌≤◌, List, [], ◌∷◌, subst, sym, arith}
-use Rattle.edit_session.specs.DomModel.declared.Content.{Content}
-use Rattle.edit_session.specs.DomModel.declared.Content.TheVariants.{Document, Element, Words, Remark}
-use Rattle.edit_session.specs.DomModel.ArenaState.{ArenaState as Arena, IsValid as IsArena}
-use Rattle.edit_session.specs.DomModel.Forest.{Forest, total}
-use Rattle.edit_session.specs.DomModel.Forest.Forest.{Nil, Tree}
-use Rattle.edit_session.specs.DomModel.Places.{kids_in}
-use Rattle.edit_session.proofs.DomModel.Few.{total-few}
-use Rattle.edit_session.specs.EditModel.Valid.{IsForest}
-use Rattle.edit_session.proofs.EditModel.Documents.{document_shape}
-use Rattle.edit_session.specs.EditEngine.Editing.{Editing}
-use Rattle.grammar_laws.specs.PageLaws.Tidy.{label_after, words_before, with_words, tidied}
-use Rattle.grammar_laws.proofs.PageLaws.ReadBack.{document_reading_back}
+use Rattle.edit_model.specs.DomModel.declared.Content.{Content}
+use Rattle.edit_model.specs.DomModel.declared.Content.TheVariants.{Document, Element, Words, Remark}
+use Rattle.edit_model.specs.DomModel.ArenaState.{ArenaState as Arena, IsValid as IsArena}
+use Rattle.edit_model.specs.DomModel.Forest.{Forest, total}
+use Rattle.edit_model.specs.DomModel.Forest.Forest.{Nil, Tree}
+use Rattle.edit_model.specs.DomModel.Places.{kids_in}
+use Rattle.edit_model.proofs.DomModel.Few.{total-few}
+use Rattle.edit_model.specs.Valid.{IsForest}
+use Rattle.edit_model.proofs.Documents.{document_shape}
+use Rattle.edit_engine.specs.Editing.{Editing}
+use Rattle.page_laws.specs.Tidy.{label_after, words_before, with_words, tidied}
+use Rattle.page_laws.proofs.ReadBack.{document_reading_back}
 use Rattle.replay_laws.specs.ReadBack.{SessionReadsBack, LabelsSuffice}
 use Rattle.replay_laws.proofs.Acts.{session_tracked}
 use Rattle.replay_laws.proofs.ProperSessions.{session_proper}

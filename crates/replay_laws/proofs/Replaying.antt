@@ -1,19 +1,19 @@
 -- The log of a session begins with its page, and its steps replay on that.
 use Rattle.std.proofs.Common.{◌≡◌, ℕ, ◌≤◌, Bool, false, List, [], ◌∷◌, ◌++◌, reverse, Ok, refl, sym, ap, subst, ◌∙◌, arith}
 use Rattle.std.proofs.lemmas.List.{reverse-append}
-use Rattle.edit_session.specs.DomModel.declared.Content.{Content}
-use Rattle.edit_session.specs.DomModel.ArenaState.{ArenaState as Arena, IsValid as IsArena}
-use Rattle.edit_session.specs.DomModel.Forest.{Forest}
-use Rattle.edit_session.specs.ForestChanges.Named.{Each}
-use Rattle.edit_session.proofs.ForestChanges.ChangeLists.{each_of}
-use Rattle.edit_session.specs.EditModel.State.{State}
-use Rattle.edit_session.specs.EditModel.History.{Entry, History}
-use Rattle.edit_session.specs.EditDoc.Onward.{at_begin, LeadFrom, HasLedOnward}
-use Rattle.edit_session.specs.EditDoc.Whole.{Whole, IsDoc}
-use Rattle.edit_session.specs.StepText.Applying.{replayed}
-use Rattle.edit_session.specs.EditEngine.Editing.{Editing}
-use Rattle.edit_session.specs.EditEngine.Logs.{log_steps}
-use Rattle.edit_session.specs.EditEngine.Replaying.{StayShallow, IsPlainEntry, page_before, page_of, WasNext, LogReplays}
+use Rattle.edit_model.specs.DomModel.declared.Content.{Content}
+use Rattle.edit_model.specs.DomModel.ArenaState.{ArenaState as Arena, IsValid as IsArena}
+use Rattle.edit_model.specs.DomModel.Forest.{Forest}
+use Rattle.inline_value.specs.ForestChanges.Named.{Each}
+use Rattle.inline_value.proofs.ForestChanges.ChangeLists.{each_of}
+use Rattle.edit_model.specs.State.{State}
+use Rattle.edit_model.specs.History.{Entry, History}
+use Rattle.inline_value.specs.EditDoc.Onward.{at_begin, LeadFrom, HasLedOnward}
+use Rattle.inline_value.specs.EditDoc.Whole.{Whole, IsDoc}
+use Rattle.step_text.specs.Applying.{replayed}
+use Rattle.edit_engine.specs.Editing.{Editing}
+use Rattle.edit_engine.specs.Logs.{log_steps}
+use Rattle.edit_engine.specs.Replaying.{StayShallow, IsPlainEntry, page_before, page_of, WasNext, LogReplays}
 use Rattle.replay_laws.specs.Beginnings.{BeginsWithPage, DrawsNewLabels, IsSpelled, SpellsEntries}
 use Rattle.replay_laws.specs.Steps.{SessionReplays}
 use Rattle.replay_laws.proofs.Acts.{session_tracked}

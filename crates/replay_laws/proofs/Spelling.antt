@@ -3,30 +3,30 @@ use Rattle.std.proofs.Common.{◌≡◌, ◌⊎◌, ℕ, ◌+◌, ◌≤◌, Boo
 use Rattle.std.specs.Option.{option_map, option_map_or}
 use Rattle.std.proofs.lemmas.Bool.Decides.{eqb_tells, nat_tests}
 use Rattle.std.proofs.lemmas.List.{reverse-append}
-use Rattle.edit_session.specs.DomModel.declared.Content.{Content}
-use Rattle.edit_session.specs.DomModel.declared.Content.TheVariants as content
-use Rattle.edit_session.specs.DomModel.Contents.{has_chars, has_chars_at, with_chars, with_attributes}
-use Rattle.edit_session.specs.DomModel.Forest.{Forest, Seen, either, count_of, content_of, parent_of, unlink, with_leaf}
-use Rattle.edit_session.proofs.DomModel.Kept.{content_of-link, content_of-unlink, content_of-with_leaf_new, content_of-with_leaf_other}
-use Rattle.edit_session.proofs.DomModel.Links.{total-with_leaf}
-use Rattle.edit_session.proofs.DomModel.Stands.{seek_absent}
-use Rattle.edit_session.specs.DomModel.declared.attributes.Attribute.{Attribute}
-use Rattle.edit_session.specs.UndoLog.Turning.{FitsForth}
-use Rattle.edit_session.specs.ForestChanges.Change.{Change, Remove, Insert, Move, SetText, Splice, SetAttributes, Fits, applied, spliced_at}
-use Rattle.edit_session.specs.ForestChanges.Leaves.{IsBelow}
-use Rattle.edit_session.specs.ForestChanges.Named.{Each}
-use Rattle.edit_session.proofs.ForestChanges.BesideLeaf.{fresh}
-use Rattle.edit_session.proofs.ForestChanges.ChangeLists.{each_first, each_rest, each_of}
-use Rattle.edit_session.proofs.ForestChanges.Splices.{part_chars}
-use Rattle.edit_session.proofs.ForestChanges.Twice.{IsForest-unlink, given_parent}
-use Rattle.edit_session.specs.EditModel.History.{Entry}
-use Rattle.edit_session.specs.EditLaws.Kinds.{Text, Comment, kind_in, kind_of}
-use Rattle.edit_session.proofs.EditLaws.StayingKinds.{kind_of-revised}
-use Rattle.edit_session.specs.EditDoc.Logged.{content_made, content_in}
-use Rattle.edit_session.specs.EditDoc.Onward.{with_made, RiseFrom, next_past, at_begin, LeadsOnward, LeadOnward, LeadFrom}
-use Rattle.edit_session.specs.StepText.Applying.{is_text}
-use Rattle.edit_session.specs.EditEngine.Editing.{Editing}
-use Rattle.edit_session.specs.EditEngine.Replaying.{ChangesText}
+use Rattle.edit_model.specs.DomModel.declared.Content.{Content}
+use Rattle.edit_model.specs.DomModel.declared.Content.TheVariants as content
+use Rattle.edit_model.specs.DomModel.Contents.{has_chars, has_chars_at, with_chars, with_attributes}
+use Rattle.edit_model.specs.DomModel.Forest.{Forest, Seen, either, count_of, content_of, parent_of, unlink, with_leaf}
+use Rattle.edit_model.proofs.DomModel.Kept.{content_of-link, content_of-unlink, content_of-with_leaf_new, content_of-with_leaf_other}
+use Rattle.edit_model.proofs.DomModel.Links.{total-with_leaf}
+use Rattle.edit_model.proofs.DomModel.Stands.{seek_absent}
+use Rattle.edit_model.specs.DomModel.declared.attributes.Attribute.{Attribute}
+use Rattle.inline_value.specs.UndoLog.Turning.{FitsForth}
+use Rattle.inline_value.specs.ForestChanges.Change.{Change, Remove, Insert, Move, SetText, Splice, SetAttributes, Fits, applied, spliced_at}
+use Rattle.inline_value.specs.ForestChanges.Leaves.{IsBelow}
+use Rattle.inline_value.specs.ForestChanges.Named.{Each}
+use Rattle.inline_value.proofs.ForestChanges.BesideLeaf.{fresh}
+use Rattle.inline_value.proofs.ForestChanges.ChangeLists.{each_first, each_rest, each_of}
+use Rattle.inline_value.proofs.ForestChanges.Splices.{part_chars}
+use Rattle.inline_value.proofs.ForestChanges.Twice.{IsForest-unlink, given_parent}
+use Rattle.edit_model.specs.History.{Entry}
+use Rattle.edit_laws.specs.Kinds.{Text, Comment, kind_in, kind_of}
+use Rattle.edit_laws.proofs.StayingKinds.{kind_of-revised}
+use Rattle.inline_value.specs.EditDoc.Logged.{content_made, content_in}
+use Rattle.inline_value.specs.EditDoc.Onward.{with_made, RiseFrom, next_past, at_begin, LeadsOnward, LeadOnward, LeadFrom}
+use Rattle.step_text.specs.Applying.{is_text}
+use Rattle.edit_engine.specs.Editing.{Editing}
+use Rattle.edit_engine.specs.Replaying.{ChangesText}
 use Rattle.replay_laws.specs.Beginnings.{IsSpelled}
 use Rattle.replay_laws.proofs.Entries.{SparesComments, IsKnown, each_weaker}
 use Rattle.replay_laws.proofs.Leaving.{CanBeMade, IsFrom}

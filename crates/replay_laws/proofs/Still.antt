@@ -1,19 +1,19 @@
 -- A run that makes no edit leaves the document.
 use Rattle.std.proofs.Common.{◌≡◌, ℕ, ◌<◌, Bool, List, [], ◌∷◌, length, Option, refl, ap, ◌∙◌, inl, inr, arith, length-append}
 use Rattle.std.proofs.lemmas.Bool.{cases_Bool}
-use Rattle.edit_session.specs.DomModel.declared.Content.{Content}
-use Rattle.edit_session.proofs.ForestChanges.BesideLeaf.{tree_of-with_leaf}
-use Rattle.edit_session.specs.EditModel.State.{State}
-use Rattle.edit_session.specs.EditModel.Tail.{Step, Copy, Do}
-use Rattle.edit_session.specs.EditModel.Edit.{is_made_edit, changed}
-use Rattle.edit_session.specs.EditModel.Action as action
-use Rattle.edit_session.specs.EditModel.Action.{Action, made, stepped, stepped_all, extracted, tail_of, may_extract, words_content, extended, acted, element_content}
-use Rattle.edit_session.specs.EditModel.History.{document_of, begun}
-use Rattle.edit_session.specs.EditModel.Run.{Reaches, here, onward, changes_in, changes_of, changes_on}
-use Rattle.edit_session.proofs.EditModel.EditLists.{adds_along}
-use Rattle.edit_session.proofs.EditModel.IslandRuns.{trees_left}
-use Rattle.edit_session.proofs.EditModel.OutsideRuns.{trees-extended, trees-selected, trees-grown, trees-sent, trees-scratched}
-use Rattle.edit_session.proofs.EditModel.Steps.{next_along}
+use Rattle.edit_model.specs.DomModel.declared.Content.{Content}
+use Rattle.inline_value.proofs.ForestChanges.BesideLeaf.{tree_of-with_leaf}
+use Rattle.edit_model.specs.State.{State}
+use Rattle.edit_model.specs.Tail.{Step, Copy, Do}
+use Rattle.edit_model.specs.Edit.{is_made_edit, changed}
+use Rattle.edit_model.specs.Action as action
+use Rattle.edit_model.specs.Action.{Action, made, stepped, stepped_all, extracted, tail_of, may_extract, words_content, extended, acted, element_content}
+use Rattle.edit_model.specs.History.{document_of, begun}
+use Rattle.edit_model.specs.Run.{Reaches, here, onward, changes_in, changes_of, changes_on}
+use Rattle.edit_model.proofs.EditLists.{adds_along}
+use Rattle.edit_model.proofs.IslandRuns.{trees_left}
+use Rattle.edit_model.proofs.OutsideRuns.{trees-extended, trees-selected, trees-grown, trees-sent, trees-scratched}
+use Rattle.edit_model.proofs.Steps.{next_along}
 
 -- the document of the second is that of the first
 abbrev StaysIn : State → State → Type 0

@@ -4,19 +4,19 @@ use Rattle.std.specs.Prelude.{nat_lt}
 use Rattle.std.specs.Bool.{MatchBool}
 use Rattle.std.specs.Option.{option_map_or}
 use Rattle.std.proofs.lemmas.Bool.Decides.{nat_tests}
-use Rattle.edit_session.specs.DomModel.declared.Content.TheVariants.{Document}
-use Rattle.edit_session.specs.DomModel.ArenaState.{ArenaState as Arena, IsValid as IsArena}
-use Rattle.edit_session.specs.DomModel.Forest.{Forest}
-use Rattle.edit_session.specs.DomModel.Forest.Forest.{Nil as NoTrees}
-use Rattle.edit_session.specs.ForestChanges.Named.{Each}
-use Rattle.edit_session.specs.PageGrammar.Names.{is_void}
-use Rattle.edit_session.specs.PageGrammar.Nodes.{nodes_of}
-use Rattle.edit_session.specs.PageGrammar.Page.{Siblings, Nil, TextNode, CommentNode, ElementNode, Content, EndTag, IsNil, size}
-use Rattle.edit_session.specs.PageGrammar.Reading.{Children, page_reading}
-use Rattle.edit_session.specs.StepText.Applying.{Labelled, replayed_from}
-use Rattle.edit_session.specs.StepText.StepLine.{IsStepLine, line_text}
-use Rattle.edit_session.specs.EditEngine.Editing.{Editing}
-use Rattle.edit_session.specs.EditEngine.Logs.{log_steps, log_text}
+use Rattle.edit_model.specs.DomModel.declared.Content.TheVariants.{Document}
+use Rattle.edit_model.specs.DomModel.ArenaState.{ArenaState as Arena, IsValid as IsArena}
+use Rattle.edit_model.specs.DomModel.Forest.{Forest}
+use Rattle.edit_model.specs.DomModel.Forest.Forest.{Nil as NoTrees}
+use Rattle.inline_value.specs.ForestChanges.Named.{Each}
+use Rattle.step_text.specs.PageGrammar.Names.{is_void}
+use Rattle.step_text.specs.PageGrammar.Nodes.{nodes_of}
+use Rattle.step_text.specs.PageGrammar.Page.{Siblings, Nil, TextNode, CommentNode, ElementNode, Content, EndTag, IsNil, size}
+use Rattle.step_text.specs.PageGrammar.Reading.{Children, page_reading}
+use Rattle.step_text.specs.Applying.{Labelled, replayed_from}
+use Rattle.step_text.specs.StepLine.{IsStepLine, line_text}
+use Rattle.edit_engine.specs.Editing.{Editing}
+use Rattle.edit_engine.specs.Logs.{log_steps, log_text}
 use Rattle.edit_session.specs.Block.{Whole, before_line, lines_of, block_in, block_of}
 use Rattle.edit_session.specs.Replay.{none_yet, replayed, replay}
 use Rattle.edit_session.specs.Transcript.{input_limit, depth_limit, transcript_of, page_document, replay_ended, replayed_on, replay_block, order_transcript}

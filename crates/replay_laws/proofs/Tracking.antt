@@ -3,20 +3,20 @@ use Rattle.std.proofs.Common.{◌≡◌, ℕ, zero, suc, ◌<◌, ◌≤◌, Boo
 use Rattle.std.specs.Prelude.{◌||◌, nat_le}
 use Rattle.std.proofs.lemmas.Bool.Decides.{nat_tests}
 use Rattle.std.proofs.lemmas.List.{take_all}
-use Rattle.edit_session.specs.HtmlNames.declared.commands.Command.{Command}
-use Rattle.edit_session.specs.DomModel.declared.Content.{Content}
-use Rattle.edit_session.specs.DomModel.Forest.{Forest}
-use Rattle.edit_session.specs.ForestChanges.Named.{Each}
-use Rattle.edit_session.proofs.ForestChanges.ChangeLists.{each_of}
-use Rattle.edit_session.specs.EditModel.State.{State}
-use Rattle.edit_session.specs.EditModel.History.{Entry, History, document_of, view_of, at_view, rested, entry_of, with_entry, joined, joined_in, recorded, undone_state, undone_state_by, undone_history, undone_history_by, redone_state, redone_state_by, redone_history, redone_history_by}
-use Rattle.edit_session.specs.EditModel.Valid.{IsValid}
-use Rattle.edit_session.proofs.EditModel.Resting.{valid_rested, valid_at_view}
-use Rattle.edit_session.proofs.EditLaws.Resting.{document_again}
-use Rattle.edit_session.specs.EditEngine.Editing.{Editing, IsJoinable, stopped_at, undone, redone, going_past}
-use Rattle.edit_session.specs.EditEngine.Execution.{after_run}
-use Rattle.edit_session.specs.EditEngine.Going.{goes_on}
-use Rattle.edit_session.proofs.EditEngine.GoingOn.{recorded_joinable}
+use Rattle.edit_model.specs.HtmlNames.declared.commands.Command.{Command}
+use Rattle.edit_model.specs.DomModel.declared.Content.{Content}
+use Rattle.edit_model.specs.DomModel.Forest.{Forest}
+use Rattle.inline_value.specs.ForestChanges.Named.{Each}
+use Rattle.inline_value.proofs.ForestChanges.ChangeLists.{each_of}
+use Rattle.edit_model.specs.State.{State}
+use Rattle.edit_model.specs.History.{Entry, History, document_of, view_of, at_view, rested, entry_of, with_entry, joined, joined_in, recorded, undone_state, undone_state_by, undone_history, undone_history_by, redone_state, redone_state_by, redone_history, redone_history_by}
+use Rattle.edit_model.specs.Valid.{IsValid}
+use Rattle.edit_model.proofs.Resting.{valid_rested, valid_at_view}
+use Rattle.edit_laws.proofs.Resting.{document_again}
+use Rattle.edit_engine.specs.Editing.{Editing, IsJoinable, stopped_at, undone, redone, going_past}
+use Rattle.edit_engine.specs.Execution.{after_run}
+use Rattle.edit_engine.specs.Going.{goes_on}
+use Rattle.edit_engine.proofs.GoingOn.{recorded_joinable}
 use Rattle.grammar_laws.proofs.Texts.{each_take}
 use Rattle.replay_laws.proofs.Entries.{IsKnown, known_later, entry_known, longer_known}
 use Rattle.replay_laws.proofs.Leaving.{Leaves}

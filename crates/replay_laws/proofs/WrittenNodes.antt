@@ -7,20 +7,20 @@ use Rattle.std.proofs.Math.Utf8.{encodes, scalars, scalar}
 use Rattle.std.proofs.lemmas.Bool.{and_parts}
 use Rattle.std.proofs.lemmas.Bool.Decides.{nat_tests, Decides-eqb}
 use Rattle.std.proofs.lemmas.Str.{IsUtf8-from_is_utf8, encodes-chars, scalars-chars}
-use Rattle.edit_session.specs.DomModel.declared.attributes.Attribute.{Attribute}
-use Rattle.edit_session.specs.DomModel.declared.Content.{Content}
-use Rattle.edit_session.specs.DomModel.declared.Content.TheVariants.{Document, Element, Words, Remark}
-use Rattle.edit_session.specs.DomModel.Contents.{IsNode, may_have_children}
-use Rattle.edit_session.specs.DomModel.Document.{page_depth}
-use Rattle.edit_session.specs.DomModel.Forest.{Forest, Seen, count_of, tops}
-use Rattle.edit_session.specs.DomModel.Forest.Forest.{Nil, Tree}
-use Rattle.edit_session.specs.DomModel.Places.{levels, kids_in}
-use Rattle.edit_session.proofs.DomModel.Stands.{Stands, seek_Stands}
-use Rattle.edit_session.specs.EditModel.Valid.{IsForest}
-use Rattle.edit_session.proofs.EditModel.Documents.{document_shape}
-use Rattle.edit_session.specs.PageGrammar.Chars.{is_letter, is_name_char, is_attribute_name_char, lower}
-use Rattle.grammar_laws.specs.PageLaws.Writable.{IsNameChar, IsElementName, IsKeyChar, IsAttribute, IsWritableNode, IsWritable}
-use Rattle.edit_session.specs.StepText.StepLine.{is_lowered, is_element_name, is_attribute_text, is_attribute_name, AreAttributes}
+use Rattle.edit_model.specs.DomModel.declared.attributes.Attribute.{Attribute}
+use Rattle.edit_model.specs.DomModel.declared.Content.{Content}
+use Rattle.edit_model.specs.DomModel.declared.Content.TheVariants.{Document, Element, Words, Remark}
+use Rattle.edit_model.specs.DomModel.Contents.{IsNode, may_have_children}
+use Rattle.edit_model.specs.DomModel.Document.{page_depth}
+use Rattle.edit_model.specs.DomModel.Forest.{Forest, Seen, count_of, tops}
+use Rattle.edit_model.specs.DomModel.Forest.Forest.{Nil, Tree}
+use Rattle.edit_model.specs.DomModel.Places.{levels, kids_in}
+use Rattle.edit_model.proofs.DomModel.Stands.{Stands, seek_Stands}
+use Rattle.edit_model.specs.Valid.{IsForest}
+use Rattle.edit_model.proofs.Documents.{document_shape}
+use Rattle.step_text.specs.PageGrammar.Chars.{is_letter, is_name_char, is_attribute_name_char, lower}
+use Rattle.page_laws.specs.Writable.{IsNameChar, IsElementName, IsKeyChar, IsAttribute, IsWritableNode, IsWritable}
+use Rattle.step_text.specs.StepLine.{is_lowered, is_element_name, is_attribute_text, is_attribute_name, AreAttributes}
 use Rattle.grammar_laws.specs.Proper.{AllNodes, IsProper}
 use Rattle.replay_laws.specs.ReadBack.{is_void_element, VoidsAreEmpty}
 

@@ -1,12 +1,12 @@
 -- What the log of a session begins with, and what its entries make and change.
 use Rattle.std.specs.Prelude.{◌≡◌, ℕ, true, false}
-use Rattle.edit_session.specs.DomModel.declared.Content.{Content}
-use Rattle.edit_session.specs.DomModel.ArenaState.{ArenaState as Arena}
-use Rattle.edit_session.specs.ForestChanges.Named.{Each}
-use Rattle.edit_session.specs.EditModel.History.{Entry}
-use Rattle.edit_session.specs.EditDoc.Logged.{content_in}
-use Rattle.edit_session.specs.EditEngine.Editing.{Editing}
-use Rattle.edit_session.specs.EditEngine.Replaying.{can_be_made, ChangesText, WasNext, page_of}
+use Rattle.edit_model.specs.DomModel.declared.Content.{Content}
+use Rattle.edit_model.specs.DomModel.ArenaState.{ArenaState as Arena}
+use Rattle.inline_value.specs.ForestChanges.Named.{Each}
+use Rattle.edit_model.specs.History.{Entry}
+use Rattle.inline_value.specs.EditDoc.Logged.{content_in}
+use Rattle.edit_engine.specs.Editing.{Editing}
+use Rattle.edit_engine.specs.Replaying.{can_be_made, ChangesText, WasNext, page_of}
 use Rattle.replay_laws.specs.Sessions.{IsOfSession}
 
 -- the document before the first entry is that of the page

@@ -1,10 +1,10 @@
 -- The lines of a log, as the program reads them.
 use Rattle.std.specs.Prelude.{◌≡◌, ℕ, List, [], ◌∷◌, map, Ok}
-use Rattle.edit_session.specs.ForestChanges.Named.{Each}
-use Rattle.edit_session.specs.StepText.Applying.{Labelled, replayed_from}
-use Rattle.edit_session.specs.StepText.StepLine.{IsStepLine, line_text}
-use Rattle.edit_session.specs.StepText.declared.line.StepLine.{StepLine}
-use Rattle.edit_session.specs.EditEngine.Logs.{step_lines}
+use Rattle.inline_value.specs.ForestChanges.Named.{Each}
+use Rattle.step_text.specs.Applying.{Labelled, replayed_from}
+use Rattle.step_text.specs.StepLine.{IsStepLine, line_text}
+use Rattle.step_text.specs.declared.line.StepLine.{StepLine}
+use Rattle.edit_engine.specs.Logs.{step_lines}
 use Rattle.edit_session.specs.Block.{lines_of}
 use Rattle.edit_session.specs.Replay.{Replayed, tallied, replayed, lines_replayed}
 use Rattle.edit_session.specs.declared.replay.Tally.{Tally}

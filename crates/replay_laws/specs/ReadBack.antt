@@ -1,20 +1,20 @@
 -- The document that a session leaves, printed as HTML and read again.
 use Rattle.std.specs.Prelude.{◌≡◌, ℕ, ◌≤◌, Bool, true, false, List, length}
-use Rattle.edit_session.specs.DomModel.declared.Content.{Content}
-use Rattle.edit_session.specs.DomModel.declared.Content.TheVariants.{Element}
-use Rattle.edit_session.specs.DomModel.ArenaState.{ArenaState as Arena}
-use Rattle.edit_session.specs.DomModel.Document.{page_depth}
-use Rattle.edit_session.specs.DomModel.Forest.{Forest}
-use Rattle.edit_session.specs.DomModel.Forest.Forest.{Nil, Tree}
-use Rattle.edit_session.specs.DomModel.Places.{kids_in}
-use Rattle.edit_session.specs.PageGrammar.Kind.{page_limit}
-use Rattle.edit_session.specs.PageGrammar.Names.{is_void}
-use Rattle.edit_session.specs.PageGrammar.Nodes.{nodes_of}
-use Rattle.edit_session.specs.PageGrammar.Page.{Siblings}
-use Rattle.edit_session.specs.PageGrammar.Reading.{Children, page_reading}
-use Rattle.grammar_laws.specs.PageLaws.Tidy.{label_after, tidied, numbered}
-use Rattle.edit_session.specs.PageWrite.Html.{document_html}
-use Rattle.edit_session.specs.EditEngine.Editing.{Editing}
+use Rattle.edit_model.specs.DomModel.declared.Content.{Content}
+use Rattle.edit_model.specs.DomModel.declared.Content.TheVariants.{Element}
+use Rattle.edit_model.specs.DomModel.ArenaState.{ArenaState as Arena}
+use Rattle.edit_model.specs.DomModel.Document.{page_depth}
+use Rattle.edit_model.specs.DomModel.Forest.{Forest}
+use Rattle.edit_model.specs.DomModel.Forest.Forest.{Nil, Tree}
+use Rattle.edit_model.specs.DomModel.Places.{kids_in}
+use Rattle.step_text.specs.PageGrammar.Kind.{page_limit}
+use Rattle.step_text.specs.PageGrammar.Names.{is_void}
+use Rattle.step_text.specs.PageGrammar.Nodes.{nodes_of}
+use Rattle.step_text.specs.PageGrammar.Page.{Siblings}
+use Rattle.step_text.specs.PageGrammar.Reading.{Children, page_reading}
+use Rattle.page_laws.specs.Tidy.{label_after, tidied, numbered}
+use Rattle.page_write.specs.Html.{document_html}
+use Rattle.edit_engine.specs.Editing.{Editing}
 use Rattle.replay_laws.specs.Sessions.{IsOfSession}
 use Rattle.replay_laws.specs.Texts.{IsReadAs}
 

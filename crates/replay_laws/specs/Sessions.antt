@@ -1,8 +1,8 @@
 -- The editors that sessions come to.
 use Rattle.std.specs.Prelude.{◌≡◌, ℕ, ◌<◌, List, [], ◌∷◌}
-use Rattle.edit_session.specs.DomModel.ArenaState.{ArenaState as Arena}
-use Rattle.edit_session.specs.EditDoc.Whole.{HasNoLoose}
-use Rattle.edit_session.specs.EditEngine.Editing.{Editing, new_editing}
+use Rattle.edit_model.specs.DomModel.ArenaState.{ArenaState as Arena}
+use Rattle.inline_value.specs.EditDoc.Whole.{HasNoLoose}
+use Rattle.edit_engine.specs.Editing.{Editing, new_editing}
 use Rattle.edit_session.specs.Replies.{line_reply}
 
 -- after some lines of acts, where the commands of some names are denied

@@ -1,13 +1,13 @@
 -- The steps of the log of a session, replayed on the nodes of its page.
 use Rattle.std.specs.Prelude.{◌≡◌, ℕ, ◌≤◌, false, Ok}
-use Rattle.edit_session.specs.DomModel.ArenaState.{ArenaState as Arena}
-use Rattle.edit_session.specs.ForestChanges.Named.{Each}
-use Rattle.edit_session.specs.EditModel.History.{Entry, document_of}
-use Rattle.edit_session.specs.EditDoc.Onward.{at_begin}
-use Rattle.edit_session.specs.StepText.Applying.{Labelled, replayed}
-use Rattle.edit_session.specs.EditEngine.Editing.{Editing}
-use Rattle.edit_session.specs.EditEngine.Logs.{log_steps}
-use Rattle.edit_session.specs.EditEngine.Replaying.{StayShallow}
+use Rattle.edit_model.specs.DomModel.ArenaState.{ArenaState as Arena}
+use Rattle.inline_value.specs.ForestChanges.Named.{Each}
+use Rattle.edit_model.specs.History.{Entry, document_of}
+use Rattle.inline_value.specs.EditDoc.Onward.{at_begin}
+use Rattle.step_text.specs.Applying.{Labelled, replayed}
+use Rattle.edit_engine.specs.Editing.{Editing}
+use Rattle.edit_engine.specs.Logs.{log_steps}
+use Rattle.edit_engine.specs.Replaying.{StayShallow}
 use Rattle.replay_laws.specs.Sessions.{IsOfSession}
 
 -- after each edit of the entries no node of the document is deeper than 1,000

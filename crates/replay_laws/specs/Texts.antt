@@ -1,11 +1,11 @@
 -- The text of the log of a session after its page block, as `replay` answers it.
 use Rattle.std.specs.Prelude.{◌≡◌, ℕ, suc, ◌≤◌, false, List, [], ◌∷◌, ◌++◌, length, codes}
-use Rattle.edit_session.specs.DomModel.ArenaState.{ArenaState as Arena}
-use Rattle.edit_session.specs.PageGrammar.Nodes.{document_of}
-use Rattle.edit_session.specs.PageGrammar.Page.{Siblings, size}
-use Rattle.edit_session.specs.PageGrammar.Reading.{Children, page_reading}
-use Rattle.edit_session.specs.EditEngine.Editing.{Editing}
-use Rattle.edit_session.specs.EditEngine.Logs.{log_steps, log_text}
+use Rattle.edit_model.specs.DomModel.ArenaState.{ArenaState as Arena}
+use Rattle.step_text.specs.PageGrammar.Nodes.{document_of}
+use Rattle.step_text.specs.PageGrammar.Page.{Siblings, size}
+use Rattle.step_text.specs.PageGrammar.Reading.{Children, page_reading}
+use Rattle.edit_engine.specs.Editing.{Editing}
+use Rattle.edit_engine.specs.Logs.{log_steps, log_text}
 use Rattle.edit_session.specs.Block.{Whole, block_of}
 use Rattle.edit_session.specs.Replay.{none_yet}
 use Rattle.edit_session.specs.Transcript.{input_limit, depth_limit, transcript_of, replayed_text, transcript}

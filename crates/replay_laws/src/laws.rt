@@ -6,8 +6,8 @@ ghost use Rattle.replay_laws.specs.ReadBack.{LabelsSuffice, SessionReadsBack};
 ghost use Rattle.replay_laws.specs.Steps.{SessionReplays};
 ghost use Rattle.replay_laws.specs.Texts.{SessionTextReplays};
 
-use edit_session::arena::Arena;
-use edit_session::engine::Editor;
+use edit_engine::Editor;
+use edit_model::arena::Arena;
 
 /// The text of steps has a line for each of them, and where steps that lines stand for are replayed
 /// `replay` takes their lines.

@@ -1,6 +1,6 @@
 -- The commands on blocks place no point by themselves.
-use Rattle.edit_commands.specs.BlockCommands.FormatBlock.{format_block, format_container, format_line, format_next, format_range, leave_blocks, make_block, split_blocks}
-use Rattle.edit_commands.specs.BlockCommands.Justify.{align_next, clear_alignment, clear_alignments, drop_plain, justify}
+use Rattle.block_commands.specs.FormatBlock.{format_block, format_container, format_line, format_next, format_range, leave_blocks, make_block, split_blocks}
+use Rattle.block_commands.specs.Justify.{align_next, clear_alignment, clear_alignments, drop_plain, justify}
 use Rattle.edit_laws.proofs.HostRuns.{Calm, calm_parts}
 use Rattle.selection_laws.proofs.CalmMoves.{calm_set_tag_name}
 use Rattle.selection_laws.proofs.CalmValues.{calm_fix_ancestors, calm_record_values, calm_restore_values, calm_unset_style}

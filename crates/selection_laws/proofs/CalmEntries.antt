@@ -1,5 +1,5 @@
 -- What the delete command does to lists places no point by itself.
-use Rattle.edit_commands.specs.TextDeletion.Entries.{lift_entry, outdent_line, part_entries, part_entry}
+use Rattle.text_deletion.specs.Entries.{lift_entry, outdent_line, part_entries, part_entry}
 use Rattle.edit_laws.proofs.HostRuns.{Calm, calm_parts}
 use Rattle.selection_laws.proofs.CalmIndents.{calm_normalize_sublists, calm_outdent_node}
 use Rattle.selection_laws.proofs.CalmLines.{calm_rename_stray}

@@ -1,9 +1,9 @@
 -- Canonicalizing whitespace, and what a deletion removes and moves, place no point by themselves.
 use Rattle.std.specs.Prelude.{Some, None}
-use Rattle.edit_commands.specs.DeleteCore.Ends.{canonicalize_end, canonicalize_start}
-use Rattle.edit_commands.specs.DeleteCore.Erasing.{cut_after, cut_before, fill_hollow, remove_node, remove_nodes, remove_under, removed_up, strip_empty, strip_from}
-use Rattle.edit_commands.specs.DeleteCore.Merging.{drop_block, drop_break_before, drop_emptied, drop_last_break, drop_parted, drop_prop, drop_sole, drop_soles, fill_empty, finish, finish_if, join_lists, join_lists_at, join_next, join_once, merge_content, part_lines, remove_own, split_line, split_out, take_children, take_following, take_line, take_out_line}
-use Rattle.edit_commands.specs.DeleteCore.Whitespace.{canonicalize, canonicalize_from, laid_between, lay_all, lay_char, lay_out, lay_text, lay_turn, put_space, scan_blank, scan_blanks, scan_char, scan_turn, trim_char, trim_turn, trimmed, trimmed_if}
+use Rattle.delete_core.specs.Ends.{canonicalize_end, canonicalize_start}
+use Rattle.delete_core.specs.Erasing.{cut_after, cut_before, fill_hollow, remove_node, remove_nodes, remove_under, removed_up, strip_empty, strip_from}
+use Rattle.delete_core.specs.Merging.{drop_block, drop_break_before, drop_emptied, drop_last_break, drop_parted, drop_prop, drop_sole, drop_soles, fill_empty, finish, finish_if, join_lists, join_lists_at, join_next, join_once, merge_content, part_lines, remove_own, split_line, split_out, take_children, take_following, take_line, take_out_line}
+use Rattle.delete_core.specs.Whitespace.{canonicalize, canonicalize_from, laid_between, lay_all, lay_char, lay_out, lay_text, lay_turn, put_space, scan_blank, scan_blanks, scan_char, scan_turn, trim_char, trim_turn, trimmed, trimmed_if}
 use Rattle.edit_laws.proofs.HostRuns.{Calm, calm_parts}
 use Rattle.selection_laws.proofs.CalmMoves.{calm_insert_after, calm_make_break, calm_move_each_last}
 use Rattle.selection_laws.proofs.CalmValues.{calm_restore_values}

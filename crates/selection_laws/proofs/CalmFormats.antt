@@ -1,9 +1,9 @@
 -- What the inline commands do once the texts at the ends are split places no point by itself.
-use Rattle.edit_commands.specs.InlineCommands.Linking.{relink, relink_range}
-use Rattle.edit_commands.specs.InlineCommands.RemovingFormat.{part_from_format, part_nodes, unwrap_candidates}
-use Rattle.edit_commands.specs.InlineCommands.RestoringStates.{override_by, set_override}
-use Rattle.edit_commands.specs.InlineCommands.Unlink.{clear_links, unlink}
-use Rattle.edit_commands.specs.EditModel.declared.settings.Setting.TheVariants.{Absent}
+use Rattle.inline_commands.specs.Linking.{relink, relink_range}
+use Rattle.inline_commands.specs.RemovingFormat.{part_from_format, part_nodes, unwrap_candidates}
+use Rattle.inline_commands.specs.RestoringStates.{override_by, set_override}
+use Rattle.inline_commands.specs.Unlink.{clear_links, unlink}
+use Rattle.edit_model.specs.declared.settings.Setting.TheVariants.{Absent}
 use Rattle.edit_laws.proofs.HostRuns.{Calm, calm_parts, calm_answer}
 use Rattle.selection_laws.proofs.CalmMoves.{calm_unwrap}
 use Rattle.selection_laws.proofs.CalmValues.{calm_clear_one}

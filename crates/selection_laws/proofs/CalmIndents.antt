@@ -1,11 +1,11 @@
 -- Indenting and outdenting place no point by themselves.
 use Rattle.std.specs.Prelude.{ℕ, zero, suc, List, [], ◌∷◌}
-use Rattle.edit_commands.specs.ListIndent.Commands.{indent, indent_nodes, normalize_before, normalize_range, outdent, outdent_nodes, outdent_series, split_items}
-use Rattle.edit_commands.specs.ListIndent.Indenting.{indent_list, nested, quoted}
-use Rattle.edit_commands.specs.ListIndent.Outdenting.{outdent_along, outdent_list, outdent_node, outdent_through, part_around, part_level, part_levels, released, to_div, unboxed, unindented, unwrapped}
-use Rattle.edit_commands.specs.ListIndent.Series.{for_series, series_at_most}
-use Rattle.edit_commands.specs.ListIndent.Sublists.{follower_of, handed_on, make_follower, normalize_sublists, part_last}
-use Rattle.edit_commands.specs.EditModel.Run.{Run}
+use Rattle.list_indent.specs.Commands.{indent, indent_nodes, normalize_before, normalize_range, outdent, outdent_nodes, outdent_series, split_items}
+use Rattle.list_indent.specs.Indenting.{indent_list, nested, quoted}
+use Rattle.list_indent.specs.Outdenting.{outdent_along, outdent_list, outdent_node, outdent_through, part_around, part_level, part_levels, released, to_div, unboxed, unindented, unwrapped}
+use Rattle.list_indent.specs.Series.{for_series, series_at_most}
+use Rattle.list_indent.specs.Sublists.{follower_of, handed_on, make_follower, normalize_sublists, part_last}
+use Rattle.edit_model.specs.Run.{Run}
 use Rattle.edit_laws.proofs.HostRuns.{Calm, calm_parts, calm_answer, calm_bind, calm_look}
 use Rattle.selection_laws.proofs.CalmMoves.{calm_insert_after, calm_move_after, calm_move_first, calm_set_tag_name}
 use Rattle.selection_laws.proofs.CalmValues.{calm_fix_ancestors, calm_record_values, calm_restore_values, calm_unset_style}

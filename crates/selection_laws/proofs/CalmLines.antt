@@ -1,9 +1,9 @@
 -- Of inserting a paragraph, what comes before and between the places of the caret places no point by itself.
-use Rattle.edit_commands.specs.TextInsertion.Containers.{make_container, wrap_line}
-use Rattle.edit_commands.specs.TextInsertion.Entries.{leave_list, rename_stray}
-use Rattle.edit_commands.specs.TextInsertion.Halves.{fill_hidden, make_second}
-use Rattle.edit_commands.specs.TextInsertion.Start.{insert_at, insert_at_start}
-use Rattle.edit_commands.specs.TextInsertion.Typing.{drop_sole_break}
+use Rattle.text_insertion.specs.Containers.{make_container, wrap_line}
+use Rattle.text_insertion.specs.Entries.{leave_list, rename_stray}
+use Rattle.text_insertion.specs.Halves.{fill_hidden, make_second}
+use Rattle.text_insertion.specs.Start.{insert_at, insert_at_start}
+use Rattle.text_insertion.specs.Typing.{drop_sole_break}
 use Rattle.edit_laws.proofs.HostRuns.{Calm, calm_parts}
 use Rattle.selection_laws.proofs.CalmErasing.{calm_fill_empty}
 use Rattle.selection_laws.proofs.CalmMoves.{calm_set_tag_name}

@@ -1,7 +1,7 @@
 -- What toggling lists does to lines and lists places no point by itself.
-use Rattle.edit_commands.specs.ListToggle.Collecting.{collect_items, collect_next, make_item, wrap_line}
-use Rattle.edit_commands.specs.ListToggle.Converting.{convert_list, move_items}
-use Rattle.edit_commands.specs.ListToggle.Toggle.{enlist_next, place_items, release_all, release_series, toggle_off}
+use Rattle.list_toggle.specs.Collecting.{collect_items, collect_next, make_item, wrap_line}
+use Rattle.list_toggle.specs.Converting.{convert_list, move_items}
+use Rattle.list_toggle.specs.Toggle.{enlist_next, place_items, release_all, release_series, toggle_off}
 use Rattle.edit_laws.proofs.HostRuns.{Calm, calm_parts}
 use Rattle.selection_laws.proofs.CalmIndents.{calm_for_series, calm_outdent_node, calm_split_items}
 use Rattle.selection_laws.proofs.CalmMoves.{calm_set_tag_name}

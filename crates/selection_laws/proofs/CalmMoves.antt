@@ -1,6 +1,6 @@
 -- Moves, and setting a tag name, place no point by themselves.
-use Rattle.edit_commands.specs.EditModel.Compositions.{renamed, set_tag_name}
-use Rattle.edit_commands.specs.EditModel.Moves.{insert_after, insert_before, make_break, move_after, move_all_after, move_all_before, move_all_first, move_before, move_each_last, move_first, unwrap}
+use Rattle.edit_model.specs.Compositions.{renamed, set_tag_name}
+use Rattle.edit_model.specs.Moves.{insert_after, insert_before, make_break, move_after, move_all_after, move_all_before, move_all_first, move_before, move_each_last, move_first, unwrap}
 use Rattle.edit_laws.proofs.HostRuns.{Calm, calm_parts}
 
 pub calm_insert_before : (o : _) (n : _) → Calm (insert_before o n)

@@ -1,6 +1,6 @@
 -- Of inserting objects, what is done beside the object places no point by itself.
-use Rattle.edit_commands.specs.InsertObjects.Image.{drop_lone_break}
-use Rattle.edit_commands.specs.InsertObjects.LineBreak.{repeat_break}
+use Rattle.insert_objects.specs.Image.{drop_lone_break}
+use Rattle.insert_objects.specs.LineBreak.{repeat_break}
 use Rattle.edit_laws.proofs.HostRuns.{Calm, calm_parts}
 use Rattle.selection_laws.proofs.CalmLines.{calm_insert_at_start}
 use Rattle.selection_laws.proofs.CalmMoves.{calm_make_break}

@@ -1,19 +1,19 @@
 -- Clearing, forcing and pushing down values, and fixing ancestors, place no point by themselves.
 use Rattle.std.specs.Prelude.{ℕ, zero, suc, [], ◌∷◌, Some, None}
-use Rattle.edit_commands.specs.InlineValue.Ancestors.{fix_ancestors, lift, lift_renamed, lifted, part_child, part_children, rename, replace_misplaced, split_out, wrap_description}
-use Rattle.edit_commands.specs.InlineValue.Clearing.{clear_value, drop_attribute, drop_hint, drop_line, drop_link, drop_property, drop_word, span_for, stripped, unwrapped, write_words}
-use Rattle.edit_commands.specs.InlineValue.Forcing.{clear_way, confirm_value, force, force_child, force_heirs, force_node, force_self, force_value, forced, joined, make_wrapper, put_in, rename_link, rename_links, reorder_next, reorder_prev, style_by, style_wrapper, taken_back, unless_alike, wrapped}
-use Rattle.edit_commands.specs.InlineValue.Pushing.{clear_level, push_down, push_from, push_level, push_levels, push_listed, push_to}
-use Rattle.edit_commands.specs.InlineValue.Recording.{record_values, restore_value, restore_values, restored_to}
-use Rattle.edit_commands.specs.InlineValue.Reordering.{reorder, reorder_with, swapped}
-use Rattle.edit_commands.specs.InlineValue.Selections.{clear_elements, clear_one, force_phrase, give_node, give_nodes, set_overrides, unset_rival}
-use Rattle.edit_commands.specs.InlineValue.Styling.{set_style, unset_style, write_text}
-use Rattle.edit_commands.specs.CommandValue.declared.subject.Subject.TheVariants.{Line, Link}
-use Rattle.edit_commands.specs.HtmlNames.declared.commands.Command.TheVariants as command
-use Rattle.edit_commands.specs.DomModel.Forest.{first_in}
-use Rattle.edit_commands.specs.CommandValue.SpecifiedValues.{specified}
-use Rattle.edit_commands.specs.InlineValue.Pushing.{own_or}
-use Rattle.edit_commands.specs.EditModel.Run.{Run}
+use Rattle.inline_value.specs.Ancestors.{fix_ancestors, lift, lift_renamed, lifted, part_child, part_children, rename, replace_misplaced, split_out, wrap_description}
+use Rattle.inline_value.specs.Clearing.{clear_value, drop_attribute, drop_hint, drop_line, drop_link, drop_property, drop_word, span_for, stripped, unwrapped, write_words}
+use Rattle.inline_value.specs.Forcing.{clear_way, confirm_value, force, force_child, force_heirs, force_node, force_self, force_value, forced, joined, make_wrapper, put_in, rename_link, rename_links, reorder_next, reorder_prev, style_by, style_wrapper, taken_back, unless_alike, wrapped}
+use Rattle.inline_value.specs.Pushing.{clear_level, push_down, push_from, push_level, push_levels, push_listed, push_to}
+use Rattle.inline_value.specs.Recording.{record_values, restore_value, restore_values, restored_to}
+use Rattle.inline_value.specs.Reordering.{reorder, reorder_with, swapped}
+use Rattle.inline_value.specs.Selections.{clear_elements, clear_one, force_phrase, give_node, give_nodes, set_overrides, unset_rival}
+use Rattle.inline_value.specs.Styling.{set_style, unset_style, write_text}
+use Rattle.inline_value.specs.CommandValue.declared.subject.Subject.TheVariants.{Line, Link}
+use Rattle.edit_model.specs.HtmlNames.declared.commands.Command.TheVariants as command
+use Rattle.edit_model.specs.DomModel.Forest.{first_in}
+use Rattle.inline_value.specs.CommandValue.SpecifiedValues.{specified}
+use Rattle.inline_value.specs.Pushing.{own_or}
+use Rattle.edit_model.specs.Run.{Run}
 use Rattle.edit_laws.proofs.HostRuns.{Calm, calm_parts, calm_answer, calm_bind, calm_look}
 use Rattle.selection_laws.proofs.CalmMoves.{calm_insert_after, calm_insert_before, calm_move_all_before, calm_move_before, calm_set_tag_name, calm_unwrap}
 use Rattle.selection_laws.proofs.CalmWraps.{calm_split_around, calm_split_parent, calm_wrap}

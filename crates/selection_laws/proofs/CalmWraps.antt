@@ -1,8 +1,8 @@
 -- Splitting parents and wrapping nodes place no point by themselves.
-use Rattle.edit_commands.specs.WrapSplit.Breaks.{breaks_at_end, breaks_before, breaks_from}
-use Rattle.edit_commands.specs.WrapSplit.Split.{break_after, break_before, clear_before, close, copied, copy_front, drop_first_break, remove_keeping_children, split_around, split_at, split_end, split_marked, split_members, split_parent, split_rest, tidy_after}
-use Rattle.edit_commands.specs.WrapSplit.Target.{made_by, made_of, target}
-use Rattle.edit_commands.specs.WrapSplit.Wrap.{append_all, append_break, drop_empty, drop_parent, filled, filled_from, grow_at, insert_if_loose, into_target, merge_next, merged, move_children, moved_in, parted_front, prepend_all, prepend_break, separate_with_br, wrap, wrap_ends, wrap_list, wrap_members}
+use Rattle.inline_value.specs.WrapSplit.Breaks.{breaks_at_end, breaks_before, breaks_from}
+use Rattle.inline_value.specs.WrapSplit.Split.{break_after, break_before, clear_before, close, copied, copy_front, drop_first_break, remove_keeping_children, split_around, split_at, split_end, split_marked, split_members, split_parent, split_rest, tidy_after}
+use Rattle.inline_value.specs.WrapSplit.Target.{made_by, made_of, target}
+use Rattle.inline_value.specs.WrapSplit.Wrap.{append_all, append_break, drop_empty, drop_parent, filled, filled_from, grow_at, insert_if_loose, into_target, merge_next, merged, move_children, moved_in, parted_front, prepend_all, prepend_break, separate_with_br, wrap, wrap_ends, wrap_list, wrap_members}
 use Rattle.edit_laws.proofs.HostRuns.{Calm, calm_parts}
 use Rattle.selection_laws.proofs.CalmMoves.{calm_insert_after, calm_insert_before, calm_make_break, calm_move_all_after, calm_move_all_before, calm_move_all_first, calm_move_each_last}
 

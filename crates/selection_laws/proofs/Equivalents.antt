@@ -5,23 +5,23 @@ use Rattle.std.specs.Prelude.{◌==◌}
 use Rattle.std.specs.Option.{option_map}
 use Rattle.std.proofs.lemmas.Bool.{and_parts}
 use Rattle.std.proofs.lemmas.Bool.Decides.{eqb_tells}
-use Rattle.edit_commands.specs.DomModel.declared.Content.{Content}
-use Rattle.edit_commands.specs.DomModel.Contents.{length_of}
-use Rattle.edit_commands.specs.DomModel.Forest.{Forest, count_of, IsDistinct, IsWithin, parent_of, depth_of}
-use Rattle.edit_commands.specs.DomModel.Places.{index_of}
-use Rattle.edit_commands.proofs.DomModel.Links.{parent_count}
-use Rattle.edit_commands.proofs.DomModel.Within.{within_self, within_child, within_parent, within_step, within_up, depth_of-parent}
-use Rattle.edit_commands.specs.LiveRange.declared.places.Point.{Point}
-use Rattle.edit_commands.specs.PointOrder.PointOrder.{is_before}
-use Rattle.edit_commands.specs.NodeStyles.Blocks.{is_block}
-use Rattle.edit_commands.specs.NodeStyles.TurnBound.{turn_bound}
-use Rattle.edit_commands.specs.NodeTests.BlockPoints.{child_before, child_at}
-use Rattle.edit_commands.specs.NodeTests.Listing.{Follows, Precedes}
-use Rattle.edit_commands.proofs.NodeTests.Reaching.{after_it, before_it, order}
-use Rattle.edit_commands.specs.EditModel.Confined.{is_there}
-use Rattle.edit_commands.proofs.EditModel.Trees.{within_trans}
-use Rattle.edit_commands.specs.DeleteCore.Equivalent.{if_enterable, into_after, into_before, out_after, out_before, next_point, previous_point, last_equivalent, first_equivalent}
-use Rattle.edit_commands.specs.DeleteCore.Places.{at, start_in, end_in, before_node, after_node, comes_before}
+use Rattle.edit_model.specs.DomModel.declared.Content.{Content}
+use Rattle.edit_model.specs.DomModel.Contents.{length_of}
+use Rattle.edit_model.specs.DomModel.Forest.{Forest, count_of, IsDistinct, IsWithin, parent_of, depth_of}
+use Rattle.edit_model.specs.DomModel.Places.{index_of}
+use Rattle.edit_model.proofs.DomModel.Links.{parent_count}
+use Rattle.edit_model.proofs.DomModel.Within.{within_self, within_child, within_parent, within_step, within_up, depth_of-parent}
+use Rattle.edit_model.specs.LiveRange.declared.places.Point.{Point}
+use Rattle.edit_model.specs.PointOrder.PointOrder.{is_before}
+use Rattle.inline_value.specs.NodeStyles.Blocks.{is_block}
+use Rattle.inline_value.specs.NodeStyles.TurnBound.{turn_bound}
+use Rattle.inline_value.specs.NodeTests.BlockPoints.{child_before, child_at}
+use Rattle.inline_value.specs.NodeTests.Listing.{Follows, Precedes}
+use Rattle.inline_value.proofs.NodeTests.Reaching.{after_it, before_it, order}
+use Rattle.edit_model.specs.Confined.{is_there}
+use Rattle.edit_model.proofs.Trees.{within_trans}
+use Rattle.delete_core.specs.Equivalent.{if_enterable, into_after, into_before, out_after, out_before, next_point, previous_point, last_equivalent, first_equivalent}
+use Rattle.delete_core.specs.Places.{at, start_in, end_in, before_node, after_node, comes_before}
 use Rattle.selection_laws.proofs.Kids.{parent_at, index_at}
 use Rattle.selection_laws.proofs.Points.{walk_keeps, some_if, some_mapped}
 

@@ -3,10 +3,10 @@ use Rattle.std.proofs.Common.{◌≡◌, ℕ, zero, suc, ◌<◌, ◌≤◌, Lis
 use Rattle.std.specs.Prelude.{slice_get}
 use Rattle.std.specs.Option.{option_map_or}
 use Rattle.std.proofs.lemmas.Bool.Decides.{eqb_tells}
-use Rattle.edit_commands.specs.DomModel.declared.Content.{Content}
-use Rattle.edit_commands.specs.DomModel.Forest.{Forest, Seen, seek, IsDistinct, times, parent_of, children_of}
-use Rattle.edit_commands.specs.DomModel.Places.{place_in, index_of}
-use Rattle.edit_commands.proofs.DomModel.Links.{parent_of_child, found_stands, times-children_of}
+use Rattle.edit_model.specs.DomModel.declared.Content.{Content}
+use Rattle.edit_model.specs.DomModel.Forest.{Forest, Seen, seek, IsDistinct, times, parent_of, children_of}
+use Rattle.edit_model.specs.DomModel.Places.{place_in, index_of}
+use Rattle.edit_model.proofs.DomModel.Links.{parent_of_child, found_stands, times-children_of}
 
 get_times : (xs : List ℕ) (i k : ℕ) → slice_get xs i ≡ Some k → 0 < times xs k
 get_times [] i k e = absurd (let t = e in cc)

@@ -3,25 +3,25 @@ use Rattle.std.proofs.Common.{◌≡◌, ◌≢◌, ℕ, zero, suc, Bool, true, 
 use Rattle.std.specs.Prelude.{slice_get, unwrap_or}
 use Rattle.std.specs.Option.{option_map, option_map_or}
 use Rattle.std.proofs.lemmas.Bool.{eq-eqb}
-use Rattle.edit_commands.specs.DomModel.declared.Content.{Content}
-use Rattle.edit_commands.specs.DomModel.declared.Content.TheVariants.{Document, Element, Words, Remark}
-use Rattle.edit_commands.specs.DomModel.Contents.{has_chars, has_chars_at}
-use Rattle.edit_commands.specs.DomModel.Forest.{Forest, either, is_label, parent_of, children_of, last_of, content_of}
-use Rattle.edit_commands.proofs.DomModel.Neighbours.{parent_of-last}
-use Rattle.edit_commands.specs.LiveRange.declared.places.Point.{Point}
-use Rattle.edit_commands.specs.LiveRange.declared.places.Pair.{Pair}
-use Rattle.edit_commands.specs.NodeTests.BlockPoints.{child_before, child_at}
-use Rattle.edit_commands.specs.NodeTests.CollapsedWhitespace.{is_words_content, is_words}
-use Rattle.edit_commands.specs.EditModel.State.{State}
-use Rattle.edit_commands.specs.EditModel.Confined.{is_inside}
+use Rattle.edit_model.specs.DomModel.declared.Content.{Content}
+use Rattle.edit_model.specs.DomModel.declared.Content.TheVariants.{Document, Element, Words, Remark}
+use Rattle.edit_model.specs.DomModel.Contents.{has_chars, has_chars_at}
+use Rattle.edit_model.specs.DomModel.Forest.{Forest, either, is_label, parent_of, children_of, last_of, content_of}
+use Rattle.edit_model.proofs.DomModel.Neighbours.{parent_of-last}
+use Rattle.edit_model.specs.LiveRange.declared.places.Point.{Point}
+use Rattle.edit_model.specs.LiveRange.declared.places.Pair.{Pair}
+use Rattle.inline_value.specs.NodeTests.BlockPoints.{child_before, child_at}
+use Rattle.inline_value.specs.NodeTests.CollapsedWhitespace.{is_words_content, is_words}
+use Rattle.edit_model.specs.State.{State}
+use Rattle.edit_model.specs.Confined.{is_inside}
 use Rattle.edit_laws.specs.InHost.{IsNear, IsNearPair, IsInHost}
 use Rattle.edit_laws.specs.Kinds as kinds
 use Rattle.edit_laws.specs.Kinds.{Kind, kind_in}
 use Rattle.edit_laws.proofs.Nearness.{near_child_of, near_parent_of}
-use Rattle.edit_commands.specs.EditActions.ActiveRange.{start_of, end_of}
-use Rattle.edit_commands.specs.WrapSplit.Walks.{walk, followed}
-use Rattle.edit_commands.specs.DeleteCore.Places.{at, before_node, after_node, led_on, walk_points}
-use Rattle.edit_commands.specs.TextInsertion.Start.{active_start, if_point_inside, start_inside}
+use Rattle.inline_value.specs.EditActions.ActiveRange.{start_of, end_of}
+use Rattle.inline_value.specs.WrapSplit.Walks.{walk, followed}
+use Rattle.delete_core.specs.Places.{at, before_node, after_node, led_on, walk_points}
+use Rattle.text_insertion.specs.Start.{active_start, if_point_inside, start_inside}
 use Rattle.selection_laws.proofs.Kids.{parent_at}
 
 -- ---- walks keep what each step keeps

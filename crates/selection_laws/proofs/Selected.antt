@@ -1,14 +1,14 @@
 -- Runs that go on from the selection, or from the start of the active range: it is near.
 use Rattle.std.proofs.Common.{ℕ, Bool}
-use Rattle.edit_commands.specs.DomModel.declared.Content.{Content}
-use Rattle.edit_commands.specs.DomModel.Forest.{Forest}
-use Rattle.edit_commands.specs.LiveRange.declared.places.Point.{Point}
-use Rattle.edit_commands.specs.LiveRange.declared.places.Pair.{Pair}
-use Rattle.edit_commands.specs.EditModel.State.{State}
-use Rattle.edit_commands.specs.EditModel.Run.{Run, look, given}
+use Rattle.edit_model.specs.DomModel.declared.Content.{Content}
+use Rattle.edit_model.specs.DomModel.Forest.{Forest}
+use Rattle.edit_model.specs.LiveRange.declared.places.Point.{Point}
+use Rattle.edit_model.specs.LiveRange.declared.places.Pair.{Pair}
+use Rattle.edit_model.specs.State.{State}
+use Rattle.edit_model.specs.Run.{Run, look, given}
 use Rattle.edit_laws.specs.InHost.{IsNear, IsNearPair, IsInHost}
 use Rattle.edit_laws.proofs.HostRuns.{Stays, stays_look, stays_known}
-use Rattle.edit_commands.specs.TextInsertion.Start.{active_start, start_inside}
+use Rattle.text_insertion.specs.Start.{active_start, start_inside}
 use Rattle.selection_laws.proofs.Points.{NearAt, known_start, known_inside}
 
 module _ (outer : Forest Content) (h : ℕ) (kept : Bool) where

@@ -2,23 +2,23 @@
 use Rattle.std.proofs.Common.{ℕ, Bool, true, false, ◌&&◌, ◌||◌, not, eqb, if◌then◌else◌, Option, Some, None, IfSome, refl}
 use Rattle.std.specs.Option.{option_and_then}
 use Rattle.std.proofs.lemmas.Bool.{and_parts}
-use Rattle.edit_commands.specs.DomModel.declared.Content.{Content}
-use Rattle.edit_commands.specs.DomModel.Contents.{is_break, is_image}
-use Rattle.edit_commands.specs.DomModel.Forest.{Forest}
-use Rattle.edit_commands.specs.LiveRange.declared.places.Point.{Point}
-use Rattle.edit_commands.specs.NodeStyles.Blocks.{is_block}
-use Rattle.edit_commands.specs.NodeTests.BlockPoints.{child_before}
-use Rattle.edit_commands.specs.EditModel.State.{State}
+use Rattle.edit_model.specs.DomModel.declared.Content.{Content}
+use Rattle.edit_model.specs.DomModel.Contents.{is_break, is_image}
+use Rattle.edit_model.specs.DomModel.Forest.{Forest}
+use Rattle.edit_model.specs.LiveRange.declared.places.Point.{Point}
+use Rattle.inline_value.specs.NodeStyles.Blocks.{is_block}
+use Rattle.inline_value.specs.NodeTests.BlockPoints.{child_before}
+use Rattle.edit_model.specs.State.{State}
 use Rattle.edit_laws.specs.InHost.{IsNear, IsNearPair, IsInHost}
 use Rattle.edit_laws.proofs.HostRuns.{Stays, StaysWith, calm_edit, stays_parts, stays_calm, stays_answer, stays_bind, stays_look, stays_look_at, stays_if, stays_known, stays_perform, stays_from, gives_answer, gives_after, gives_look, gives_given, gives_known, gives_while}
-use Rattle.edit_commands.specs.EditActions.ActiveRange.{start_of}
-use Rattle.edit_commands.specs.WrapSplit.Walks.{turn_bound}
-use Rattle.edit_commands.specs.DeleteCore.declared.deletion.TheConstants.Manner.{DEFAULT, BACKWARD}
-use Rattle.edit_commands.specs.DeleteCore.Places.{start_in, end_in}
-use Rattle.edit_commands.specs.TextInsertion.Entries.{is_entry}
-use Rattle.edit_commands.specs.TextDeletion.Approach.{moved_to, halted, ended, begun_at, goes_on, is_affected_host, drop_child, hidden_prev, hidden_child, out_of_node, link_before, into_child, back_turn, go_back, out_of_start, climb_turn, climb}
-use Rattle.edit_commands.specs.TextDeletion.Delete.{follows_single, erase_single, erase_line, into_last, deepest_before, between_entries, joined, join, delete_across, delete_from, delete_at_caret, delete}
-use Rattle.edit_commands.specs.TextDeletion.Entries.{starts_entry}
+use Rattle.inline_value.specs.EditActions.ActiveRange.{start_of}
+use Rattle.inline_value.specs.WrapSplit.Walks.{turn_bound}
+use Rattle.delete_core.specs.declared.deletion.TheConstants.Manner.{DEFAULT, BACKWARD}
+use Rattle.delete_core.specs.Places.{start_in, end_in}
+use Rattle.text_insertion.specs.Entries.{is_entry}
+use Rattle.text_deletion.specs.Approach.{moved_to, halted, ended, begun_at, goes_on, is_affected_host, drop_child, hidden_prev, hidden_child, out_of_node, link_before, into_child, back_turn, go_back, out_of_start, climb_turn, climb}
+use Rattle.text_deletion.specs.Delete.{follows_single, erase_single, erase_line, into_last, deepest_before, between_entries, joined, join, delete_across, delete_from, delete_at_caret, delete}
+use Rattle.text_deletion.specs.Entries.{starts_entry}
 use Rattle.selection_laws.proofs.CalmEntries.{calm_lift_entry, calm_outdent_line, calm_part_entries}
 use Rattle.selection_laws.proofs.CalmErasing.{calm_canonicalize_start}
 use Rattle.selection_laws.proofs.CalmWraps.{calm_remove_keeping_children}

@@ -2,29 +2,29 @@
 use Rattle.std.proofs.Common.{◌≡◌, ℕ, ◌<◌, Bool, true, false, ◌&&◌, if◌then◌else◌, [], Option, Some, None, IfSome, refl, subst}
 use Rattle.std.specs.Prelude.{◌==◌}
 use Rattle.std.proofs.lemmas.Bool.{and_parts}
-use Rattle.edit_commands.specs.DomModel.Contents.{length_of}
-use Rattle.edit_commands.specs.DomModel.declared.Content.{Content}
-use Rattle.edit_commands.specs.DomModel.Forest.{Forest, count_of, IsWithin}
-use Rattle.edit_commands.specs.LiveRange.declared.places.Point.{Point}
-use Rattle.edit_commands.specs.LiveRange.declared.places.Pair.{Pair}
-use Rattle.edit_commands.specs.NodeTests.CollapsedWhitespace.{is_words}
-use Rattle.edit_commands.specs.EditModel.State.{State}
-use Rattle.edit_commands.specs.EditModel.Confined.{is_inside}
-use Rattle.edit_commands.specs.EditModel.Run.{◌>>◌, answer, final, look, given}
-use Rattle.edit_commands.specs.EditModel.Valid.{IsPlacedPair}
-use Rattle.edit_commands.proofs.EditModel.Points.{placed_is}
-use Rattle.edit_commands.specs.PointOrder.PointOrder.{is_placed}
+use Rattle.edit_model.specs.DomModel.Contents.{length_of}
+use Rattle.edit_model.specs.DomModel.declared.Content.{Content}
+use Rattle.edit_model.specs.DomModel.Forest.{Forest, count_of, IsWithin}
+use Rattle.edit_model.specs.LiveRange.declared.places.Point.{Point}
+use Rattle.edit_model.specs.LiveRange.declared.places.Pair.{Pair}
+use Rattle.inline_value.specs.NodeTests.CollapsedWhitespace.{is_words}
+use Rattle.edit_model.specs.State.{State}
+use Rattle.edit_model.specs.Confined.{is_inside}
+use Rattle.edit_model.specs.Run.{◌>>◌, answer, final, look, given}
+use Rattle.edit_model.specs.Valid.{IsPlacedPair}
+use Rattle.edit_model.proofs.Points.{placed_is}
+use Rattle.edit_model.specs.PointOrder.PointOrder.{is_placed}
 use Rattle.edit_laws.specs.InHost.{IsNear, IsNearPair, IsInHost}
 use Rattle.edit_laws.proofs.HostRuns.{Stays, calm_parts, stays_parts, stays_calm, stays_answer, stays_bind, stays_look, stays_look_at, stays_here, stays_if, stays_choice, stays_given, stays_perform}
 use Rattle.edit_laws.proofs.Nearness.{near_inside, near_within, hollow_is, within_host}
-use Rattle.edit_commands.specs.EditActions.ActiveRange.{start_of, end_of}
-use Rattle.edit_commands.specs.DeleteCore.declared.deletion.Manner.{Manner}
-use Rattle.edit_commands.specs.DeleteCore.Deletion.{erase_across, erase, delete_recorded, delete_selected, delete_range, delete_between, delete_selection}
-use Rattle.edit_commands.specs.DeleteCore.Ends.{collapse_selection, out_of_start, out_of_end}
-use Rattle.edit_commands.specs.DeleteCore.Equivalent.{last_equivalent, first_equivalent}
-use Rattle.edit_commands.specs.DeleteCore.Erasing.{erase_within}
-use Rattle.edit_commands.specs.DeleteCore.Merging.{merge_inner, merge_outer, merge_beside, merged, merge, are_mergeable, merge_both, merge_if}
-use Rattle.edit_commands.specs.DeleteCore.Places.{before_node, after_node, comes_before}
+use Rattle.inline_value.specs.EditActions.ActiveRange.{start_of, end_of}
+use Rattle.delete_core.specs.declared.deletion.Manner.{Manner}
+use Rattle.delete_core.specs.Deletion.{erase_across, erase, delete_recorded, delete_selected, delete_range, delete_between, delete_selection}
+use Rattle.delete_core.specs.Ends.{collapse_selection, out_of_start, out_of_end}
+use Rattle.delete_core.specs.Equivalent.{last_equivalent, first_equivalent}
+use Rattle.delete_core.specs.Erasing.{erase_within}
+use Rattle.delete_core.specs.Merging.{merge_inner, merge_outer, merge_beside, merged, merge, are_mergeable, merge_both, merge_if}
+use Rattle.delete_core.specs.Places.{before_node, after_node, comes_before}
 use Rattle.selection_laws.proofs.CalmErasing.{calm_canonicalize, calm_canonicalize_start, calm_canonicalize_end, calm_cut_after, calm_cut_before, calm_remove_nodes, calm_merge_content, calm_drop_last_break, calm_take_following, calm_take_children, calm_drop_prop, calm_finish_if}
 use Rattle.selection_laws.proofs.Equivalents.{equivalents_inside}
 use Rattle.selection_laws.proofs.Points.{NearAt, some_if, some_or, either_point, near_start, near_end, near_before, near_after, words_off}

@@ -2,25 +2,25 @@
 use Rattle.std.proofs.Common.{ℕ, Bool, true, ◌&&◌, if◌then◌else◌, List, [], ◌∷◌, Option, Some, None, IfSome}
 use Rattle.std.specs.Prelude.{◌==◌}
 use Rattle.std.proofs.lemmas.Bool.{and_parts}
-use Rattle.edit_commands.specs.DomModel.declared.Content.{Content}
-use Rattle.edit_commands.specs.DomModel.Contents.{has_chars_at, length_of}
-use Rattle.edit_commands.specs.DomModel.Forest.{Forest, last_of}
-use Rattle.edit_commands.specs.LiveRange.declared.places.Point.{Point}
-use Rattle.edit_commands.specs.NodeTests.CollapsedWhitespace.{is_words}
-use Rattle.edit_commands.specs.EditModel.State.{State}
-use Rattle.edit_commands.specs.EditModel.Run.{done}
+use Rattle.edit_model.specs.DomModel.declared.Content.{Content}
+use Rattle.edit_model.specs.DomModel.Contents.{has_chars_at, length_of}
+use Rattle.edit_model.specs.DomModel.Forest.{Forest, last_of}
+use Rattle.edit_model.specs.LiveRange.declared.places.Point.{Point}
+use Rattle.inline_value.specs.NodeTests.CollapsedWhitespace.{is_words}
+use Rattle.edit_model.specs.State.{State}
+use Rattle.edit_model.specs.Run.{done}
 use Rattle.edit_laws.specs.InHost.{IsNear, IsInHost}
 use Rattle.edit_laws.proofs.HostRuns.{Stays, StaysWith, IsBelow, calm_edit, stays_parts, stays_calm, stays_answer, stays_bind, stays_look, stays_look_at, stays_if, stays_given, stays_perform, stays_from, gives_answer, gives_bind, gives_after, gives_look, gives_element, gives_words}
-use Rattle.edit_commands.specs.InlineValue.Ancestors.{is_prohibited}
-use Rattle.edit_commands.specs.InlineValue.Overrides.{overrides_of}
-use Rattle.edit_commands.specs.WrapSplit.Walks.{turn_bound}
-use Rattle.edit_commands.specs.DeleteCore.declared.deletion.Manner.{Manner}
-use Rattle.edit_commands.specs.DeleteCore.Places.{start_in, end_in, before_node, after_node}
-use Rattle.edit_commands.specs.TextInsertion.Containers.{make_container, insert_container, add_container, make_line, own_container}
-use Rattle.edit_commands.specs.TextInsertion.Halves.{if_prohibited, into_last_block, deepest_last, make_second, close_both, part_at, part_container}
-use Rattle.edit_commands.specs.TextInsertion.Paragraph.{out_of_text, collapsed_at, left_text, leave_text, split_text, break_line, part_line, part_paragraph, insert_paragraph_inside, insert_paragraph}
-use Rattle.edit_commands.specs.TextInsertion.Start.{erase}
-use Rattle.edit_commands.specs.TextInsertion.Typing.{if_words, end_before, start_after, into_text, put_at, put_char, close_text, type_char, insert_char_at, insert_char_inside, insert_char, insert_several, insert_chars, insert_text}
+use Rattle.inline_value.specs.Ancestors.{is_prohibited}
+use Rattle.inline_value.specs.Overrides.{overrides_of}
+use Rattle.inline_value.specs.WrapSplit.Walks.{turn_bound}
+use Rattle.delete_core.specs.declared.deletion.Manner.{Manner}
+use Rattle.delete_core.specs.Places.{start_in, end_in, before_node, after_node}
+use Rattle.text_insertion.specs.Containers.{make_container, insert_container, add_container, make_line, own_container}
+use Rattle.text_insertion.specs.Halves.{if_prohibited, into_last_block, deepest_last, make_second, close_both, part_at, part_container}
+use Rattle.text_insertion.specs.Paragraph.{out_of_text, collapsed_at, left_text, leave_text, split_text, break_line, part_line, part_paragraph, insert_paragraph_inside, insert_paragraph}
+use Rattle.text_insertion.specs.Start.{erase}
+use Rattle.text_insertion.specs.Typing.{if_words, end_before, start_after, into_text, put_at, put_char, close_text, type_char, insert_char_at, insert_char_inside, insert_char, insert_several, insert_chars, insert_text}
 use Rattle.selection_laws.proofs.CalmErasing.{calm_canonicalize, calm_canonicalize_start, calm_canonicalize_end}
 use Rattle.selection_laws.proofs.CalmLines.{calm_insert_at_start, calm_leave_list, calm_wrap_line, calm_fill_hidden, calm_drop_sole_break}
 use Rattle.selection_laws.proofs.CalmMoves.{calm_insert_after, calm_make_break}

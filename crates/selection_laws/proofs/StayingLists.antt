@@ -1,12 +1,12 @@
 -- Toggling lists leaves the selection in the host; it keeps its range in the scratch pair, which may stand outside.
 use Rattle.std.proofs.Common.{ℕ, Bool, false, List, sym, true≢false}
-use Rattle.edit_commands.specs.DomModel.declared.Content.{Content}
-use Rattle.edit_commands.specs.DomModel.Forest.{Forest}
+use Rattle.edit_model.specs.DomModel.declared.Content.{Content}
+use Rattle.edit_model.specs.DomModel.Forest.{Forest}
 use Rattle.edit_laws.proofs.HostRuns.{Stays, stays_parts, stays_calm, stays_answer, stays_given, stays_perform}
-use Rattle.edit_commands.specs.ListToggle.Converting.{convert_each, convert_lists}
-use Rattle.edit_commands.specs.ListToggle.Ranges.{RangeEnds, keep_range}
-use Rattle.edit_commands.specs.ListToggle.Toggle.{toggle_on, toggle_lists}
-use Rattle.edit_commands.specs.ListToggle.declared.toggling.ListKind.{ListKind}
+use Rattle.list_toggle.specs.Converting.{convert_each, convert_lists}
+use Rattle.list_toggle.specs.Ranges.{RangeEnds, keep_range}
+use Rattle.list_toggle.specs.Toggle.{toggle_on, toggle_lists}
+use Rattle.list_toggle.specs.declared.toggling.ListKind.{ListKind}
 use Rattle.selection_laws.proofs.CalmIndents.{calm_normalize_range}
 use Rattle.selection_laws.proofs.CalmLists.{calm_convert_list, calm_enlist_next, calm_toggle_off}
 

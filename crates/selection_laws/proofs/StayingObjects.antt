@@ -2,23 +2,23 @@
 use Rattle.std.proofs.Common.{◌≡◌, ◌≢◌, ℕ, Bool, true, not, eqb, List, [], ◌∷◌, None}
 use Rattle.std.specs.Prelude.{codes}
 use Rattle.std.proofs.lemmas.Bool.{and_parts, not-false}
-use Rattle.edit_commands.specs.DomModel.declared.Content.{Content}
-use Rattle.edit_commands.specs.DomModel.declared.attributes.Attribute.{Attribute}
-use Rattle.edit_commands.specs.DomModel.Contents.{has_chars_at}
-use Rattle.edit_commands.specs.DomModel.Forest.{Forest}
-use Rattle.edit_commands.specs.LiveRange.declared.places.Point.{Point}
-use Rattle.edit_commands.specs.NodeTests.CollapsedWhitespace.{is_words}
-use Rattle.edit_commands.specs.EditModel.State.{State}
+use Rattle.edit_model.specs.DomModel.declared.Content.{Content}
+use Rattle.edit_model.specs.DomModel.declared.attributes.Attribute.{Attribute}
+use Rattle.edit_model.specs.DomModel.Contents.{has_chars_at}
+use Rattle.edit_model.specs.DomModel.Forest.{Forest}
+use Rattle.edit_model.specs.LiveRange.declared.places.Point.{Point}
+use Rattle.inline_value.specs.NodeTests.CollapsedWhitespace.{is_words}
+use Rattle.edit_model.specs.State.{State}
 use Rattle.edit_laws.specs.InHost.{IsNear, IsInHost}
 use Rattle.edit_laws.proofs.HostRuns.{Stays, StaysWith, IsBelow, stays_parts, stays_calm, stays_answer, stays_bind, stays_look, stays_if, stays_choice, stays_known, stays_perform, stays_from, stays_split, gives_answer, gives_bind, gives_after, gives_element}
-use Rattle.edit_commands.specs.EditActions.ActiveRange.{start_of, end_of}
-use Rattle.edit_commands.specs.WrapSplit.Walks.{turn_bound}
-use Rattle.edit_commands.specs.DeleteCore.Places.{before_node, after_node}
-use Rattle.edit_commands.specs.TextInsertion.Start.{cuts_text}
-use Rattle.edit_commands.specs.InsertObjects.Image.{source, put_image, show_image, insert_source, insert_image}
-use Rattle.edit_commands.specs.InsertObjects.LineBreak.{put_break, break_line, insert_line_break}
-use Rattle.edit_commands.specs.InsertObjects.Putting.{collapse_before, collapse_after, leave_text, put}
-use Rattle.edit_commands.specs.InsertObjects.Rule.{out_of_start, out_of_end, outermost_start, outermost_end, widen_range, put_rule, insert_horizontal_rule}
+use Rattle.inline_value.specs.EditActions.ActiveRange.{start_of, end_of}
+use Rattle.inline_value.specs.WrapSplit.Walks.{turn_bound}
+use Rattle.delete_core.specs.Places.{before_node, after_node}
+use Rattle.text_insertion.specs.Start.{cuts_text}
+use Rattle.insert_objects.specs.Image.{source, put_image, show_image, insert_source, insert_image}
+use Rattle.insert_objects.specs.LineBreak.{put_break, break_line, insert_line_break}
+use Rattle.insert_objects.specs.Putting.{collapse_before, collapse_after, leave_text, put}
+use Rattle.insert_objects.specs.Rule.{out_of_start, out_of_end, outermost_start, outermost_end, widen_range, put_rule, insert_horizontal_rule}
 use Rattle.selection_laws.proofs.CalmLines.{calm_insert_at_start}
 use Rattle.selection_laws.proofs.CalmObjects.{calm_repeat_break, calm_drop_lone_break}
 use Rattle.selection_laws.proofs.CalmValues.{calm_fix_ancestors}

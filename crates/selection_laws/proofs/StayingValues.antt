@@ -1,24 +1,24 @@
 -- Setting a value on the selection, which splits the texts at its ends, and the inline commands leave the selection in the host.
 use Rattle.std.proofs.Common.{ℕ, Bool, List, [], ◌∷◌, Option}
-use Rattle.edit_commands.specs.DomModel.declared.Content.{Content}
-use Rattle.edit_commands.specs.DomModel.Forest.{Forest}
-use Rattle.edit_commands.specs.HtmlNames.declared.commands.Command.{Command}
-use Rattle.edit_commands.specs.HtmlNames.declared.commands.Command.TheVariants as command
-use Rattle.edit_commands.specs.LiveRange.declared.places.Point.{Point}
-use Rattle.edit_commands.specs.LiveRange.declared.places.Pair.{Pair}
-use Rattle.edit_commands.specs.PointOrder.PointOrder.{is_before}
-use Rattle.edit_commands.specs.EditModel.declared.settings.Setting.{Setting}
-use Rattle.edit_commands.specs.EditModel.declared.settings.Setting.TheVariants.{On, Off, Text, Absent}
+use Rattle.edit_model.specs.DomModel.declared.Content.{Content}
+use Rattle.edit_model.specs.DomModel.Forest.{Forest}
+use Rattle.edit_model.specs.HtmlNames.declared.commands.Command.{Command}
+use Rattle.edit_model.specs.HtmlNames.declared.commands.Command.TheVariants as command
+use Rattle.edit_model.specs.LiveRange.declared.places.Point.{Point}
+use Rattle.edit_model.specs.LiveRange.declared.places.Pair.{Pair}
+use Rattle.edit_model.specs.PointOrder.PointOrder.{is_before}
+use Rattle.edit_model.specs.declared.settings.Setting.{Setting}
+use Rattle.edit_model.specs.declared.settings.Setting.TheVariants.{On, Off, Text, Absent}
 use Rattle.edit_laws.specs.InHost.{IsNear, IsNearPair}
 use Rattle.edit_laws.proofs.HostRuns.{Stays, stays_parts, stays_calm, stays_answer, stays_if, stays_look_at, stays_perform, stays_from, gives_split}
-use Rattle.edit_commands.specs.EditActions.ActiveRange.{start_of}
-use Rattle.edit_commands.specs.InlineValue.declared.overrides.Override.{Override}
-use Rattle.edit_commands.specs.InlineValue.Selections.{with_start, set_start, start_text, split_at_start, split_at_end, split_start, split_end, split_ends, give_range, set_value}
-use Rattle.edit_commands.specs.InlineCommands.Linking.{link_range, link_to, create_link}
-use Rattle.edit_commands.specs.InlineCommands.RemovingFormat.{clear_command, clear_commands, remove_format}
-use Rattle.edit_commands.specs.InlineCommands.RestoringStates.{turn_round, toggle_state, restore_on, restore_off, restore_shown, restore_link, restore_size, restore_text, restore_setting, restore_entry, restore_states}
-use Rattle.edit_commands.specs.InlineCommands.Toggling.{set_toggled, toggle_style, set_unless, set_script, toggle_script}
-use Rattle.edit_commands.specs.InlineCommands.ValueCommands.{set_taken, take, apply_value}
+use Rattle.inline_value.specs.EditActions.ActiveRange.{start_of}
+use Rattle.inline_value.specs.declared.overrides.Override.{Override}
+use Rattle.inline_value.specs.Selections.{with_start, set_start, start_text, split_at_start, split_at_end, split_start, split_end, split_ends, give_range, set_value}
+use Rattle.inline_commands.specs.Linking.{link_range, link_to, create_link}
+use Rattle.inline_commands.specs.RemovingFormat.{clear_command, clear_commands, remove_format}
+use Rattle.inline_commands.specs.RestoringStates.{turn_round, toggle_state, restore_on, restore_off, restore_shown, restore_link, restore_size, restore_text, restore_setting, restore_entry, restore_states}
+use Rattle.inline_commands.specs.Toggling.{set_toggled, toggle_style, set_unless, set_script, toggle_script}
+use Rattle.inline_commands.specs.ValueCommands.{set_taken, take, apply_value}
 use Rattle.selection_laws.proofs.CalmFormats.{calm_relink_range, calm_part_nodes, calm_unwrap_candidates, calm_set_override}
 use Rattle.selection_laws.proofs.CalmValues.{calm_clear_elements, calm_give_nodes, calm_set_overrides}
 use Rattle.selection_laws.proofs.Points.{either_point, near_start}

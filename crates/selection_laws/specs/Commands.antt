@@ -1,28 +1,28 @@
 -- The laws of commands, and of what commands take from others: of each, that its run leaves both
 -- points of the selection at or below the host, with the scratch pair or without it.
 use Rattle.std.specs.Prelude.{ℕ, Bool, true, false, List}
-use Rattle.edit_commands.specs.HtmlNames.declared.commands.Command.{Command}
+use Rattle.edit_model.specs.HtmlNames.declared.commands.Command.{Command}
 use Rattle.edit_laws.specs.InHost.{StaysInHost}
-use Rattle.edit_commands.specs.InlineValue.declared.overrides.Override.{Override}
-use Rattle.edit_commands.specs.BlockCommands.FormatBlock.{format_block}
-use Rattle.edit_commands.specs.BlockCommands.Justify.{justify}
-use Rattle.edit_commands.specs.InlineCommands.Linking.{create_link}
-use Rattle.edit_commands.specs.InlineCommands.RemovingFormat.{remove_format}
-use Rattle.edit_commands.specs.InlineCommands.RestoringStates.{restore_states}
-use Rattle.edit_commands.specs.InlineCommands.Toggling.{toggle_style, toggle_script}
-use Rattle.edit_commands.specs.InlineCommands.Unlink.{unlink}
-use Rattle.edit_commands.specs.InlineCommands.ValueCommands.{apply_value}
-use Rattle.edit_commands.specs.ListIndent.Commands.{indent, outdent}
-use Rattle.edit_commands.specs.ListToggle.Toggle.{toggle_lists}
-use Rattle.edit_commands.specs.ListToggle.declared.toggling.ListKind.{ListKind}
-use Rattle.edit_commands.specs.DeleteCore.declared.deletion.Manner.{Manner}
-use Rattle.edit_commands.specs.DeleteCore.Deletion.{delete_selection}
-use Rattle.edit_commands.specs.TextDeletion.Delete.{delete}
-use Rattle.edit_commands.specs.TextInsertion.Paragraph.{insert_paragraph}
-use Rattle.edit_commands.specs.TextInsertion.Typing.{insert_text}
-use Rattle.edit_commands.specs.InsertObjects.LineBreak.{insert_line_break}
-use Rattle.edit_commands.specs.InsertObjects.Rule.{insert_horizontal_rule}
-use Rattle.edit_commands.specs.InsertObjects.Image.{insert_image}
+use Rattle.inline_value.specs.declared.overrides.Override.{Override}
+use Rattle.block_commands.specs.FormatBlock.{format_block}
+use Rattle.block_commands.specs.Justify.{justify}
+use Rattle.inline_commands.specs.Linking.{create_link}
+use Rattle.inline_commands.specs.RemovingFormat.{remove_format}
+use Rattle.inline_commands.specs.RestoringStates.{restore_states}
+use Rattle.inline_commands.specs.Toggling.{toggle_style, toggle_script}
+use Rattle.inline_commands.specs.Unlink.{unlink}
+use Rattle.inline_commands.specs.ValueCommands.{apply_value}
+use Rattle.list_indent.specs.Commands.{indent, outdent}
+use Rattle.list_toggle.specs.Toggle.{toggle_lists}
+use Rattle.list_toggle.specs.declared.toggling.ListKind.{ListKind}
+use Rattle.delete_core.specs.declared.deletion.Manner.{Manner}
+use Rattle.delete_core.specs.Deletion.{delete_selection}
+use Rattle.text_deletion.specs.Delete.{delete}
+use Rattle.text_insertion.specs.Paragraph.{insert_paragraph}
+use Rattle.text_insertion.specs.Typing.{insert_text}
+use Rattle.insert_objects.specs.LineBreak.{insert_line_break}
+use Rattle.insert_objects.specs.Rule.{insert_horizontal_rule}
+use Rattle.insert_objects.specs.Image.{insert_image}
 
 -- bold, italic, underline and strikethrough
 abbrev pub StylesStay : Type 0

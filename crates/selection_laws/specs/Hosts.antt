@@ -1,10 +1,10 @@
 -- Where a command begins: the affected host holds both ends of the selection, or of a range.
 use Rattle.std.specs.Prelude.{◌≡◌, ℕ, Some, IfSome}
-use Rattle.edit_commands.specs.DomModel.declared.Content.{Content}
-use Rattle.edit_commands.specs.DomModel.Forest.{Forest, IsDistinct}
-use Rattle.edit_commands.specs.LiveRange.declared.places.Pair.{Pair}
-use Rattle.edit_commands.specs.EditModel.State.{State}
-use Rattle.edit_commands.specs.EditActions.ActiveRange.{host_of_pair, affected_host}
+use Rattle.edit_model.specs.DomModel.declared.Content.{Content}
+use Rattle.edit_model.specs.DomModel.Forest.{Forest, IsDistinct}
+use Rattle.edit_model.specs.LiveRange.declared.places.Pair.{Pair}
+use Rattle.edit_model.specs.State.{State}
+use Rattle.inline_value.specs.EditActions.ActiveRange.{host_of_pair, affected_host}
 use Rattle.edit_laws.specs.InHost.{IsPairWithin}
 
 abbrev pub HostsHold : Type 0

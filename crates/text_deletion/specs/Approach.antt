@@ -5,15 +5,15 @@ use Rattle.std.specs.Option.{option_and_then}
 use Rattle.edit_model.specs.DomModel.Contents.{has_name, is_break, is_image}
 use Rattle.edit_model.specs.DomModel.Forest.{is_label, prev_of}
 use Rattle.edit_model.specs.LiveRange.declared.places.Point.{Point}
-use Rattle.text_insertion.specs.NodeStyles.Blocks.{is_block}
-use Rattle.text_insertion.specs.NodeTests.BlockPoints.{child_before}
-use Rattle.text_insertion.specs.NodeTests.Visible.{is_visible}
+use Rattle.inline_value.specs.NodeStyles.Blocks.{is_block}
+use Rattle.inline_value.specs.NodeTests.BlockPoints.{child_before}
+use Rattle.inline_value.specs.NodeTests.Visible.{is_visible}
 use Rattle.edit_model.specs.State.{State}
 use Rattle.edit_model.specs.Confined.{is_editable_for}
 use Rattle.edit_model.specs.Run.{Run, ◌>>◌, answer, look, given, while_at_most, remove}
-use Rattle.text_insertion.specs.WrapSplit.Split.{remove_keeping_children}
-use Rattle.text_insertion.specs.WrapSplit.Walks.{turn_bound}
-use Rattle.text_insertion.specs.DeleteCore.Places.{at, end_in, before_node}
+use Rattle.inline_value.specs.WrapSplit.Split.{remove_keeping_children}
+use Rattle.inline_value.specs.WrapSplit.Walks.{turn_bound}
+use Rattle.delete_core.specs.Places.{at, end_in, before_node}
 use Rattle.text_deletion.specs.declared.approach.Approach.{Approach}
 
 abbrev pub moved_to : Approach → Point → Approach

@@ -5,17 +5,17 @@ use Rattle.std.specs.Option.{option_map, option_map_or}
 use Rattle.edit_model.specs.DomModel.Contents.{has_name, is_break, is_image}
 use Rattle.edit_model.specs.DomModel.Forest.{prev_of}
 use Rattle.edit_model.specs.LiveRange.declared.places.Point.{Point}
-use Rattle.text_insertion.specs.NodeStyles.Blocks.{is_block}
-use Rattle.text_insertion.specs.NodeTests.BlockPoints.{child_before, child_at}
-use Rattle.text_insertion.specs.NodeTests.CollapsedWhitespace.{is_words}
+use Rattle.inline_value.specs.NodeStyles.Blocks.{is_block}
+use Rattle.inline_value.specs.NodeTests.BlockPoints.{child_before, child_at}
+use Rattle.inline_value.specs.NodeTests.CollapsedWhitespace.{is_words}
 use Rattle.edit_model.specs.State.{State}
 use Rattle.edit_model.specs.Run.{Run, ◌>>=◌, ◌>>◌, answer, done, look, given, select, collapse, extend, set_scratch}
-use Rattle.text_insertion.specs.EditActions.ActiveRange.{start_of}
-use Rattle.text_insertion.specs.EditQuery.Carets.{is_caret}
-use Rattle.text_insertion.specs.WrapSplit.Walks.{turn_bound}
-use Rattle.text_insertion.specs.DeleteCore.declared.deletion.TheConstants.Manner.{DEFAULT, BACKWARD}
-use Rattle.text_insertion.specs.DeleteCore.Ends.{canonicalize_start}
-use Rattle.text_insertion.specs.DeleteCore.Places.{at, start_in, end_in, walk_points}
+use Rattle.inline_value.specs.EditActions.ActiveRange.{start_of}
+use Rattle.inline_value.specs.EditQuery.Carets.{is_caret}
+use Rattle.inline_value.specs.WrapSplit.Walks.{turn_bound}
+use Rattle.delete_core.specs.declared.deletion.TheConstants.Manner.{DEFAULT, BACKWARD}
+use Rattle.delete_core.specs.Ends.{canonicalize_start}
+use Rattle.delete_core.specs.Places.{at, start_in, end_in, walk_points}
 use Rattle.text_deletion.specs.Approach.{is_affected_host, go_back, climb}
 use Rattle.text_insertion.specs.Entries.{is_entry}
 use Rattle.text_insertion.specs.Start.{erase}

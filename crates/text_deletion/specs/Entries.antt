@@ -8,19 +8,19 @@ use Rattle.edit_model.specs.DomModel.declared.Content.{Content}
 use Rattle.edit_model.specs.DomModel.Contents.{is_break}
 use Rattle.edit_model.specs.DomModel.Forest.{Forest, parent_of, prev_of, first_of, last_of}
 use Rattle.edit_model.specs.LiveRange.declared.places.Point.{Point}
-use Rattle.text_insertion.specs.NodeStyles.NameClasses.{is_indentation}
-use Rattle.text_insertion.specs.NodeTests.BlockPoints.{child_before, child_at}
+use Rattle.inline_value.specs.NodeStyles.NameClasses.{is_indentation}
+use Rattle.inline_value.specs.NodeTests.BlockPoints.{child_before, child_at}
 use Rattle.edit_model.specs.State.{State}
 use Rattle.edit_model.specs.Confined.{is_editable_for}
 use Rattle.edit_model.specs.Run.{Run, ◌>>=◌, ◌>>◌, done, look, given, for_each}
-use Rattle.text_insertion.specs.WrapSplit.Wrap.{is_inline, append_break}
-use Rattle.text_insertion.specs.InlineValue.Ancestors.{split_out, fix_ancestors}
-use Rattle.text_insertion.specs.InlineValue.Forcing.{ancestors}
-use Rattle.text_insertion.specs.BlockExtend.BlockExtend.{block_extend}
-use Rattle.text_insertion.specs.BlockExtend.Gather.{gathered}
-use Rattle.text_insertion.specs.ListIndent.Sublists.{normalize_sublists}
-use Rattle.text_insertion.specs.ListIndent.Commands.{items_over, has_editable_below}
-use Rattle.text_insertion.specs.ListIndent.Outdenting.{outdent_node}
+use Rattle.inline_value.specs.WrapSplit.Wrap.{is_inline, append_break}
+use Rattle.inline_value.specs.Ancestors.{split_out, fix_ancestors}
+use Rattle.inline_value.specs.Forcing.{ancestors}
+use Rattle.inline_value.specs.BlockExtend.BlockExtend.{block_extend}
+use Rattle.inline_value.specs.BlockExtend.Gather.{gathered}
+use Rattle.list_indent.specs.Sublists.{normalize_sublists}
+use Rattle.list_indent.specs.Commands.{items_over, has_editable_below}
+use Rattle.list_indent.specs.Outdenting.{outdent_node}
 use Rattle.text_insertion.specs.Entries.{is_entry, rename_stray}
 
 -- ---- delete, step 6: an entry leaves its list

@@ -3,17 +3,17 @@
 ghost use Rattle.std.specs.Prelude.{◌≡◌, ◌<◌, IfOk, IfSome};
 ghost use Rattle.edit_model.specs.DomModel.Forest.{count_of};
 ghost use Rattle.edit_model.specs.Gives.{Gives, label_of};
-ghost use Rattle.text_insertion.specs.EditDoc.Whole.{IsOpen};
-ghost use Rattle.text_insertion.specs.EditDoc.Held.{Holds, IfHeld, Finds, Keeps};
+ghost use Rattle.inline_value.specs.EditDoc.Whole.{IsOpen};
+ghost use Rattle.inline_value.specs.EditDoc.Held.{Holds, IfHeld, Finds, Keeps};
 ghost use Rattle.text_deletion.specs.Approach as back;
 
 use crate::places::{is_affected_host, one_before};
+use delete_core::{before_node, child_before, end_in};
 use edit_model::boundary::node_of;
+use inline_value::doc::{Doc, EditFault, NodeRef, Point};
+use inline_value::questions::{has_name, is_block, is_break, is_image, is_visible};
+use inline_value::wrap::{remove_keeping_children, turn_bound};
 use std::alloc::Global;
-use text_insertion::deleting::{before_node, child_before, end_in};
-use text_insertion::doc::{Doc, EditFault, NodeRef, Point};
-use text_insertion::questions::{has_name, is_block, is_break, is_image, is_visible};
-use text_insertion::wrap::{remove_keeping_children, turn_bound};
 
 /// How far a way back from a caret has come.
 #[derive(Clone, Copy)]

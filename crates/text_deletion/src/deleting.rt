@@ -2,8 +2,8 @@
 
 ghost use Rattle.std.specs.Prelude.{◌≡◌, IfOk, true};
 ghost use Rattle.edit_model.specs.Gives.{Gives};
-ghost use Rattle.text_insertion.specs.EditDoc.Whole.{IsOpen};
-ghost use Rattle.text_insertion.specs.EditDoc.Held.{Holds, Keeps};
+ghost use Rattle.inline_value.specs.EditDoc.Whole.{IsOpen};
+ghost use Rattle.inline_value.specs.EditDoc.Held.{Holds, Keeps};
 ghost use Rattle.text_deletion.specs.Delete as command;
 
 use crate::approach::{climb, go_back};
@@ -12,14 +12,14 @@ use crate::erasing::{erase_line, extend, follows_single};
 use crate::joining::{follows_line, follows_table, is_kept_from, joined};
 use crate::outdents::{outdent_line, starts_indented};
 use crate::places::one_before;
+use delete_core::{Manner, canonicalize_start, select};
 use edit_model::boundary::node_of;
+use inline_value::actions::ends_of;
+use inline_value::doc::{Doc, EditFault, NodeRef, Point};
+use inline_value::query::is_caret;
+use inline_value::questions::is_block;
 use std::alloc::Global;
-use text_insertion::actions::ends_of;
-use text_insertion::deleting::{Manner, canonicalize_start, select};
-use text_insertion::doc::{Doc, EditFault, NodeRef, Point};
 use text_insertion::erase;
-use text_insertion::query::is_caret;
-use text_insertion::questions::is_block;
 
 // Steps 7 to 13, with a caret in a node.
 #[tactic(auto, using(edit_model::proofs::Steps::steps, edit_model::proofs::Steps::exits, edit_model::proofs::Steps::actions), unfolding(crate::specs::Delete::join, crate::specs::Delete::delete_across))]

@@ -2,17 +2,17 @@
 
 ghost use Rattle.std.specs.Prelude.{◌≡◌, IfOk};
 ghost use Rattle.edit_model.specs.Gives.{Gives, label_of, labels_of};
-ghost use Rattle.text_insertion.specs.EditDoc.Whole.{IsOpen};
-ghost use Rattle.text_insertion.specs.EditDoc.Held.{Holds, IfHeld, EachHeld, Keeps};
+ghost use Rattle.inline_value.specs.EditDoc.Whole.{IsOpen};
+ghost use Rattle.inline_value.specs.EditDoc.Held.{Holds, IfHeld, EachHeld, Keeps};
 ghost use Rattle.text_deletion.specs.Entries as entries;
 
+use delete_core::{child_at, child_before};
+use inline_value::doc::{Doc, EditFault, NodeRef, Point};
+use inline_value::questions::{is_block, is_break};
+use inline_value::wrap::{append_break, is_inline};
+use inline_value::{fix_ancestors, split_out};
+use list_indent::{normalize_each, push_items};
 use std::alloc::{AllocError, Global};
-use text_insertion::deleting::{child_at, child_before};
-use text_insertion::doc::{Doc, EditFault, NodeRef, Point};
-use text_insertion::indents::{normalize_each, push_items};
-use text_insertion::inline::{fix_ancestors, split_out};
-use text_insertion::questions::{is_block, is_break};
-use text_insertion::wrap::{append_break, is_inline};
 use text_insertion::{is_entry, rename_stray};
 
 /// Step 6: whether a point is the start of an entry that is the first child of its parent.

@@ -3,16 +3,16 @@
 ghost use Rattle.std.specs.Prelude.{◌≡◌};
 ghost use Rattle.edit_model.specs.Action.{Extend, Scratch, acted};
 ghost use Rattle.edit_model.specs.Gives.{Gives};
-ghost use Rattle.text_insertion.specs.EditDoc.Whole.{IsOpen, with_state};
-ghost use Rattle.text_insertion.specs.EditDoc.Held.{Holds, Keeps};
+ghost use Rattle.inline_value.specs.EditDoc.Whole.{IsOpen, with_state};
+ghost use Rattle.inline_value.specs.EditDoc.Held.{Holds, Keeps};
 ghost use Rattle.text_deletion.specs.Delete as command;
 
 use crate::places::one_before;
+use delete_core::{Manner, child_before, select};
+use inline_value::doc::{Doc, EditFault, NodeRef, Pair, Point};
+use inline_value::questions::{has_name, is_block, is_break, is_image, is_words};
 use std::alloc::Global;
-use text_insertion::deleting::{Manner, child_before, select};
-use text_insertion::doc::{Doc, EditFault, NodeRef, Pair, Point};
 use text_insertion::erase;
-use text_insertion::questions::{has_name, is_block, is_break, is_image, is_words};
 
 /// Takes the focus of the selection to another point.
 pub(crate) fn extend(doc: &mut Doc, focus: Point)

@@ -3,15 +3,15 @@
 
 ghost use Rattle.std.specs.Prelude.{◌≡◌};
 ghost use Rattle.edit_model.specs.Gives.{label_of};
-ghost use Rattle.text_insertion.specs.EditDoc.Held.{Holds, IfHeld};
+ghost use Rattle.inline_value.specs.EditDoc.Held.{Holds, IfHeld};
 ghost use Rattle.text_deletion.specs.Delete as command;
 
 use crate::places::is_affected_host;
-use text_insertion::deleting::{child_at, child_before, end_in, start_in};
-use text_insertion::doc::{Doc, NodeRef, Point};
+use delete_core::{child_at, child_before, end_in, start_in};
+use inline_value::doc::{Doc, NodeRef, Point};
+use inline_value::questions::{has_name, is_block, is_break};
+use inline_value::wrap::turn_bound;
 use text_insertion::is_entry;
-use text_insertion::questions::{has_name, is_block, is_break};
-use text_insertion::wrap::turn_bound;
 
 // Step 9: a node that is a table.
 fn is_table(doc: &Doc, node: Option<NodeRef>) -> bool

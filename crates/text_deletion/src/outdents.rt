@@ -4,16 +4,16 @@ ghost use Rattle.std.specs.Prelude.{◌≡◌, ◌<◌, IfOk};
 ghost use Rattle.edit_model.specs.DomModel.Forest.{count_of};
 ghost use Rattle.edit_model.specs.Gives.{Gives, labels_of};
 ghost use Rattle.edit_model.specs.Run.{for_each};
-ghost use Rattle.text_insertion.specs.EditDoc.Whole.{IsOpen};
-ghost use Rattle.text_insertion.specs.EditDoc.Held.{Holds, EachHeld, Keeps};
-ghost use Rattle.text_insertion.specs.ListIndent.Outdenting as outdenting;
+ghost use Rattle.inline_value.specs.EditDoc.Whole.{IsOpen};
+ghost use Rattle.inline_value.specs.EditDoc.Held.{Holds, EachHeld, Keeps};
+ghost use Rattle.list_indent.specs.Outdenting as outdenting;
 ghost use Rattle.text_deletion.specs.Entries as entries;
 
+use inline_value::doc::{Doc, EditFault, NodeList, NodeRef, Point};
+use inline_value::extend::{Choice, block_extend, gather_in};
+use inline_value::questions::is_indentation;
+use list_indent::{has_editable_below, outdent_node};
 use std::alloc::{AllocError, Global};
-use text_insertion::doc::{Doc, EditFault, NodeList, NodeRef, Point};
-use text_insertion::extend::{Choice, block_extend, gather_in};
-use text_insertion::indents::{has_editable_below, outdent_node};
-use text_insertion::questions::is_indentation;
 
 #[tactic(auto, unfolding(crate::specs::Entries::indents_line))]
 fn indents_line(doc: &Doc, node: NodeRef) -> bool

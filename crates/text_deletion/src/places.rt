@@ -4,8 +4,8 @@ ghost use Rattle.std.specs.Prelude.{◌≡◌};
 ghost use Rattle.text_deletion.specs.Approach.{is_affected_host};
 ghost use Rattle.text_deletion.specs.Delete.{one_before};
 
-use text_insertion::actions::is_same;
-use text_insertion::doc::{Doc, NodeRef, Point};
+use inline_value::actions::is_same;
+use inline_value::doc::{Doc, NodeRef, Point};
 
 /// Whether a node is the affected host of the running command.
 pub(crate) fn is_affected_host(doc: &Doc, node: NodeRef) -> bool

@@ -6,7 +6,7 @@ use Rattle.edit_model.specs.DomModel.Forest.{Forest, next_of}
 use Rattle.edit_model.specs.NodeArena.declared.NodeRef.{NodeRef}
 use Rattle.edit_model.specs.Gives.{labels_of}
 use Rattle.edit_model.specs.State.{State}
-use Rattle.list_indent.specs.WrapSplit.Wrap.{list_on}
+use Rattle.inline_value.specs.WrapSplit.Wrap.{list_on}
 use Rattle.text_insertion.specs.Containers.{if_paragraph_child, contents_after}
 use Rattle.text_insertion.specs.Halves.{is_break_alone}
 

@@ -2,7 +2,7 @@
 use Rattle.std.proofs.Common.{◌≡◌, ℕ, Bool, true, false, cond, Option, Some, None, refl}
 use Rattle.edit_model.specs.State.{State}
 use Rattle.edit_model.specs.Confined.{is_editable_for}
-use Rattle.list_indent.specs.NodeStyles.NameClasses.{is_single_line}
+use Rattle.inline_value.specs.NodeStyles.NameClasses.{is_single_line}
 use Rattle.edit_model.specs.DomModel.Forest.{parent_of}
 use Rattle.text_insertion.specs.Entries.{is_entry}
 use Rattle.text_insertion.specs.Containers.{if_editable, up_to_container, up_to_entry}

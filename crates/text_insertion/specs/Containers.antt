@@ -7,20 +7,20 @@ use Rattle.edit_model.specs.DomModel.Contents.{has_name}
 use Rattle.edit_model.specs.DomModel.Forest.{parent_of, next_of}
 use Rattle.edit_model.specs.LiveRange.declared.places.Pair.{Pair}
 use Rattle.edit_model.specs.LiveRange.declared.places.Point.{Point}
-use Rattle.list_indent.specs.NodeStyles.Allowed.{allowed_in_name, name_allowed_in}
-use Rattle.list_indent.specs.NodeStyles.NameClasses.{is_single_line}
+use Rattle.inline_value.specs.NodeStyles.Allowed.{allowed_in_name, name_allowed_in}
+use Rattle.inline_value.specs.NodeStyles.NameClasses.{is_single_line}
 use Rattle.edit_model.specs.State.{State}
 use Rattle.edit_model.specs.Confined.{is_editable_for}
 use Rattle.edit_model.specs.Run.{Run, ◌>>=◌, ◌>>◌, answer, look, given, make_element, collapse}
-use Rattle.list_indent.specs.EditActions.ActiveRange.{start_of, end_of}
-use Rattle.list_indent.specs.EditQuery.Leaves.{nodes_in}
-use Rattle.list_indent.specs.EditQuery.Rows.{container_name}
-use Rattle.list_indent.specs.WrapSplit.declared.rule.Blank.{Blank}
-use Rattle.list_indent.specs.WrapSplit.declared.rule.Criterion.TheVariants.{Never}
-use Rattle.list_indent.specs.WrapSplit.declared.rule.Recipe.TheVariants.{Make}
-use Rattle.list_indent.specs.WrapSplit.Walks.{walk, turn_bound}
-use Rattle.list_indent.specs.WrapSplit.Wrap.{wrap, append_break, list_on}
-use Rattle.list_indent.specs.BlockExtend.BlockExtend.{block_extend}
+use Rattle.inline_value.specs.EditActions.ActiveRange.{start_of, end_of}
+use Rattle.inline_value.specs.EditQuery.Leaves.{nodes_in}
+use Rattle.inline_value.specs.EditQuery.Rows.{container_name}
+use Rattle.inline_value.specs.WrapSplit.declared.rule.Blank.{Blank}
+use Rattle.inline_value.specs.WrapSplit.declared.rule.Criterion.TheVariants.{Never}
+use Rattle.inline_value.specs.WrapSplit.declared.rule.Recipe.TheVariants.{Make}
+use Rattle.inline_value.specs.WrapSplit.Walks.{walk, turn_bound}
+use Rattle.inline_value.specs.WrapSplit.Wrap.{wrap, append_break, list_on}
+use Rattle.inline_value.specs.BlockExtend.BlockExtend.{block_extend}
 use Rattle.delete_core.specs.Places.{start_in}
 use Rattle.text_insertion.specs.Entries.{is_entry}
 use Rattle.text_insertion.specs.Start.{active_start, insert_at_start}

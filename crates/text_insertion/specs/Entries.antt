@@ -6,9 +6,9 @@ use Rattle.edit_model.specs.DomModel.Forest.{next_of, first_of}
 use Rattle.edit_model.specs.State.{State}
 use Rattle.edit_model.specs.Compositions.{set_tag_name}
 use Rattle.edit_model.specs.Run.{Run, ◌>>=◌, ◌>>◌, answer, look}
-use Rattle.list_indent.specs.EditQuery.Rows.{container_name}
-use Rattle.list_indent.specs.WrapSplit.Split.{split_parent}
-use Rattle.list_indent.specs.InlineValue.Ancestors.{is_description, has_place, fix_ancestors}
+use Rattle.inline_value.specs.EditQuery.Rows.{container_name}
+use Rattle.inline_value.specs.WrapSplit.Split.{split_parent}
+use Rattle.inline_value.specs.Ancestors.{is_description, has_place, fix_ancestors}
 use Rattle.list_indent.specs.Sublists.{is_item}
 use Rattle.delete_core.specs.Merging.{fill_empty}
 

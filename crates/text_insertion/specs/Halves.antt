@@ -12,11 +12,11 @@ use Rattle.edit_model.specs.State.{State}
 use Rattle.edit_model.specs.Compositions.{tag_of, attribute_list_of}
 use Rattle.edit_model.specs.Moves.{insert_after}
 use Rattle.edit_model.specs.Run.{Run, ◌>>=◌, ◌>>◌, done, look, given, make_element, collapse, extract_tail}
-use Rattle.list_indent.specs.EditQuery.Leaves.{nodes_in}
-use Rattle.list_indent.specs.EditQuery.Rows.{container_name}
-use Rattle.list_indent.specs.InlineValue.Ancestors.{is_prohibited}
-use Rattle.list_indent.specs.WrapSplit.Walks.{walk, turn_bound}
-use Rattle.list_indent.specs.WrapSplit.Wrap.{append_break}
+use Rattle.inline_value.specs.EditQuery.Leaves.{nodes_in}
+use Rattle.inline_value.specs.EditQuery.Rows.{container_name}
+use Rattle.inline_value.specs.Ancestors.{is_prohibited}
+use Rattle.inline_value.specs.WrapSplit.Walks.{walk, turn_bound}
+use Rattle.inline_value.specs.WrapSplit.Wrap.{append_break}
 use Rattle.delete_core.specs.Erasing.{shows_child}
 use Rattle.delete_core.specs.Places.{start_in, end_in, before_node, after_node, walk_points}
 use Rattle.text_insertion.specs.Start.{active_start}

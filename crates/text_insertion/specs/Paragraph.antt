@@ -5,12 +5,12 @@ use Rattle.edit_model.specs.DomModel.declared.Content.{Content}
 use Rattle.edit_model.specs.DomModel.Contents.{has_name, has_chars_at, length_of}
 use Rattle.edit_model.specs.DomModel.Forest.{Forest}
 use Rattle.edit_model.specs.LiveRange.declared.places.Point.{Point}
-use Rattle.list_indent.specs.NodeTests.CollapsedWhitespace.{is_words}
+use Rattle.inline_value.specs.NodeTests.CollapsedWhitespace.{is_words}
 use Rattle.edit_model.specs.State.{State}
 use Rattle.edit_model.specs.Compositions.{split_words}
 use Rattle.edit_model.specs.Moves.{make_break}
 use Rattle.edit_model.specs.Run.{Run, ◌>>=◌, ◌>>◌, answer, done, look, given, collapse}
-use Rattle.list_indent.specs.WrapSplit.Breaks.{last_below}
+use Rattle.inline_value.specs.WrapSplit.Breaks.{last_below}
 use Rattle.delete_core.specs.declared.deletion.TheConstants.Manner.{DEFAULT}
 use Rattle.delete_core.specs.Places.{at, before_node, after_node}
 use Rattle.text_insertion.specs.Containers.{container_of, own_container}

@@ -6,12 +6,12 @@ use Rattle.edit_model.specs.DomModel.declared.Content.{Content}
 use Rattle.edit_model.specs.DomModel.Contents.{length_of}
 use Rattle.edit_model.specs.DomModel.Forest.{Forest}
 use Rattle.edit_model.specs.LiveRange.declared.places.Point.{Point}
-use Rattle.list_indent.specs.NodeTests.BlockPoints.{child_at}
-use Rattle.list_indent.specs.NodeTests.CollapsedWhitespace.{is_words}
+use Rattle.inline_value.specs.NodeTests.BlockPoints.{child_at}
+use Rattle.inline_value.specs.NodeTests.CollapsedWhitespace.{is_words}
 use Rattle.edit_model.specs.State.{State}
 use Rattle.edit_model.specs.Confined.{is_inside}
 use Rattle.edit_model.specs.Run.{Run, ◌>>=◌, ◌>>◌, done, look, given, insert}
-use Rattle.list_indent.specs.EditActions.ActiveRange.{start_of}
+use Rattle.inline_value.specs.EditActions.ActiveRange.{start_of}
 use Rattle.inline_commands.specs.RestoringStates.{restore_states}
 use Rattle.delete_core.specs.declared.deletion.Manner.{Manner}
 use Rattle.delete_core.specs.Deletion.{delete_selection}

@@ -6,12 +6,12 @@ use Rattle.std.specs.Option.{option_map}
 use Rattle.edit_model.specs.DomModel.declared.Content.{Content}
 use Rattle.edit_model.specs.DomModel.Forest.{Forest, either, next_of, first_of}
 use Rattle.edit_model.specs.LiveRange.declared.places.Point.{Point}
-use Rattle.list_indent.specs.NodeTests.BlockPoints.{child_before, child_at}
-use Rattle.list_indent.specs.NodeTests.CollapsedWhitespace.{is_words}
-use Rattle.list_indent.specs.NodeTests.SolidNeighbours.{is_collapsed_break}
+use Rattle.inline_value.specs.NodeTests.BlockPoints.{child_before, child_at}
+use Rattle.inline_value.specs.NodeTests.CollapsedWhitespace.{is_words}
+use Rattle.inline_value.specs.NodeTests.SolidNeighbours.{is_collapsed_break}
 use Rattle.edit_model.specs.Run.{Run, ◌>>=◌, ◌>>◌, answer, done, look, given, for_each, remove, replace, make_words, select, collapse}
 use Rattle.inline_commands.specs.RestoringStates.{restore_states}
-use Rattle.list_indent.specs.InlineValue.Overrides.{overrides_of}
+use Rattle.inline_value.specs.Overrides.{overrides_of}
 use Rattle.delete_core.specs.declared.deletion.TheConstants.Manner.{KEEP_WRAPPERS}
 use Rattle.delete_core.specs.Ends.{collapse_selection, canonicalize_start, canonicalize_end}
 use Rattle.delete_core.specs.Places.{at, start_in, end_in}

@@ -4,14 +4,14 @@
 ghost use Rattle.std.specs.Prelude.{◌≡◌, true, IfSome};
 ghost use Rattle.edit_model.specs.Confined.{is_editable_for, is_inside};
 ghost use Rattle.edit_model.specs.Gives.{label_of};
-ghost use Rattle.list_indent.specs.EditDoc.Held.{Holds, IfHeld, Finds};
+ghost use Rattle.inline_value.specs.EditDoc.Held.{Holds, IfHeld, Finds};
 ghost use Rattle.text_insertion.specs.Containers as containers;
 
 use crate::entries::is_entry;
-use list_indent::doc::{Doc, NodeRef};
-use list_indent::query::is_editable_inside;
-use list_indent::questions::{has_name, is_single_line};
-use list_indent::wrap::turn_bound;
+use inline_value::doc::{Doc, NodeRef};
+use inline_value::query::is_editable_inside;
+use inline_value::questions::{has_name, is_single_line};
+use inline_value::wrap::turn_bound;
 
 // A node, if there is one, that is editable.
 fn if_editable(doc: &Doc, inside: bool, node: Option<NodeRef>) -> Option<NodeRef>

@@ -2,15 +2,15 @@
 
 ghost use Rattle.std.specs.Prelude.{◌≡◌, IfOk};
 ghost use Rattle.edit_model.specs.Gives.{Gives, GivesNode};
-ghost use Rattle.list_indent.specs.EditDoc.Whole.{IsOpen};
-ghost use Rattle.list_indent.specs.EditDoc.Held.{Holds, Keeps};
+ghost use Rattle.inline_value.specs.EditDoc.Whole.{IsOpen};
+ghost use Rattle.inline_value.specs.EditDoc.Held.{Holds, Keeps};
 ghost use Rattle.text_insertion.specs.Entries as entries;
 
 use delete_core::fill_empty;
-use list_indent::doc::{Doc, EditFault, NodeList, NodeRef};
-use list_indent::inline::{container_name, fix_ancestors, has_place, is_description};
-use list_indent::questions::{has_name, is_break};
-use list_indent::wrap::split_parent;
+use inline_value::doc::{Doc, EditFault, NodeList, NodeRef};
+use inline_value::questions::{has_name, is_break};
+use inline_value::wrap::split_parent;
+use inline_value::{container_name, fix_ancestors, has_place, is_description};
 use std::alloc::Global;
 
 /// Whether a node is an li, dt or dd.

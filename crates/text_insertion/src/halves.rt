@@ -6,8 +6,8 @@ ghost use Rattle.edit_model.specs.DomModel.AttributeList.{unset_in};
 ghost use Rattle.edit_model.specs.DomModel.Forest.{count_of};
 ghost use Rattle.edit_model.specs.Compositions as compositions;
 ghost use Rattle.edit_model.specs.Gives.{Gives, GivesNode, labels_of};
-ghost use Rattle.list_indent.specs.EditDoc.Whole.{IsOpen};
-ghost use Rattle.list_indent.specs.EditDoc.Held.{Holds, EachHeld, Finds, Keeps};
+ghost use Rattle.inline_value.specs.EditDoc.Whole.{IsOpen};
+ghost use Rattle.inline_value.specs.EditDoc.Held.{Holds, EachHeld, Finds, Keeps};
 ghost use Rattle.text_insertion.specs.Halves as halves;
 
 use crate::start::active_start;
@@ -15,12 +15,12 @@ use delete_core::{after_node, before_node, end_in, select, shows_child, start_in
 use edit_model::boundary::node_of;
 use edit_model::dom::{Attributes, Content};
 use edit_model::element_names::is_heading;
-use list_indent::actions::{attributes_of, insert_after, tag_of};
-use list_indent::doc::{Doc, EditFault, Name, NodeRef, Point};
-use list_indent::inline::{container_name, is_prohibited};
-use list_indent::query::nodes_in;
-use list_indent::questions::{has_name, is_break};
-use list_indent::wrap::{append_break, turn_bound};
+use inline_value::actions::{attributes_of, insert_after, tag_of};
+use inline_value::doc::{Doc, EditFault, Name, NodeRef, Point};
+use inline_value::query::nodes_in;
+use inline_value::questions::{has_name, is_break};
+use inline_value::wrap::{append_break, turn_bound};
+use inline_value::{container_name, is_prohibited};
 use std::alloc::{AllocError, Global};
 
 // Step 7: out of a node at its start.

@@ -13,12 +13,8 @@ mod paragraph;
 mod start;
 mod typing;
 
-pub use delete_core as deleting;
 pub use entries::{is_entry, rename_stray};
-pub use inline_commands as formats;
-pub use list_indent as indents;
-pub use list_indent::doc::{Doc, EditFault, NodeRef};
-pub use list_indent::{actions, doc, extend, inline, query, questions, wrap};
+pub use inline_value::doc::{Doc, EditFault, NodeRef};
 pub use paragraph::insert_paragraph;
 pub use start::{cuts_text, erase, has_chars, insert_at_start, start_inside};
 pub use typing::insert_text;

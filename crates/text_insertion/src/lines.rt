@@ -5,22 +5,22 @@ ghost use Rattle.std.specs.Prelude.{◌≡◌, ◌<◌, ◌++◌, IfOk};
 ghost use Rattle.std.specs.List.{find};
 ghost use Rattle.edit_model.specs.DomModel.Forest.{count_of};
 ghost use Rattle.edit_model.specs.Gives.{GivesMaybe, label_of, labels_of};
-ghost use Rattle.list_indent.specs.EditDoc.Whole.{IsOpen};
-ghost use Rattle.list_indent.specs.EditDoc.Held.{Holds, IfHeld, EachHeld, Finds, Keeps};
-ghost use Rattle.list_indent.specs.WrapSplit.Walks.{turn_bound};
+ghost use Rattle.inline_value.specs.EditDoc.Whole.{IsOpen};
+ghost use Rattle.inline_value.specs.EditDoc.Held.{Holds, IfHeld, EachHeld, Finds, Keeps};
+ghost use Rattle.inline_value.specs.WrapSplit.Walks.{turn_bound};
 ghost use Rattle.text_insertion.specs.Containers as containers;
 
 use crate::start::{active_start, insert_at_start};
 use delete_core::{select, start_in};
 use edit_model::boundary::node_of;
 use edit_model::dom::Attributes;
-use list_indent::actions::ends_of;
-use list_indent::doc::{Doc, EditFault, NodeList, NodeRef, Point};
-use list_indent::extend::block_extend;
-use list_indent::inline::container_name;
-use list_indent::query::nodes_in;
-use list_indent::questions::{allowed_in_name, is_single_line, name_allowed_in};
-use list_indent::wrap::{Blank, CopyMade, NoSibling, WrapRule, append_break, turn_bound, wrap};
+use inline_value::actions::ends_of;
+use inline_value::container_name;
+use inline_value::doc::{Doc, EditFault, NodeList, NodeRef, Point};
+use inline_value::extend::block_extend;
+use inline_value::query::nodes_in;
+use inline_value::questions::{allowed_in_name, is_single_line, name_allowed_in};
+use inline_value::wrap::{Blank, CopyMade, NoSibling, WrapRule, append_break, turn_bound, wrap};
 use std::alloc::{AllocError, Global};
 
 #[tactic(auto, unfolding(crate::specs::Containers::is_own_container))]

@@ -3,8 +3,8 @@
 ghost use Rattle.std.specs.Prelude.{◌≡◌, ◌<◌, IfOk, IfSome, true};
 ghost use Rattle.edit_model.specs.DomModel.Forest.{count_of};
 ghost use Rattle.edit_model.specs.Gives.{Gives};
-ghost use Rattle.list_indent.specs.EditDoc.Whole.{IsOpen};
-ghost use Rattle.list_indent.specs.EditDoc.Held.{Holds, Keeps};
+ghost use Rattle.inline_value.specs.EditDoc.Whole.{IsOpen};
+ghost use Rattle.inline_value.specs.EditDoc.Held.{Holds, Keeps};
 ghost use Rattle.text_insertion.specs.Paragraph as command;
 
 use crate::containers::container_of;
@@ -14,10 +14,10 @@ use crate::lines::own_container;
 use crate::start::{cuts_text, erase, has_chars, insert_at_start, start_inside};
 use delete_core::{Manner, after_node, before_node, select};
 use edit_model::boundary::node_of;
-use list_indent::actions::make_break;
-use list_indent::doc::{Doc, EditFault, NodeRef, Point};
-use list_indent::questions::{has_name, is_words};
-use list_indent::wrap::last_below;
+use inline_value::actions::make_break;
+use inline_value::doc::{Doc, EditFault, NodeRef, Point};
+use inline_value::questions::{has_name, is_words};
+use inline_value::wrap::last_below;
 use std::alloc::{AllocError, Global};
 
 // Step 2: from the end of a text to after it, and else to before the text or comment.

@@ -5,17 +5,17 @@ ghost use Rattle.std.specs.Prelude.{◌≡◌, ◌<◌, IfSome};
 ghost use Rattle.edit_model.specs.DomModel.Contents.{has_chars_at};
 ghost use Rattle.edit_model.specs.DomModel.Forest.{count_of};
 ghost use Rattle.edit_model.specs.Gives.{Gives};
-ghost use Rattle.list_indent.specs.EditDoc.Whole.{IsOpen};
-ghost use Rattle.list_indent.specs.EditDoc.Held.{Holds, Keeps};
+ghost use Rattle.inline_value.specs.EditDoc.Whole.{IsOpen};
+ghost use Rattle.inline_value.specs.EditDoc.Held.{Holds, Keeps};
 ghost use Rattle.text_insertion.specs.Start as start;
 
 use delete_core::{Manner, child_at, delete_selection};
 use edit_model::boundary::node_of;
 use edit_model::dom::Content;
 use inline_commands::restore_states;
-use list_indent::actions::ends_of;
-use list_indent::doc::{Doc, EditFault, NodeRef, Point};
-use list_indent::questions::is_words;
+use inline_value::actions::ends_of;
+use inline_value::doc::{Doc, EditFault, NodeRef, Point};
+use inline_value::questions::is_words;
 use std::alloc::Global;
 
 /// The start of the active range.

@@ -4,8 +4,8 @@ ghost use Rattle.std.specs.Prelude.{◌≡◌, ◌<◌, IfOk, true};
 ghost use Rattle.edit_model.specs.DomModel.Forest.{count_of};
 ghost use Rattle.edit_model.specs.Gives.{Gives, label_of};
 ghost use Rattle.edit_model.specs.Run.{for_each};
-ghost use Rattle.list_indent.specs.EditDoc.Whole.{IsOpen};
-ghost use Rattle.list_indent.specs.EditDoc.Held.{Holds, IfHeld, Finds, Keeps};
+ghost use Rattle.inline_value.specs.EditDoc.Whole.{IsOpen};
+ghost use Rattle.inline_value.specs.EditDoc.Held.{Holds, IfHeld, Finds, Keeps};
 ghost use Rattle.text_insertion.specs.Typing as typing;
 
 use crate::paragraph::insert_paragraph;
@@ -16,9 +16,9 @@ use delete_core::{
 };
 use edit_model::boundary::node_of;
 use inline_commands::restore_states;
-use list_indent::doc::{Doc, EditFault, NodeRef, Point};
-use list_indent::inline::record_overrides;
-use list_indent::questions::{is_collapsed_break, is_words};
+use inline_value::doc::{Doc, EditFault, NodeRef, Point};
+use inline_value::questions::{is_collapsed_break, is_words};
+use inline_value::record_overrides;
 use std::alloc::{AllocError, Global};
 
 // A node, if there is one, that is a text.

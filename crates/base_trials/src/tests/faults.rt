@@ -2,13 +2,13 @@
 
 use super::rows::assert_row;
 use edit_io::{Failed, ReadAllFault, SinkFault};
-use page_read::arena::MakeFault;
+use edit_model::EditFault;
+use edit_model::arena::MakeFault;
+use edit_model::dom_ranges::MarkFault;
 use page_read::{PageFault, PageKind};
 use std::alloc::Global;
 use std::fmt::Display;
 use step_text::StepFault;
-use step_text::dom_ranges::MarkFault;
-use step_text::model::EditFault;
 use step_text::script::LineFault;
 
 // Whether a fault prints itself so.

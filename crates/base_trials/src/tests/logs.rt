@@ -1,12 +1,12 @@
 //! A list of numbers, edited by writes and swaps under a log of their inverses.
 ghost use Rattle.std.specs.Prelude.{◌≡◌, ◌<◌, ◌↔◌, IsTrue, length};
 
-use document_edits::history::{Committed, Invertible, UndoLog, Watch, laws};
-use page_read::stepping::Steps;
+use edit_model::stepping::Steps;
 use std::alloc::{AllocError, Global};
 use std::marker::{Brand, Model};
 use std::sync::ledger::{Blank, Ledger};
 use std::test::Fail;
+use undo_log::{Committed, Invertible, UndoLog, Watch, laws};
 
 type Numbers = [u32; 4];
 
@@ -78,8 +78,8 @@ pub(crate) struct Session<T: Invertible<S> + Drop, S: Drop, L: Ledger> {
 }
 
 impl<T: Invertible<S> + Drop, S: Drop, L: Ledger> Model for Session<T, S, L> {
-    ghost use Rattle.document_edits.specs.UndoLog.Log.{is_open};
-    ghost use Rattle.document_edits.specs.UndoLog.States.{Follows};
+    ghost use Rattle.undo_log.specs.Log.{is_open};
+    ghost use Rattle.undo_log.specs.States.{Follows};
     ghost use Rattle.std.specs.Prelude.{◌≡◌};
 
     ghost Value = { S };

@@ -1,12 +1,12 @@
 //! Names of elements and of boxes, by the tables.
 
 use super::rows::assert_row;
-use std::test::Fail;
-use step_text::element_names::{
+use edit_model::element_names::{
     allowed_child, box_names, has_inline_contents, is_box_name, is_formattable_block, is_heading,
     is_margin_name, is_non_list_single_line_container, is_prohibited_child,
     is_remove_format_candidate, is_single_line_container, is_supported, is_void,
 };
+use std::test::Fail;
 
 // What is asked of a name.
 #[derive(Clone, Copy)]

@@ -1,12 +1,12 @@
 //! Points that follow edits, and marks.
 
 ghost use Rattle.std.specs.Prelude.{◌≡◌, ◌<◌};
-ghost use Rattle.step_text.specs.LiveRange.LivePoints.{no_points};
+ghost use Rattle.edit_model.specs.LiveRange.LivePoints.{no_points};
 
 use super::rows::assert_row;
+use edit_model::dom_ranges::{MarkFault, Pair, Point, Points};
 use std::alloc::Global;
 use std::test::Fail;
-use step_text::dom_ranges::{MarkFault, Pair, Point, Points};
 
 fn small(label: u32, offset: u8) -> Point
     ensures { result.offset < 256 }

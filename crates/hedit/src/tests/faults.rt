@@ -1,6 +1,6 @@
 //! What the faults of calls of the editor print.
 
-use edit_session::engine::{ExecFault, LogFault, PlaceFault, ViewFault};
+use edit_engine::{ExecFault, LogFault, PlaceFault, ViewFault};
 use std::alloc::Global;
 use std::fmt::Display;
 

@@ -1,21 +1,21 @@
 //! Calls that change an editor.
 
 ghost use Rattle.std.specs.Prelude.{◌≡◌, nat_lt, length};
-ghost use Rattle.edit_session.specs.EditEngine.Changes.{CanFollow, TellsNoChange};
-ghost use Rattle.edit_session.specs.EditEngine.Editing.{Editing, EditorValue, undone, redone};
-ghost use Rattle.edit_session.specs.EditEngine.Execution.{Outcome, Tells, outcome_by, gated_outcome};
+ghost use Rattle.edit_engine.specs.Changes.{CanFollow, TellsNoChange};
+ghost use Rattle.edit_engine.specs.Editing.{Editing, EditorValue, undone, redone};
+ghost use Rattle.edit_engine.specs.Execution.{Outcome, Tells, outcome_by, gated_outcome};
 ghost use Rattle.hedit_c.specs.Following.{KeepsFollowing, KeepsUnlessDone};
 ghost use Rattle.std.specs.Str.{chars};
 ghost use Rattle.hedit_c.specs.Calls.{ExecAnswers, ExecTells, SelectPointsTell, answered_status, GatedTells, SelectTells, MarkTells, UnmarkTells, ReplaceAnswers, ReplaceTells, pair_there, pair_of_points, place, replaced_status, selected_status};
 
 use super::status::Status;
 use super::texts::place_of;
-use edit_session::doc::Point;
-use edit_session::dom::{Chars, Name};
-use edit_session::engine::{Answer, Editor, ExecFault, PlaceFault, ReplaceFault, Turn};
-use edit_session::policy::{Gate, NameList};
+use command_gate::{Gate, NameList};
+use edit_engine::{Answer, Editor, ExecFault, PlaceFault, ReplaceFault, Turn};
+use edit_model::dom::{Chars, Name};
 use edit_session::read_gate;
-use edit_session::script::Place;
+use inline_value::doc::Point;
+use script_read::Place;
 use std::alloc::Global;
 
 // The status of a command's answer.

@@ -5,8 +5,8 @@ ghost use Rattle.hedit_c.specs.Calls.{ReplyTells, QueryTells, ViewTells, query_k
 
 use super::status::Status;
 use super::texts::{put, put_chars};
-use edit_session::engine::{Editor, Reply, ViewKind};
-use packed_edits::element_names::QueryKind;
+use edit_engine::{Editor, Reply, ViewKind};
+use edit_model::element_names::QueryKind;
 use std::alloc::Global;
 
 // The question that a number names.

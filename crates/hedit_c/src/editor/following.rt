@@ -2,12 +2,12 @@
 
 ghost use Rattle.std.specs.Prelude.{◌≡◌, IfOk};
 ghost use Rattle.packed_edits.specs.Packed.{packed};
-ghost use Rattle.edit_session.specs.EditEngine.Changes.{changes_of};
+ghost use Rattle.edit_engine.specs.Changes.{changes_of};
 ghost use Rattle.hedit_c.specs.Following.{ChangesTell, KeptTells, RevisionTells};
 
 use super::status::Status;
 use super::texts::put;
-use edit_session::engine::Editor;
+use edit_engine::Editor;
 use packed_edits::pack;
 use std::alloc::{AllocError, Global};
 

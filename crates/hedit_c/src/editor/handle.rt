@@ -3,12 +3,12 @@
 ghost use Rattle.std.specs.Prelude.{◌≡◌, MatchOption, Option, None, Some};
 ghost use Rattle.std.specs.Coded.{coded_option};
 ghost use Rattle.std.specs.contracts.impls.GlobalAllocator.TheImpl.{ghosts};
-ghost use Rattle.edit_session.specs.EditEngine.Editing.{EditorValue, value_code};
-ghost use Rattle.edit_session.specs.EditEngine.contracts.editor.Editor.{the_row};
+ghost use Rattle.edit_engine.specs.Editing.{EditorValue, value_code};
+ghost use Rattle.edit_engine.specs.contracts.editor.Editor.{the_row};
 ghost use Rattle.hedit_c.specs.Held.{held};
 
 use super::raw_box::RawBox;
-use edit_session::engine::Editor;
+use edit_engine::Editor;
 use std::alloc::Global;
 use std::marker::Model;
 use std::mem::replace;

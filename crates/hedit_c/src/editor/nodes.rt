@@ -2,16 +2,16 @@
 
 ghost use Rattle.std.specs.Prelude.{◌≡◌, [], MatchOption, encode_utf8_all, slice_get};
 ghost use Rattle.std.specs.Option.{option_map};
-ghost use Rattle.edit_session.specs.EditDoc.Held.{Holds};
-ghost use Rattle.edit_session.specs.EditModel.Gives.{label_of};
+ghost use Rattle.inline_value.specs.EditDoc.Held.{Holds};
+ghost use Rattle.edit_model.specs.Gives.{label_of};
 ghost use Rattle.hedit_c.specs.Nodes.{label_number, node_type, facts_of, NodeTells, LabelTells, PathTells, name_text, value_text, TextTells, NameTells, attributes_in, attribute_name, attribute_value, AttributeTells, AttributeNameTells, selection_of, SelectionTells, MarkNameTells, MarkRangeTells, numbers_of, NumbersTell};
 
 use super::status::Status;
 use super::texts::{put, put_chars};
-use edit_session::doc::{Doc, NodeRef, Pair};
-use edit_session::dom::{Attributes, Chars, Content};
-use edit_session::engine::{Editor, ViewFault};
-use edit_session::script::Path;
+use edit_engine::{Editor, ViewFault};
+use edit_model::dom::{Attributes, Chars, Content};
+use inline_value::doc::{Doc, NodeRef, Pair};
+use script_read::Path;
 use std::alloc::Global;
 
 /// What a node is, as DOM numbers the types of nodes (1 an element, 3 a text, 8 a comment, 9 the

@@ -1,16 +1,16 @@
 //! Opening a page.
 
 ghost use Rattle.std.specs.Prelude.{◌≡◌, ◌<◌, IfOk, IfSome, MatchResult, Err, List, ℕ};
-ghost use Rattle.edit_session.specs.EditDoc.Whole.{HasNoLoose};
-ghost use Rattle.edit_session.specs.EditEngine.Editing.{new_editing};
-ghost use Rattle.edit_session.specs.PageRead.Answer.{IsAnswer};
+ghost use Rattle.inline_value.specs.EditDoc.Whole.{HasNoLoose};
+ghost use Rattle.edit_engine.specs.Editing.{new_editing};
+ghost use Rattle.page_read.specs.Answer.{IsAnswer};
 ghost use Rattle.hedit_c.specs.Calls.{IsOpened, NotOpened};
 ghost use Rattle.hedit_c.specs.Following.{BeginsFollowing};
 
 use super::status::Status;
-use edit_session::arena::Arena;
-use edit_session::engine::Editor;
-use edit_session::reader::{PageFault, PageKind, read_page};
+use edit_engine::Editor;
+use edit_model::arena::Arena;
+use page_read::{PageFault, PageKind, read_page};
 use std::alloc::Global;
 
 /// Where a page is refused, and why.

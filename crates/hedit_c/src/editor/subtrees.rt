@@ -2,16 +2,16 @@
 
 ghost use Rattle.std.specs.Prelude.{◌≡◌, IfOk, map};
 ghost use Rattle.std.specs.Str.{chars};
-ghost use Rattle.edit_session.specs.NodeTexts.NodeHtml.{node_html};
-ghost use Rattle.edit_session.specs.NodeTexts.Occurrences.{found_in};
+ghost use Rattle.node_texts.specs.NodeHtml.{node_html};
+ghost use Rattle.node_texts.specs.Occurrences.{found_in};
 ghost use Rattle.hedit_c.specs.Subtrees.{SubtreeTells, FindTells, SelectedTells, plain_bytes, point_facts, html_selected, text_selected};
 ghost use Rattle.hedit_c.specs.Calls.{PutsUnlessMemory};
 
 use super::status::Status;
 use super::texts::{put, put_chars};
-use edit_session::doc::Point;
-use edit_session::dom::Chars;
-use edit_session::engine::{Editor, ViewFault};
+use edit_engine::{Editor, ViewFault};
+use edit_model::dom::Chars;
+use inline_value::doc::Point;
 use std::alloc::{AllocError, Global};
 
 /// A point: the label of a node, and an offset in it.

@@ -4,8 +4,8 @@ ghost use Rattle.std.specs.Prelude.{◌≡◌, IfOk, encode_utf8_all};
 ghost use Rattle.hedit_c.specs.Calls.{Puts, PutsUnlessMemory, place};
 
 use super::status::Status;
-use edit_session::script::{Path, Place};
-use packed_edits::escapes::push_chars;
+use escaped_text::push_chars;
+use script_read::{Path, Place};
 use std::alloc::{AllocError, Global};
 use std::marker::Copy;
 

@@ -6,11 +6,11 @@
 //! what they do with one.
 
 ghost use Rattle.std.specs.Prelude.{◌≡◌, ◌<◌, IfOk};
-ghost use Rattle.edit_commands.specs.DomModel.Forest.{count_of};
-ghost use Rattle.edit_commands.specs.EditDoc.Whole.{HasNoLoose, IsClosed, IsOpen};
+ghost use Rattle.edit_model.specs.DomModel.Forest.{count_of};
+ghost use Rattle.inline_value.specs.EditDoc.Whole.{HasNoLoose, IsClosed, IsOpen};
 
-use edit_commands::arena::{Arena, NodeRef, Nodes};
-use edit_commands::doc::{Doc, Point};
+use edit_model::arena::{Arena, NodeRef, Nodes};
+use inline_value::doc::{Doc, Point};
 use page_read::read_page;
 use page_write::write_html;
 use std::alloc::{AllocError, Global};

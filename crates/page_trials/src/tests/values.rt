@@ -1,10 +1,10 @@
 //! Command values.
 
 use crate::tests::fixtures::{Look, Page, chars, check_pages, node_of};
-use edit_commands::arena::Arena;
-use edit_commands::dom::Chars;
-use edit_commands::element_names::Command;
-use edit_commands::values::{
+use edit_model::arena::Arena;
+use edit_model::dom::Chars;
+use edit_model::element_names::Command;
+use inline_value::values::{
     alike, equivalent, is_modifiable_element, is_simple_modifiable_element, meets_value,
 };
 use std::alloc::{AllocError, Global};

@@ -7,9 +7,9 @@ mod lists;
 mod splits;
 
 ghost use Rattle.std.specs.Prelude.{IfOk};
-ghost use Rattle.edit_commands.specs.EditDoc.Held.{EachHeld};
+ghost use Rattle.inline_value.specs.EditDoc.Held.{EachHeld};
 
-use edit_commands::doc::{Doc, NodeList};
+use inline_value::doc::{Doc, NodeList};
 use std::alloc::{AllocError, Global};
 
 // The nodes of two labels; one node where they are the same, and none where there is no node.

@@ -1,5 +1,5 @@
-use Rattle.edit_commands.specs.EditModel.Run.{final}
-use Rattle.edit_commands.specs.TextInsertion.Start.{erase}
+use Rattle.edit_model.specs.Run.{final}
+use Rattle.text_insertion.specs.Start.{erase}
 use Rattle.caret_laws.proofs.Blanks.{caret_then}
 use Rattle.caret_laws.proofs.CaretErasing.{erased}
 use Rattle.caret_laws.proofs.erasing.erasing_keeps.Goals as goal

@@ -1,4 +1,4 @@
-use Rattle.wrap_split.specs.EditDoc.Whole.{IsClosed}
+use Rattle.inline_value.specs.EditDoc.Whole.{IsClosed}
 use Rattle.edit_bench.proofs.acts.run_rounds.Given as goal
 
 -- no command is running

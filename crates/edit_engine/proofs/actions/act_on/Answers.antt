@@ -1,8 +1,8 @@
 use Rattle.std.proofs.Common.{ap, subst}
 use Rattle.edit_model.specs.Gives.{Gives}
 use Rattle.edit_model.specs.State.{State}
-use Rattle.edit_commands.specs.EditDoc.Whole.{Whole}
-use Rattle.edit_commands.proofs.EditDoc.Chosen.{keeps_both}
+use Rattle.inline_value.specs.EditDoc.Whole.{Whole}
+use Rattle.inline_value.proofs.EditDoc.Chosen.{keeps_both}
 use Rattle.edit_engine.specs.Commands.{action_of}
 use Rattle.edit_engine.proofs.Selected.{gives_selected}
 use Rattle.edit_engine.proofs.actions.act_on.Goals as goal

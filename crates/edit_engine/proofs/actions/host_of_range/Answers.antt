@@ -1,4 +1,4 @@
-use Rattle.edit_commands.proofs.EditActions.Placed.{placed_here}
+use Rattle.inline_value.proofs.EditActions.Placed.{placed_here}
 use Rattle.edit_engine.proofs.actions.host_of_range.Goals as goal
 
 pub affected_host-requires : goal.affected_host-requires

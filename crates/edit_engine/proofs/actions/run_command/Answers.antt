@@ -1,6 +1,6 @@
 use Rattle.std.proofs.Common.{ℕ, Option, ap, ◌∙◌}
 use Rattle.edit_model.specs.Gives.{label_of}
-use Rattle.edit_commands.specs.EditDoc.Whole.{opened}
+use Rattle.inline_value.specs.EditDoc.Whole.{opened}
 use Rattle.edit_engine.specs.declared.commands.Row.{Row}
 use Rattle.edit_engine.specs.Commands.{row_of, action_of}
 use Rattle.edit_engine.specs.Execution.{host_at, run_at}

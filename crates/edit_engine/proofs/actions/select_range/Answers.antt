@@ -1,4 +1,4 @@
-use Rattle.edit_commands.proofs.InlineValue.Selecting.{keeps_selected}
+use Rattle.inline_value.proofs.Selecting.{keeps_selected}
 use Rattle.edit_engine.proofs.actions.select_range.Goals as goal
 
 pub returns-clause-keeps : goal.returns-clause-keeps

@@ -1,5 +1,5 @@
-use Rattle.edit_commands.specs.DomModel.Forest.{IsWithin}
-use Rattle.edit_commands.specs.EditDoc.Held.{Holds}
+use Rattle.edit_model.specs.DomModel.Forest.{IsWithin}
+use Rattle.inline_value.specs.EditDoc.Held.{Holds}
 use Rattle.edit_engine.proofs.Finding.{text_same, all_inside}
 use Rattle.edit_engine.proofs.Seeing.{same_first}
 use Rattle.edit_engine.proofs.probe.push_node.Goals as goal

@@ -1,5 +1,5 @@
 use Rattle.edit_engine.proofs.Seeing.{same_first, points_same, points_inside}
-use Rattle.step_text.specs.PageWrite.PointLines.{AreIn}
+use Rattle.page_write.specs.PointLines.{AreIn}
 use Rattle.edit_engine.proofs.views.points_lines.Goals as goal
 
 pub write_points-requires : goal.write_points-requires

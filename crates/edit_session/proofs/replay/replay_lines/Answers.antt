@@ -1,5 +1,5 @@
 use Rattle.std.proofs.Common.{◌+◌, take, drop, sym, ap, ◌∙◌, arith}
-use Rattle.edit_engine.specs.StepText.Applying.{labelled}
+use Rattle.step_text.specs.Applying.{labelled}
 use Rattle.edit_session.specs.Block.{lines_of}
 use Rattle.edit_session.specs.Replay.{replayed, lines_replayed}
 use Rattle.edit_session.proofs.Runs.{some_left}

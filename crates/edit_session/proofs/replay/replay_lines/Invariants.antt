@@ -1,5 +1,5 @@
 use Rattle.std.proofs.Common.{◌≡◌, ◌+◌, ◌<◌, ◌≤◌, length}
-use Rattle.edit_engine.specs.StepText.Applying.{labelled}
+use Rattle.step_text.specs.Applying.{labelled}
 use Rattle.edit_session.specs.Block.{lines_of}
 use Rattle.edit_session.specs.Replay.{replayed, lines_replayed, replay}
 use Rattle.edit_session.proofs.replay.replay_lines.Given as goal

@@ -1,5 +1,5 @@
 use Rattle.edit_session.proofs.Runs.{checked_answered, checked_wanted}
-use Rattle.page_read.specs.PageGrammar.Reading.{page_reading}
+use Rattle.step_text.specs.PageGrammar.Reading.{page_reading}
 use Rattle.edit_session.specs.Transcript.{checked}
 use Rattle.edit_session.proofs.session.check.Goals as goal
 

@@ -1,4 +1,4 @@
-use Rattle.page_read.specs.PageGrammar.Reading.{page_reading}
+use Rattle.step_text.specs.PageGrammar.Reading.{page_reading}
 use Rattle.edit_session.specs.Block.{lines_of}
 use Rattle.edit_session.specs.Words.{denied_in, limits_in}
 use Rattle.edit_session.specs.Transcript.{acted}

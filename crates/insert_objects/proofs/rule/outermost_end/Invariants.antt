@@ -1,7 +1,7 @@
 use Rattle.std.proofs.Common.{◌≡◌, ◌<◌}
 use Rattle.edit_model.specs.DomModel.Forest.{count_of}
-use Rattle.text_insertion.specs.WrapSplit.Walks.{turn_bound}
-use Rattle.text_insertion.specs.DeleteCore.Places.{walk_points}
+use Rattle.inline_value.specs.WrapSplit.Walks.{turn_bound}
+use Rattle.delete_core.specs.Places.{walk_points}
 use Rattle.insert_objects.specs.Rule.{out_of_end}
 use Rattle.insert_objects.proofs.rule.outermost_end.Given as goal
 

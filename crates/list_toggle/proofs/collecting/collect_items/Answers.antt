@@ -1,7 +1,7 @@
 use Rattle.std.proofs.Common.{◌≡◌, true, false, sym, ◌∙◌, arith, drop, length-drop}
 use Rattle.edit_model.specs.Gives.{labels_of}
-use Rattle.list_indent.proofs.EditDoc.Chosen.{keeps_both}
-use Rattle.list_indent.proofs.EditQuery.Lists.{tail_is}
+use Rattle.inline_value.proofs.EditDoc.Chosen.{keeps_both}
+use Rattle.inline_value.proofs.EditQuery.Lists.{tail_is}
 use Rattle.list_toggle.specs.Collecting.{goes_on, collect_items}
 use Rattle.list_toggle.proofs.Exits.{exit_as}
 use Rattle.list_toggle.proofs.Turns.{goes_on_some, turn_ends, turn_answers, collect_fails, stop_ends, stop_answers, end_ends, end_answers}

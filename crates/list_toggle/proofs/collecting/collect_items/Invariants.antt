@@ -1,8 +1,8 @@
 use Rattle.std.proofs.Common.{◌≡◌, ◌≤◌, [], length, drop}
 use Rattle.edit_model.specs.Gives.{labels_of}
 use Rattle.edit_model.specs.Run.{final, value, while_at_most}
-use Rattle.list_indent.specs.EditDoc.Held.{EachHeld, Keeps}
-use Rattle.list_indent.specs.WrapSplit.Walks.{turn_bound}
+use Rattle.inline_value.specs.EditDoc.Held.{EachHeld, Keeps}
+use Rattle.inline_value.specs.WrapSplit.Walks.{turn_bound}
 use Rattle.list_toggle.specs.Collecting.{goes_on, collect_next}
 use Rattle.list_toggle.proofs.collecting.collect_items.Given as goal
 

@@ -1,7 +1,7 @@
 use Rattle.std.proofs.Common.{◌≡◌, drop}
 use Rattle.edit_model.specs.Gives.{labels_of}
 use Rattle.edit_model.specs.Run.{final, for_each}
-use Rattle.list_indent.specs.EditDoc.Held.{Keeps}
+use Rattle.inline_value.specs.EditDoc.Held.{Keeps}
 use Rattle.list_toggle.specs.Converting.{convert_list}
 use Rattle.list_toggle.proofs.converting.convert_each.Given as goal
 

@@ -1,4 +1,4 @@
-use Rattle.list_indent.proofs.InlineValue.Selecting.{keeps_scratched}
+use Rattle.inline_value.proofs.Selecting.{keeps_scratched}
 use Rattle.list_toggle.proofs.ranges.keep_range.Goals as goal
 
 pub returns-in-Some-clause-keeps : goal.returns-in-Some-clause-keeps

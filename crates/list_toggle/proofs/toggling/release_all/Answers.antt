@@ -1,8 +1,8 @@
 use Rattle.std.proofs.Common.{◌≤◌, ◌-◌, length, arith}
 use Rattle.std.proofs.lemmas.List.{length-drop}
 use Rattle.edit_model.proofs.Steps.{exit}
-use Rattle.list_indent.proofs.EditDoc.Chosen.{keeps_both}
-use Rattle.list_indent.proofs.EditQuery.Lists.{tail_is}
+use Rattle.inline_value.proofs.EditDoc.Chosen.{keeps_both}
+use Rattle.inline_value.proofs.EditQuery.Lists.{tail_is}
 use Rattle.list_indent.proofs.Series.{turn_done, turn_fails}
 use Rattle.list_toggle.specs.Toggle.{goes_on_out, release_series, release_all}
 use Rattle.list_toggle.proofs.toggling.release_all.Goals as goal

@@ -1,7 +1,7 @@
 use Rattle.std.proofs.Common.{◌≡◌, ◌≤◌, ◌-◌, length, drop}
 use Rattle.edit_model.specs.Gives.{labels_of}
 use Rattle.edit_model.specs.Run.{final}
-use Rattle.list_indent.specs.EditDoc.Held.{Keeps}
+use Rattle.inline_value.specs.EditDoc.Held.{Keeps}
 use Rattle.list_indent.specs.Series.{for_series}
 use Rattle.list_toggle.specs.Toggle.{goes_on_out, release_series}
 use Rattle.list_toggle.proofs.toggling.release_all.Given as goal

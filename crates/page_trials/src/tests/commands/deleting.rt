@@ -3,10 +3,10 @@
 //! holds.
 
 use crate::tests::fixtures::{Act, At, Row, check_rows, point, selects};
-use edit_commands::deleting::{
+use delete_core::{
     Manner, canonical_spaces, canonicalize, delete_selection, first_equivalent, last_equivalent,
 };
-use edit_commands::doc::Doc;
+use inline_value::doc::Doc;
 use std::alloc::Global;
 use std::test::Fail;
 

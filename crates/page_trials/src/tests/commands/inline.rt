@@ -5,16 +5,16 @@
 mod ends;
 
 ghost use Rattle.std.specs.Prelude.{IfOk};
-ghost use Rattle.edit_commands.specs.EditDoc.Held.{EachHeld, Holds};
-ghost use Rattle.edit_commands.specs.EditDoc.Whole.{IsOpen};
+ghost use Rattle.inline_value.specs.EditDoc.Held.{EachHeld, Holds};
+ghost use Rattle.inline_value.specs.EditDoc.Whole.{IsOpen};
 
 use crate::tests::fixtures::{Act, Row, chars, check_rows, node_of, point};
-use edit_commands::doc::{Doc, EditFault, NodeRef};
-use edit_commands::element_names::Command;
-use edit_commands::inline::{
+use edit_model::element_names::Command;
+use inline_value::doc::{Doc, EditFault, NodeRef};
+use inline_value::wrap::remove_keeping_children;
+use inline_value::{
     clear_value, fix_ancestors, force, push_down, record_values, reorder, restore_values, set_value,
 };
-use edit_commands::wrap::remove_keeping_children;
 use std::alloc::{AllocError, Global};
 use std::test::Fail;
 

@@ -1,8 +1,8 @@
 //! Which nodes follow and precede line breaks.
 
 use crate::tests::fixtures::{Look, Page, check_pages, node_of};
-use edit_commands::arena::Arena;
-use edit_commands::questions::{follows_break, precedes_break};
+use edit_model::arena::Arena;
+use inline_value::questions::{follows_break, precedes_break};
 use std::alloc::Global;
 use std::test::Fail;
 

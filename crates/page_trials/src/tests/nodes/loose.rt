@@ -1,13 +1,13 @@
 //! The tests of nodes over a document under edits, of a tree that stands apart from the document.
 
 ghost use Rattle.std.specs.Prelude.{IfOk};
-ghost use Rattle.edit_commands.specs.EditDoc.Held.{Holds};
-ghost use Rattle.edit_commands.specs.EditDoc.Whole.{IsClosed};
+ghost use Rattle.inline_value.specs.EditDoc.Held.{Holds};
+ghost use Rattle.inline_value.specs.EditDoc.Whole.{IsClosed};
 
 use crate::tests::fixtures::{Trial, begin, found, range_of};
-use edit_commands::doc::{Attributes, Doc, Name, NodeRef};
-use edit_commands::properties::Property;
-use edit_commands::questions::{contained_nodes, effective_nodes, resolved};
+use inline_value::doc::{Attributes, Doc, Name, NodeRef};
+use inline_value::properties::Property;
+use inline_value::questions::{contained_nodes, effective_nodes, resolved};
 use std::alloc::Global;
 use std::test::Fail;
 

@@ -1,12 +1,12 @@
 //! Where blocks start and end, and what ranges contain.
 
 ghost use Rattle.std.specs.Prelude.{◌<◌};
-ghost use Rattle.edit_commands.specs.DomModel.Forest.{count_of};
+ghost use Rattle.edit_model.specs.DomModel.Forest.{count_of};
 
 use crate::tests::fixtures::{Look, Page, check_pages, labels, point_of, range_of};
-use edit_commands::arena::Arena;
-use edit_commands::dom_ranges::Point;
-use edit_commands::questions::*;
+use edit_model::arena::Arena;
+use edit_model::dom_ranges::Point;
+use inline_value::questions::*;
 use std::alloc::{AllocError, Global};
 use std::test::Fail;
 

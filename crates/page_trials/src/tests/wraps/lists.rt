@@ -2,8 +2,8 @@
 
 use super::listed;
 use crate::tests::fixtures::{Act, Row, check_rows};
-use edit_commands::dom::{Attributes, Name};
-use edit_commands::wrap::{Blank, CopyMade, Doc, NoSibling, WrapRule, wrap};
+use edit_model::dom::{Attributes, Name};
+use inline_value::wrap::{Blank, CopyMade, Doc, NoSibling, WrapRule, wrap};
 use std::alloc::{AllocError, Global};
 use std::test::Fail;
 

@@ -1,11 +1,11 @@
 //! Parents that are split.
 
 ghost use Rattle.std.specs.Prelude.{IfOk};
-ghost use Rattle.edit_commands.specs.EditDoc.Whole.{IsOpen};
+ghost use Rattle.inline_value.specs.EditDoc.Whole.{IsOpen};
 
 use super::listed;
 use crate::tests::fixtures::{Act, Row, check_rows};
-use edit_commands::wrap::{Doc, split_parent};
+use inline_value::wrap::{Doc, split_parent};
 use std::alloc::{AllocError, Global};
 use std::test::Fail;
 

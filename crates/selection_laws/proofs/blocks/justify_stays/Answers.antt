@@ -1,4 +1,4 @@
-use Rattle.edit_commands.specs.BlockCommands.Justify.{justify}
+use Rattle.block_commands.specs.Justify.{justify}
 use Rattle.edit_laws.proofs.HostRuns.{host_calm}
 use Rattle.selection_laws.proofs.CalmBlocks.{calm_justify}
 use Rattle.selection_laws.proofs.blocks.justify_stays.Goals as goal

@@ -1,5 +1,5 @@
 use Rattle.std.specs.Prelude.{false}
-use Rattle.edit_commands.specs.ListToggle.Toggle.{toggle_lists}
+use Rattle.list_toggle.specs.Toggle.{toggle_lists}
 use Rattle.edit_laws.proofs.HostRuns.{in_host}
 use Rattle.selection_laws.proofs.StayingLists.{stays_toggle_lists}
 use Rattle.selection_laws.proofs.blocks.toggle_lists_stays.Goals as goal

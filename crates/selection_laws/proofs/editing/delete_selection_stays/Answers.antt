@@ -1,4 +1,4 @@
-use Rattle.edit_commands.specs.DeleteCore.Deletion.{delete_selection}
+use Rattle.delete_core.specs.Deletion.{delete_selection}
 use Rattle.edit_laws.proofs.HostRuns.{in_host}
 use Rattle.selection_laws.proofs.StayingErasing.{stays_delete_selection}
 use Rattle.selection_laws.proofs.editing.delete_selection_stays.Goals as goal

@@ -1,5 +1,5 @@
 use Rattle.std.specs.Prelude.{true}
-use Rattle.edit_commands.specs.TextDeletion.Delete.{delete}
+use Rattle.text_deletion.specs.Delete.{delete}
 use Rattle.edit_laws.proofs.HostRuns.{in_host}
 use Rattle.selection_laws.proofs.StayingBack.{stays_delete}
 use Rattle.selection_laws.proofs.editing.delete_stays.Goals as goal

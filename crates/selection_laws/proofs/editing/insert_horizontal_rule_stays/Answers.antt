@@ -1,4 +1,4 @@
-use Rattle.edit_commands.specs.InsertObjects.Rule.{insert_horizontal_rule}
+use Rattle.insert_objects.specs.Rule.{insert_horizontal_rule}
 use Rattle.edit_laws.proofs.HostRuns.{in_host}
 use Rattle.selection_laws.proofs.StayingObjects.{stays_insert_horizontal_rule}
 use Rattle.selection_laws.proofs.editing.insert_horizontal_rule_stays.Goals as goal

@@ -1,4 +1,4 @@
-use Rattle.edit_commands.specs.InsertObjects.Image.{insert_image}
+use Rattle.insert_objects.specs.Image.{insert_image}
 use Rattle.edit_laws.proofs.HostRuns.{in_host}
 use Rattle.selection_laws.proofs.StayingObjects.{stays_insert_image}
 use Rattle.selection_laws.proofs.editing.insert_image_stays.Goals as goal

@@ -1,4 +1,4 @@
-use Rattle.edit_commands.specs.InsertObjects.LineBreak.{insert_line_break}
+use Rattle.insert_objects.specs.LineBreak.{insert_line_break}
 use Rattle.edit_laws.proofs.HostRuns.{in_host}
 use Rattle.selection_laws.proofs.StayingObjects.{stays_insert_line_break}
 use Rattle.selection_laws.proofs.editing.insert_line_break_stays.Goals as goal

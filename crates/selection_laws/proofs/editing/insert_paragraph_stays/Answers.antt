@@ -1,4 +1,4 @@
-use Rattle.edit_commands.specs.TextInsertion.Paragraph.{insert_paragraph}
+use Rattle.text_insertion.specs.Paragraph.{insert_paragraph}
 use Rattle.edit_laws.proofs.HostRuns.{in_host}
 use Rattle.selection_laws.proofs.StayingLines.{stays_insert_paragraph}
 use Rattle.selection_laws.proofs.editing.insert_paragraph_stays.Goals as goal

@@ -1,4 +1,4 @@
-use Rattle.edit_commands.specs.TextInsertion.Typing.{insert_text}
+use Rattle.text_insertion.specs.Typing.{insert_text}
 use Rattle.edit_laws.proofs.HostRuns.{in_host}
 use Rattle.selection_laws.proofs.StayingLines.{stays_insert_text}
 use Rattle.selection_laws.proofs.editing.insert_text_stays.Goals as goal

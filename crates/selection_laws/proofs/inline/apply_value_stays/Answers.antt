@@ -1,4 +1,4 @@
-use Rattle.edit_commands.specs.InlineCommands.ValueCommands.{apply_value}
+use Rattle.inline_commands.specs.ValueCommands.{apply_value}
 use Rattle.edit_laws.proofs.HostRuns.{in_host}
 use Rattle.selection_laws.proofs.StayingValues.{stays_apply_value}
 use Rattle.selection_laws.proofs.inline.apply_value_stays.Goals as goal

@@ -1,4 +1,4 @@
-use Rattle.edit_commands.specs.InlineCommands.Linking.{create_link}
+use Rattle.inline_commands.specs.Linking.{create_link}
 use Rattle.edit_laws.proofs.HostRuns.{in_host}
 use Rattle.selection_laws.proofs.StayingValues.{stays_create_link}
 use Rattle.selection_laws.proofs.inline.create_link_stays.Goals as goal

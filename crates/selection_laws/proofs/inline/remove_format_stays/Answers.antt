@@ -1,4 +1,4 @@
-use Rattle.edit_commands.specs.InlineCommands.RemovingFormat.{remove_format}
+use Rattle.inline_commands.specs.RemovingFormat.{remove_format}
 use Rattle.edit_laws.proofs.HostRuns.{in_host}
 use Rattle.selection_laws.proofs.StayingValues.{stays_remove_format}
 use Rattle.selection_laws.proofs.inline.remove_format_stays.Goals as goal

@@ -1,4 +1,4 @@
-use Rattle.edit_commands.specs.InlineCommands.RestoringStates.{restore_states}
+use Rattle.inline_commands.specs.RestoringStates.{restore_states}
 use Rattle.edit_laws.proofs.HostRuns.{in_host}
 use Rattle.selection_laws.proofs.StayingValues.{stays_restore_states}
 use Rattle.selection_laws.proofs.inline.restore_states_stays.Goals as goal

@@ -1,4 +1,4 @@
-use Rattle.edit_commands.specs.InlineCommands.Toggling.{toggle_script}
+use Rattle.inline_commands.specs.Toggling.{toggle_script}
 use Rattle.edit_laws.proofs.HostRuns.{in_host}
 use Rattle.selection_laws.proofs.StayingValues.{stays_toggle_script}
 use Rattle.selection_laws.proofs.inline.toggle_script_stays.Goals as goal

@@ -1,8 +1,8 @@
 use Rattle.std.proofs.Common.{◌≡◌, ◌<◌}
 use Rattle.edit_model.specs.DomModel.Forest.{count_of}
 use Rattle.edit_model.specs.Run.{final, value, while_at_most}
-use Rattle.text_insertion.specs.EditDoc.Held.{Keeps}
-use Rattle.text_insertion.specs.WrapSplit.Walks.{turn_bound}
+use Rattle.inline_value.specs.EditDoc.Held.{Keeps}
+use Rattle.inline_value.specs.WrapSplit.Walks.{turn_bound}
 use Rattle.text_deletion.specs.Approach.{goes_on, climb_turn}
 use Rattle.text_deletion.proofs.approach.climb.Given as goal
 

@@ -1,4 +1,4 @@
-use Rattle.text_insertion.proofs.InlineValue.Selecting.{keeps_extended}
+use Rattle.inline_value.proofs.Selecting.{keeps_extended}
 use Rattle.text_deletion.proofs.erasing.extend.Goals as goal
 
 pub returns-clause-keeps : goal.returns-clause-keeps

@@ -1,4 +1,4 @@
-use Rattle.text_insertion.proofs.InlineValue.Selecting.{keeps_scratched}
+use Rattle.inline_value.proofs.Selecting.{keeps_scratched}
 use Rattle.text_deletion.proofs.erasing.keep.Goals as goal
 
 pub returns-clause-keeps : goal.returns-clause-keeps

@@ -1,7 +1,7 @@
 use Rattle.std.proofs.Common.{◌≡◌}
-use Rattle.text_insertion.specs.WrapSplit.Walks.{turn_bound}
+use Rattle.inline_value.specs.WrapSplit.Walks.{turn_bound}
 use Rattle.text_deletion.specs.Delete.{into_last}
-use Rattle.text_insertion.specs.DeleteCore.Places.{walk_points}
+use Rattle.delete_core.specs.Places.{walk_points}
 use Rattle.text_deletion.proofs.joining.deepest_before.Given as goal
 
 -- the rest of the walk ends where the whole ends

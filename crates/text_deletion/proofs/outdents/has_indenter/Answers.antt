@@ -2,7 +2,7 @@ use Rattle.std.proofs.Common.{refl, sym, ap, ◌∙◌, arith}
 use Rattle.std.specs.List.{list_any}
 use Rattle.edit_model.proofs.DomModel.Within.{depth_of-parent}
 use Rattle.text_deletion.specs.Entries.{indents_line, has_indenter}
-use Rattle.text_insertion.proofs.InlineValue.Givers.{no_ancestors, ancestors_above}
+use Rattle.inline_value.proofs.Givers.{no_ancestors, ancestors_above}
 use Rattle.text_deletion.proofs.Above.{found, passed}
 use Rattle.text_deletion.proofs.outdents.has_indenter.Goals as goal
 

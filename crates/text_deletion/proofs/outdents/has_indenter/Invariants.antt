@@ -1,9 +1,9 @@
 use Rattle.std.proofs.Common.{◌≡◌}
 use Rattle.std.specs.List.{list_any}
 use Rattle.edit_model.specs.DomModel.Forest.{depth_of}
-use Rattle.text_insertion.specs.EditDoc.Held.{Holds}
+use Rattle.inline_value.specs.EditDoc.Held.{Holds}
 use Rattle.text_deletion.specs.Entries.{indents_line, has_indenter}
-use Rattle.text_insertion.specs.InlineValue.Forcing.{ancestors}
+use Rattle.inline_value.specs.Forcing.{ancestors}
 use Rattle.text_deletion.proofs.outdents.has_indenter.Given as goal
 
 -- the ancestors still to be asked decide

@@ -1,8 +1,8 @@
 use Rattle.std.proofs.Common.{◌≡◌, drop}
 use Rattle.edit_model.specs.Gives.{labels_of}
 use Rattle.edit_model.specs.Run.{final, for_each}
-use Rattle.text_insertion.specs.EditDoc.Held.{Keeps}
-use Rattle.text_insertion.specs.ListIndent.Outdenting.{outdent_node}
+use Rattle.inline_value.specs.EditDoc.Held.{Keeps}
+use Rattle.list_indent.specs.Outdenting.{outdent_node}
 use Rattle.text_deletion.proofs.outdents.outdent_each.Given as goal
 
 -- what is left to do ends where the whole ends

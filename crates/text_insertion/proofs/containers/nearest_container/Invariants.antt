@@ -1,7 +1,7 @@
 use Rattle.std.proofs.Common.{◌≡◌, true}
 use Rattle.edit_model.specs.Confined.{is_editable_for}
-use Rattle.list_indent.specs.EditDoc.Held.{Holds}
-use Rattle.list_indent.specs.WrapSplit.Walks.{walk, turn_bound}
+use Rattle.inline_value.specs.EditDoc.Held.{Holds}
+use Rattle.inline_value.specs.WrapSplit.Walks.{walk, turn_bound}
 use Rattle.text_insertion.specs.Containers.{up_to_container}
 use Rattle.text_insertion.proofs.containers.nearest_container.Given as goal
 

@@ -1,4 +1,4 @@
-use Rattle.list_indent.proofs.EditQuery.Hosting.{found_inside}
+use Rattle.inline_value.proofs.EditQuery.Hosting.{found_inside}
 use Rattle.text_insertion.proofs.containers.up_to_container.Goals as goal
 
 pub if_editable-requires-clause-known : goal.if_editable-requires-clause-known

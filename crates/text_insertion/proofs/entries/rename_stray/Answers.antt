@@ -6,7 +6,7 @@ use Rattle.edit_model.specs.DomModel.declared.Content.TheVariants.{Document, Ele
 use Rattle.edit_model.specs.DomModel.Contents.{is_element, is_element_at, has_name, name_in}
 use Rattle.edit_model.specs.DomModel.Forest.{Forest, content_of}
 use Rattle.edit_model.specs.State.{State}
-use Rattle.list_indent.specs.InlineValue.Ancestors.{is_description, has_place}
+use Rattle.inline_value.specs.Ancestors.{is_description, has_place}
 use Rattle.text_insertion.specs.Entries.{is_stray}
 use Rattle.text_insertion.proofs.entries.rename_stray.Goals as goal
 

@@ -1,6 +1,6 @@
 use Rattle.std.proofs.Common.{◌≡◌}
-use Rattle.list_indent.specs.EditDoc.Held.{Holds}
-use Rattle.list_indent.specs.WrapSplit.Walks.{walk, turn_bound}
+use Rattle.inline_value.specs.EditDoc.Held.{Holds}
+use Rattle.inline_value.specs.WrapSplit.Walks.{walk, turn_bound}
 use Rattle.text_insertion.specs.Halves.{into_last_block}
 use Rattle.text_insertion.proofs.halves.deepest_last.Given as goal
 

@@ -1,6 +1,6 @@
 use Rattle.std.proofs.Common.{◌≡◌, ◌<◌}
 use Rattle.edit_model.specs.DomModel.Forest.{count_of}
-use Rattle.list_indent.specs.WrapSplit.Walks.{turn_bound}
+use Rattle.inline_value.specs.WrapSplit.Walks.{turn_bound}
 use Rattle.delete_core.specs.Places.{walk_points}
 use Rattle.text_insertion.specs.Halves.{leave_end}
 use Rattle.text_insertion.proofs.halves.outer_end.Given as goal

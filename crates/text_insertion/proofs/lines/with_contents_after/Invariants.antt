@@ -1,7 +1,7 @@
 use Rattle.std.proofs.Common.{◌≡◌, ◌++◌}
 use Rattle.edit_model.specs.Gives.{labels_of}
-use Rattle.list_indent.specs.EditDoc.Held.{Holds, EachHeld}
-use Rattle.list_indent.specs.WrapSplit.Walks.{turn_bound}
+use Rattle.inline_value.specs.EditDoc.Held.{Holds, EachHeld}
+use Rattle.inline_value.specs.WrapSplit.Walks.{turn_bound}
 use Rattle.text_insertion.specs.Containers.{contents_after}
 use Rattle.text_insertion.proofs.lines.with_contents_after.Given as goal
 

@@ -1,6 +1,6 @@
 use Rattle.std.proofs.Common.{◌≡◌, drop}
 use Rattle.edit_model.specs.Run.{final, for_each}
-use Rattle.list_indent.specs.EditDoc.Held.{Keeps}
+use Rattle.inline_value.specs.EditDoc.Held.{Keeps}
 use Rattle.text_insertion.specs.Typing.{insert_char}
 use Rattle.text_insertion.proofs.typing.insert_each.Given as goal
 

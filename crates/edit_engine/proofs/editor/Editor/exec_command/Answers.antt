@@ -1,6 +1,6 @@
 use Rattle.std.proofs.Common.{◌≡◌, true, false, ℕ, Option, IfSome, sym, ap, ◌∙◌, subst, inl, refl}
 use Rattle.std.specs.Prelude.{nat_lt}
-use Rattle.edit_commands.specs.DomModel.Document.{page_depth}
+use Rattle.edit_model.specs.DomModel.Document.{page_depth}
 use Rattle.edit_model.specs.Valid.{IsPlacedPair}
 use Rattle.edit_engine.specs.Commands.{is_enabled_in}
 use Rattle.edit_engine.specs.Editing.{EditorValue}

@@ -1,7 +1,7 @@
 use Rattle.std.proofs.Common.{◌≡◌, true, false, true≢false, None, sym, ap, ◌∙◌, inl, refl}
 use Rattle.command_gate.specs.Denied.{is_denied}
-use Rattle.edit_commands.specs.HtmlNames.Commands.{command_named}
-use Rattle.edit_commands.specs.HtmlNames.declared.commands.Command.TheVariants.{InsertText}
+use Rattle.edit_model.specs.HtmlNames.Commands.{command_named}
+use Rattle.edit_model.specs.HtmlNames.declared.commands.Command.TheVariants.{InsertText}
 use Rattle.edit_engine.specs.Confinement.{joins_last}
 use Rattle.edit_engine.specs.Editing.{EditorValue}
 use Rattle.edit_engine.specs.Going.{joins_by}

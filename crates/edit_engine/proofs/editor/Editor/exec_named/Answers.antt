@@ -1,9 +1,9 @@
 use Rattle.std.proofs.Common.{◌≡◌, Bool, false, Option, None, sym, ap, subst, ◌∙◌, inl, refl}
 use Rattle.std.specs.Option.{option_map_or}
-use Rattle.edit_commands.specs.HtmlNames.Commands.{command_named}
-use Rattle.edit_commands.specs.HtmlNames.declared.commands.Command.{Command}
-use Rattle.edit_commands.specs.HtmlNames.declared.commands.Command.TheVariants.{InsertText}
-use Rattle.edit_commands.specs.EditActions.ActiveRange.{affected_host}
+use Rattle.edit_model.specs.HtmlNames.Commands.{command_named}
+use Rattle.edit_model.specs.HtmlNames.declared.commands.Command.{Command}
+use Rattle.edit_model.specs.HtmlNames.declared.commands.Command.TheVariants.{InsertText}
+use Rattle.inline_value.specs.EditActions.ActiveRange.{affected_host}
 use Rattle.edit_engine.specs.Confinement.{CommandKeeps, GivesBack, joins_last}
 use Rattle.edit_engine.specs.Editing.{EditorValue}
 use Rattle.edit_engine.specs.Execution.{Tells, outcome_by}

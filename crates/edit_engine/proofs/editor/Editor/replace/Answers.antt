@@ -1,9 +1,9 @@
 use Rattle.std.proofs.Common.{false, ◌≡◌, Option, Some, Err, sym, ap, ◌∙◌, subst, refl, inl}
 use Rattle.std.specs.Prelude.{MatchOption}
-use Rattle.edit_commands.specs.LiveRange.declared.places.Pair.{Pair}
-use Rattle.edit_commands.specs.HtmlNames.declared.commands.Command.TheVariants.{InsertText}
+use Rattle.edit_model.specs.LiveRange.declared.places.Pair.{Pair}
+use Rattle.edit_model.specs.HtmlNames.declared.commands.Command.TheVariants.{InsertText}
 use Rattle.edit_model.specs.Valid.{IsPlacedPair}
-use Rattle.edit_commands.specs.EditActions.ActiveRange.{host_of_pair}
+use Rattle.inline_value.specs.EditActions.ActiveRange.{host_of_pair}
 use Rattle.edit_engine.specs.Confinement.{CommandKeeps}
 use Rattle.edit_engine.specs.Editing.{EditorValue}
 use Rattle.edit_engine.specs.Execution.{TellsReplaced, replaced_outcome}

@@ -1,6 +1,6 @@
 use Rattle.std.proofs.Common.{false, ◌≡◌, Option, Some, Result, Ok, Err, sym, ap, ◌∙◌, subst}
-use Rattle.edit_commands.specs.LiveRange.declared.places.Pair.{Pair}
-use Rattle.edit_commands.specs.HtmlNames.declared.commands.Command.TheVariants.{InsertText}
+use Rattle.edit_model.specs.LiveRange.declared.places.Pair.{Pair}
+use Rattle.edit_model.specs.HtmlNames.declared.commands.Command.TheVariants.{InsertText}
 use Rattle.edit_engine.specs.Changes.{TellsNoChange}
 use Rattle.edit_engine.specs.Editing.{EditorValue}
 use Rattle.edit_engine.specs.Execution.{TellsReplaced, replaced_outcome}

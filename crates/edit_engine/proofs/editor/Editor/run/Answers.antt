@@ -1,8 +1,8 @@
 use Rattle.std.proofs.Common.{◌≡◌, true, false, sym, ap, ◌∙◌, subst, Ok, Err, Option, Some, IfSome, inr}
-use Rattle.edit_commands.specs.LiveRange.declared.places.Pair.{Pair}
-use Rattle.edit_commands.specs.UndoLog.declared.log.Committed.{Committed}
+use Rattle.edit_model.specs.LiveRange.declared.places.Pair.{Pair}
+use Rattle.inline_value.specs.UndoLog.declared.log.Committed.{Committed}
 use Rattle.edit_model.specs.Valid.{IsPlacedPair}
-use Rattle.edit_commands.specs.EditDoc.Changes.{resumed_at}
+use Rattle.inline_value.specs.EditDoc.Changes.{resumed_at}
 use Rattle.edit_engine.specs.Changes.{CanFollow}
 use Rattle.edit_engine.specs.Commands.{row_of, action_of}
 use Rattle.edit_engine.specs.Editing.{Editing, EditorValue, IsResting, value_of}

@@ -1,8 +1,8 @@
 //! The ends of the active range, at which texts are split.
 
 use crate::tests::fixtures::{Act, Row, check_rows, point};
-use edit_commands::doc::{Doc, Pair};
-use edit_commands::inline::split_ends;
+use inline_value::doc::{Doc, Pair};
+use inline_value::split_ends;
 use std::alloc::Global;
 use std::test::Fail;
 

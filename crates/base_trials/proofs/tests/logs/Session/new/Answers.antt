@@ -1,6 +1,6 @@
 use Rattle.std.proofs.Common.{◌≡◌, false, refl, sym, subst}
-use Rattle.document_edits.specs.UndoLog.Log.{is_open}
-use Rattle.document_edits.specs.UndoLog.States.{Follows}
+use Rattle.undo_log.specs.Log.{is_open}
+use Rattle.undo_log.specs.States.{Follows}
 use Rattle.base_trials.proofs.tests.logs.Session.new.Goals as goal
 
 pub invariant_of-result : goal.invariant_of-result
