@@ -203,6 +203,9 @@ export class WebKit {
   }
 }
 
+// Two clicks as near as this count as a double click.
+const DOUBLE_CLICK = { distance: 8, milliseconds: 1_050 };
+
 /** A page of WebKit. */
 class WebKitPage extends Page {
   hasInputMethods = false;
@@ -211,7 +214,7 @@ class WebKitPage extends Page {
 
   #browser;
 
-  /** @type {{ x: number, y: number } | undefined} where the last click was */
+  /** @type {{ x: number, y: number, time: number } | undefined} where the last click was, and when */
   #clicked;
 
   constructor(session, browser) {
@@ -270,13 +273,14 @@ class WebKitPage extends Page {
     return { type: "pointerMove", duration: 0, x: Math.round(x), y: Math.round(y) };
   }
 
-  /**
-   * A place of its own for the next click: two at one place within a second would count as a double one.
-   */
-  #apart({ x, y }) {
-    const isSame = this.#clicked?.x === Math.round(x) && this.#clicked.y === Math.round(y);
-    this.#clicked = { x: Math.round(x), y: Math.round(y) + (isSame ? 1 : 0) };
-    return this.#clicked;
+  /** Waits as long as a click here would count as the second half of a double one. */
+  async #apart({ x, y }) {
+    const last = this.#clicked;
+    if (last && Math.hypot(last.x - x, last.y - y) < DOUBLE_CLICK.distance) {
+      await sleep(Math.max(0, last.time + DOUBLE_CLICK.milliseconds - performance.now()));
+    }
+    this.#clicked = { x, y, time: performance.now() };
+    return { x, y };
   }
 
   async clickAt(at, clickCount = 1) {
@@ -285,13 +289,13 @@ class WebKitPage extends Page {
       { type: "pointerUp", button: 0 },
     ];
     const clicks = Array.from({ length: clickCount }, () => click).flat();
-    await this.#mouse([this.#move(this.#apart(at)), ...clicks]);
+    await this.#mouse([this.#move(await this.#apart(at)), ...clicks]);
     await this.settle();
   }
 
   async drag([first, ...others]) {
     await this.#mouse([
-      this.#move(this.#apart(first)),
+      this.#move(await this.#apart(first)),
       { type: "pointerDown", button: 0 },
       ...others.map((at) => this.#move(at)),
       { type: "pointerUp", button: 0 },
