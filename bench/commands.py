@@ -87,13 +87,25 @@ COMMANDS = [
     ("insertUnorderedList", "insertOrderedList", None),
 ]
 FLAGS = ["styleWithCSS true", "useCSS true", "defaultParagraphSeparator div"]
-QUESTIONS = ["state bold", "indeterm bold", "value foreColor", "value fontSize", "value formatBlock", "value justifyLeft",
-             "state insertOrderedList", "enabled bold", "supported bold"]
+QUESTIONS = [
+    "state bold",
+    "indeterm bold",
+    "value foreColor",
+    "value fontSize",
+    "value formatBlock",
+    "value justifyLeft",
+    "state insertOrderedList",
+    "enabled bold",
+    "supported bold",
+]
 # The commands that work at one place.
 OF_PLACE = [row for row in COMMANDS if re.match("delete|insert(Text|Paragraph|LineBreak|HorizontalRule|Image)", row[0])]
 # The commands that don't look at the block around a line.
-OF_LINES = [row for row in COMMANDS
-            if not re.match("formatBlock|justify|indent|outdent|insert(Ordered|Unordered|Paragraph|Horizontal)", row[0])]
+OF_LINES = [
+    row
+    for row in COMMANDS
+    if not re.match("formatBlock|justify|indent|outdent|insert(Ordered|Unordered|Paragraph|Horizontal)", row[0])
+]
 
 program = ROOT / "crates/hedit/out/hedit"
 chosen = None
@@ -101,6 +113,7 @@ missed = []
 
 
 # ---- sessions, and what callgrind counts of them
+
 
 def session_of(page, acts):
     """The text of a session."""
@@ -112,7 +125,9 @@ def callgrind(text, words, *options):
     with TemporaryDirectory() as room:
         ran = subprocess.run(
             ["valgrind", "--tool=callgrind", f"--callgrind-out-file={room}/parts", *options, program, *words],
-            input=text.encode(), capture_output=True)
+            input=text.encode(),
+            capture_output=True,
+        )
         if ran.returncode != 0:
             sys.exit(f"bench/commands.py: {' '.join(words)} ends with {ran.returncode}:\n{ran.stderr.decode()}")
         parts = sorted(Path(room).iterdir(), key=lambda part: int(part.suffix[1:] or "999999999"))
@@ -128,6 +143,7 @@ def counted(text, *words):
 
 class Use(NamedTuple):
     """The seconds of processor and the kilobytes of memory that a run took, and what it wrote."""
+
     seconds: float
     kilobytes: int
     written: str
@@ -144,8 +160,10 @@ def used(text, *words):
 
 # ---- single acts
 
+
 class Trial(NamedTuple):
     """An act to measure, under a name, and the acts that go before it."""
+
     name: str
     before: list
     act: str
@@ -153,6 +171,7 @@ class Trial(NamedTuple):
 
 class Cost(NamedTuple):
     """The instructions of an act; those of its undo and redo, where it left an entry in the history; its edits."""
+
     done: int
     undone: int | None
     redone: int | None
@@ -219,6 +238,7 @@ def every_trial(selecting, where=""):
 
 # ---- tables
 
+
 def told(words, figure, most):
     """Prints a figure, and the most that it should be."""
     over = figure > most
@@ -233,8 +253,11 @@ def table(place, words, heads, rows, figure_of, most_of):
     Of what a command takes, of its undo and of its redo there is a figure each, made of the counts in order.
     """
     print(f"{place}, {words}:")
-    print(f"  {'':<44}{'edits':>9}" + "".join(f"{head:>15}" for head in heads)
-          + f"{'figure':>10}{'undone':>9}{'redone':>9}{'at most':>9}")
+    print(
+        f"  {'':<44}{'edits':>9}"
+        + "".join(f"{head:>15}" for head in heads)
+        + f"{'figure':>10}{'undone':>9}{'redone':>9}{'at most':>9}"
+    )
     figures = {}
     for name, row in rows.items():
         most = most_of(row)
@@ -244,9 +267,14 @@ def table(place, words, heads, rows, figure_of, most_of):
             if is_over:
                 missed.append(f"{place}: {name}{ending}: {figure:.2f}, and at most {most:.2f}")
         figures[name] = f"**{shown[0]:.2f}**" if over[0] else f"{shown[0]:.2f}"
-        print(f"  {name:<44}{row[-1].edits:>9,}" + "".join(f"{cost.done:>15,}" for cost in row) + f"{shown[0]:>10.2f}"
-              + "".join(f"{'-' if figure is None else format(figure, '.2f'):>9}" for figure in shown[1:])
-              + f"{most:>9.2f}{'  MISSED' if any(over) else ''}", flush=True)
+        print(
+            f"  {name:<44}{row[-1].edits:>9,}"
+            + "".join(f"{cost.done:>15,}" for cost in row)
+            + f"{shown[0]:>10.2f}"
+            + "".join(f"{'-' if figure is None else format(figure, '.2f'):>9}" for figure in shown[1:])
+            + f"{most:>9.2f}{'  MISSED' if any(over) else ''}",
+            flush=True,
+        )
     return figures
 
 
@@ -257,8 +285,10 @@ def in_rows(columns):
 
 # ---- shapes
 
+
 class Shape(NamedTuple):
     """A page of so many parts; the acts that select all of it, a place amid it, and the start of a part."""
+
     page: Callable[[int], str]
     whole: Callable[[int], str]
     amid: Callable[[int], str]
@@ -276,6 +306,7 @@ def select(from_, to=None):
 
 def beside(part, path, opened="", closed="", between=""):
     """A shape of parts side by side. A part has a text, for which {} stands in `part`, at `path` of its index."""
+
     def word(index):
         return f"item {index}"
 
@@ -285,20 +316,31 @@ def beside(part, path, opened="", closed="", between=""):
     def whole(count):
         return select(f"{path(0)}:0", f"{path(count - 1)}:{len(word(count - 1))}")
 
-    return Shape(page, whole, lambda count: select(f"{path(count // 2)}:2"), lambda count: select(f"{path(count // 2)}:0"),
-                 (250, 500, 1000))
+    return Shape(
+        page,
+        whole,
+        lambda count: select(f"{path(count // 2)}:2"),
+        lambda count: select(f"{path(count // 2)}:0"),
+        (250, 500, 1000),
+    )
 
 
 def chain(name, around):
     """A shape of one word in a p, and below so many elements of a name, which {} stands for."""
+
     def page(count):
         return host(around.format(f"<{name}>" * count, f"</{name}>" * count))
 
     def place(count):
         return "0" + "/0" * (count + 2)
 
-    return Shape(page, lambda count: select(f"{place(count)}:1", f"{place(count)}:3"),
-                 lambda count: select(f"{place(count)}:2"), lambda count: select(f"{place(count)}:0"), (45, 90, 180))
+    return Shape(
+        page,
+        lambda count: select(f"{place(count)}:1", f"{place(count)}:3"),
+        lambda count: select(f"{place(count)}:2"),
+        lambda count: select(f"{place(count)}:0"),
+        (45, 90, 180),
+    )
 
 
 SHAPES = {
@@ -323,9 +365,11 @@ def trials_over(shape, count):
 
 def most_over(sizes):
     """What the instructions of a command may grow by over a shape, from its edits."""
+
     def most(row):
         fewer, more = (cost.edits + size for cost, size in zip(row[-2:], sizes[-2:]))
         return more / fewer * 1.125
+
     return most
 
 
@@ -335,8 +379,14 @@ def shapes(names):
         shape = SHAPES[name]
         columns = [costs(shape.page(size), shape.amid(size), list(trials_over(shape, size))) for size in shape.sizes]
         rows = in_rows(columns)
-        figures = table(name, "growth from the second to the third", [f"{size:,}" for size in shape.sizes], rows,
-                        lambda counts: counts[-1] / counts[-2], most_over(shape.sizes))
+        figures = table(
+            name,
+            "growth from the second to the third",
+            [f"{size:,}" for size in shape.sizes],
+            rows,
+            lambda counts: counts[-1] / counts[-2],
+            most_over(shape.sizes),
+        )
         for command, figure in figures.items():
             summary.setdefault(command, {})[name] = figure
         if name == "paragraphs":
@@ -368,34 +418,66 @@ def at_places():
 def pages():
     sizes = (500, 15000, 150000)
     columns = [costs(SHAPES["paragraphs"].page(size), select("0/3/0:1"), list(at_places())) for size in sizes]
-    table("one place in a page of so many nodes", "growth from the first to the third", [f"{size * 2:,}" for size in sizes],
-          in_rows(columns), lambda counts: counts[-1] / counts[0], lambda row: 1.3)
+    table(
+        "one place in a page of so many nodes",
+        "growth from the first to the third",
+        [f"{size * 2:,}" for size in sizes],
+        in_rows(columns),
+        lambda counts: counts[-1] / counts[0],
+        lambda row: 1.3,
+    )
 
 
 # ---- one place beside many siblings
 
+
 def siblings():
     paragraphs, lines = SHAPES["paragraphs"].page(100001), SHAPES["lines"].page(50001)
-    each_before(paragraphs, "beside 100,000 paragraphs", "0/0/0:1", 3, 100000,
-                lambda index: every_trial(select(f"0/{index}/0:1")))
-    each_before(lines, "in a paragraph beside 50,000 lines", "0/0/0:1", 4, 100000,
-                lambda index: trials_of(OF_LINES, select(f"0/0/{index}:1", f"0/0/{index}:3")))
+    each_before(
+        paragraphs,
+        "beside 100,000 paragraphs",
+        "0/0/0:1",
+        3,
+        100000,
+        lambda index: every_trial(select(f"0/{index}/0:1")),
+    )
+    each_before(
+        lines,
+        "in a paragraph beside 50,000 lines",
+        "0/0/0:1",
+        4,
+        100000,
+        lambda index: trials_of(OF_LINES, select(f"0/0/{index}:1", f"0/0/{index}:3")),
+    )
 
 
 def each_before(page, place, caret, near, far, trials):
     """Prints what each sibling before a place costs, by two places that differ in their index alone."""
     columns = [costs(page, select(caret), list(trials(index))) for index in (near, far)]
-    table(place, "instructions for each sibling before", ["near", "far"], in_rows(columns),
-          lambda counts: (counts[1] - counts[0]) / (far - near), lambda row: 15)
+    table(
+        place,
+        "instructions for each sibling before",
+        ["near", "far"],
+        in_rows(columns),
+        lambda counts: (counts[1] - counts[0]) / (far - near),
+        lambda row: 15,
+    )
 
 
 # ---- one place below many elements
 
+
 def depth():
     shape = SHAPES["div in div"]
     columns = [costs(shape.page(size), shape.amid(size), list(trials_over(shape, size))) for size in (10, 160)]
-    table("below so many elements", "growth from the first to the second", ["10", "160"], in_rows(columns),
-          lambda counts: counts[1] / counts[0], lambda row: 16)
+    table(
+        "below so many elements",
+        "growth from the first to the second",
+        ["10", "160"],
+        in_rows(columns),
+        lambda counts: counts[1] / counts[0],
+        lambda row: 16,
+    )
     if is_chosen("insertText"):
         key_in_chains()
 
@@ -408,7 +490,9 @@ def key_in_chains():
         select_it = select("0/0/1" + "/0" * count + ":2")
         without = used(session_of(page, [select_it]), "run").seconds
         seconds.append(used(session_of(page, [select_it, "exec insertText x"]), "run").seconds - without)
-    print("seconds of processor of a key in three chains of b, of 48, 96 and 192:", *(f"{each:.2f}" for each in seconds))
+    print(
+        "seconds of processor of a key in three chains of b, of 48, 96 and 192:", *(f"{each:.2f}" for each in seconds)
+    )
     told("insertText in three chains of 192 b, seconds", seconds[-1], 0.02)
 
 
@@ -425,14 +509,23 @@ NOTHING = {
 def nothing():
     keys = [row for row in OF_PLACE if row[0] in ("delete", "insertText x")]
     for name, node in NOTHING.items():
+
         def page(count, node=node):
             return host(f"<p>ab{node * count}cd{node * count}ef</p>")
+
         def caret(count):
             return select(f"0/0/{count + 1}:1")
+
         sizes = (50, 100, 200)
         columns = [costs(page(size), caret(size), list(trials_of(keys, caret(size)))) for size in sizes]
-        table(f"between so many {name} on both sides", "growth from the second to the third", [f"{size}" for size in sizes],
-              in_rows(columns), lambda counts: counts[-1] / counts[-2], lambda row: 2.5)
+        table(
+            f"between so many {name} on both sides",
+            "growth from the second to the third",
+            [f"{size}" for size in sizes],
+            in_rows(columns),
+            lambda counts: counts[-1] / counts[-2],
+            lambda row: 2.5,
+        )
         if is_chosen("insertText"):
             without = used(session_of(page(500), [caret(500)]), "run").seconds
             key = used(session_of(page(500), [caret(500), "exec insertText x"]), "run").seconds
@@ -440,6 +533,7 @@ def nothing():
 
 
 # ---- one element with a long style
+
 
 def styles():
     style = " ".join(f"p{number}: v;" for number in range(10000))
@@ -473,6 +567,7 @@ def stack():
 
 
 # ---- many keys
+
 
 def typing():
     """Many keys in one text, and a key before so many characters of one."""
@@ -509,7 +604,7 @@ def log():
         without = counted(session_of(page, acts), "run", "--undo", "1000")[1]
         written, with_log = counted(session_of(page, [*acts, "log"]), "run", "--undo", "1000")
         of_log.append(with_log - without)
-        replayed, instructions = counted(session_of(page, written.splitlines()[len(acts):]), "replay")
+        replayed, instructions = counted(session_of(page, written.splitlines()[len(acts) :]), "replay")
         if not re.match("replayed [1-9]", replayed):
             sys.exit(f"bench/commands.py: replay says {replayed[:80]}")
         of_replay.append(instructions)
@@ -535,9 +630,14 @@ def moves():
             page = f"<div><div>{'<p>x</p>' * pairs}</div></div><div><div><div><div><div></div></div></div></div></div>"
             there = 3 + 2 * pairs
             shown = [line.format(there=there, below=there + 4) for line in lines]
-            few, many = (counted(session_of(page, ["entry", *shown * (count // len(shown))]), "replay")[1] for count in (2000, 4000))
+            few, many = (
+                counted(session_of(page, ["entry", *shown * (count // len(shown))]), "replay")[1]
+                for count in (2000, 4000)
+            )
             figures.append((many - few) / 2000)
-        print(f"replay: a line that {words}, of 1,000 nodes and of 10,000: {figures[0]:,.0f} and {figures[1]:,.0f} instructions")
+        print(
+            f"replay: a line that {words}, of 1,000 nodes and of 10,000: {figures[0]:,.0f} and {figures[1]:,.0f} instructions"
+        )
         told(f"{words}: growth at ten times as many nodes", figures[1] / figures[0], 4.5)
 
 
@@ -551,8 +651,11 @@ def bulk():
     page = used(session_of(SHAPES["paragraphs"].page(5000), ["stat"]), "run").kilobytes
     print("bulk 5000:")
     told("bulk: millions of instructions", counted("", "bulk", "5000")[1] / 1e6, 300)
-    told("bulk: bytes for each node beyond those of a page's node",
-         ((peak - empty) / ALL_NODES - (page - empty) / READ_NODES) * 1024, 60)
+    told(
+        "bulk: bytes for each node beyond those of a page's node",
+        ((peak - empty) / ALL_NODES - (page - empty) / READ_NODES) * 1024,
+        60,
+    )
 
 
 def long():
@@ -568,8 +671,20 @@ def long():
             told(trial.name, run.seconds - without, 0.1)
 
 
-PARTS = {"shapes": shapes, "pages": pages, "siblings": siblings, "depth": depth, "nothing": nothing, "styles": styles,
-         "stack": stack, "typing": typing, "log": log, "moves": moves, "bulk": bulk, "long": long}
+PARTS = {
+    "shapes": shapes,
+    "pages": pages,
+    "siblings": siblings,
+    "depth": depth,
+    "nothing": nothing,
+    "styles": styles,
+    "stack": stack,
+    "typing": typing,
+    "log": log,
+    "moves": moves,
+    "bulk": bulk,
+    "long": long,
+}
 
 
 def main():

@@ -60,7 +60,9 @@ def read_check(number, now):
         place = os.readlink(folder / "cwd")
     except OSError:
         return None
-    return Check(words[words.index("--crate-name") + 1], kind_of(words, place), now) if "--crate-name" in words else None
+    return (
+        Check(words[words.index("--crate-name") + 1], kind_of(words, place), now) if "--crate-name" in words else None
+    )
 
 
 def read_memory(number):

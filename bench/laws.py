@@ -23,8 +23,37 @@ VIEWS = ("html", "tree", "points", "stat")
 PART = "part"
 PARTED = "! 2 unknown act\n"
 VOID = {"area", "base", "br", "col", "embed", "hr", "img", "input", "link", "meta", "param", "source", "track", "wbr"}
-MADE_NAMES = {"a", "address", "b", "blockquote", "br", "dd", "div", "dl", "dt", "font", "h1", "h2", "h3", "h4", "h5", "h6", "hr",
-              "i", "img", "li", "ol", "p", "pre", "s", "span", "sub", "sup", "u", "ul"}
+MADE_NAMES = {
+    "a",
+    "address",
+    "b",
+    "blockquote",
+    "br",
+    "dd",
+    "div",
+    "dl",
+    "dt",
+    "font",
+    "h1",
+    "h2",
+    "h3",
+    "h4",
+    "h5",
+    "h6",
+    "hr",
+    "i",
+    "img",
+    "li",
+    "ol",
+    "p",
+    "pre",
+    "s",
+    "span",
+    "sub",
+    "sup",
+    "u",
+    "ul",
+}
 MADE_ATTRIBUTES = {"href", "src", "style", "color", "face", "size"}
 BLANKS = "\t\n\r \u00a0"
 FLAGS = {"stylewithcss", "usecss", "defaultparagraphseparator"}
@@ -96,8 +125,12 @@ def read_session(path):
     if words[:1] != ["run"] or not opening or opening[1] not in lines:
         return None
     end = lines.index(opening[1])
-    return Session(f"{path.parent.name}/{path.stem}", words, "\n".join([first, *lines[:end + 1], ""]),
-                   [line for line in lines[end + 1:] if line])
+    return Session(
+        f"{path.parent.name}/{path.stem}",
+        words,
+        "\n".join([first, *lines[: end + 1], ""]),
+        [line for line in lines[end + 1 :] if line],
+    )
 
 
 def answer(program, words, text):
@@ -115,10 +148,12 @@ def replies(program, words, block, acts):
 def play(program, session, acts=None, words=None):
     """The steps of a session, the first with no act; None where it can't be played."""
     acts = session.acts if acts is None else acts
-    told = replies(program, words or session.words, session.block, [*VIEWS, *(each for act in acts for each in (act, *VIEWS))])
+    told = replies(
+        program, words or session.words, session.block, [*VIEWS, *(each for act in acts for each in (act, *VIEWS))]
+    )
     if told is None or len(told) != 4 + 5 * len(acts):
         return None
-    return [Step("", "", *told[:4]), *(Step(act, *told[4 + 5 * i:9 + 5 * i]) for i, act in enumerate(acts))]
+    return [Step("", "", *told[:4]), *(Step(act, *told[4 + 5 * i : 9 + 5 * i]) for i, act in enumerate(acts))]
 
 
 def commands(steps):
@@ -135,8 +170,11 @@ def is_caret(points):
 
 
 def unescaped(value):
-    return re.sub(r"\\(n|t|\\|u\{([0-9a-fA-F]{1,6})\})",
-                  lambda found: {"n": "\n", "t": "\t", "\\": "\\"}.get(found[1]) or chr(int(found[2], 16)), value)
+    return re.sub(
+        r"\\(n|t|\\|u\{([0-9a-fA-F]{1,6})\})",
+        lambda found: {"n": "\n", "t": "\t", "\\": "\\"}.get(found[1]) or chr(int(found[2], 16)),
+        value,
+    )
 
 
 def hosts(tree):
@@ -157,11 +195,11 @@ def outside(html):
     if len(starts) != 1 or starts[0][2] in VOID:
         return None
     depth = 0
-    for tag in tags[tags.index(starts[0]):]:
+    for tag in tags[tags.index(starts[0]) :]:
         if tag[2] and tag[2] not in VOID:
             depth += -1 if tag[1] else 1
         if depth == 0:
-            return html[:starts[0].end()], html[tag.start():]
+            return html[: starts[0].end()], html[tag.start() :]
     return None
 
 
@@ -174,7 +212,7 @@ def joined(tree):
             continue
         last = re.fullmatch(r"( *)\"(.*)\"", lines[-1]) if lines else None
         if text and last and text[1] == last[1]:
-            lines[-1] = f"{text[1]}\"{last[2]}{text[2]}\""
+            lines[-1] = f'{text[1]}"{last[2]}{text[2]}"'
         else:
             lines.append(line)
     return lines
@@ -184,8 +222,10 @@ def reads_back(tree):
     """Whether no void element has a child, and the page is at most 200 levels deep."""
     lines = tree.splitlines()
     levels = [(len(line) - len(line.lstrip(" "))) // 2 for line in lines]
-    bad = any(re.match(r" *<(" + "|".join(VOID) + r")[ >]", line) and after > level
-              for line, level, after in zip(lines, levels, levels[1:]))
+    bad = any(
+        re.match(r" *<(" + "|".join(VOID) + r")[ >]", line) and after > level
+        for line, level, after in zip(lines, levels, levels[1:])
+    )
     return not bad and max(levels, default=0) < 200
 
 
@@ -249,7 +289,9 @@ def independent(program, session, steps):
         if plain == session.words:
             capped = play(program, session, words=[*session.words, "--cap=2000000"])
             yield capped is None or [step.tree for step in capped] == trees
-    if not any(act.startswith(("undo", "redo")) for act in session.acts) and not any("--undo" in word for word in session.words):
+    if not any(act.startswith(("undo", "redo")) for act in session.acts) and not any(
+        "--undo" in word for word in session.words
+    ):
         short = play(program, session, words=[*session.words, "--undo=1"])
         yield short is not None and [step.tree for step in short] == trees
 
@@ -295,8 +337,18 @@ def views_change_nothing(program, session, steps):
     yield told == [step.reply for step in steps[1:]]
 
 
-LAWS = (made, round_trip, outside_stays, labels_last, undo_gives_back, independent, inserts_only, selection_stays, prefixes,
-        views_change_nothing)
+LAWS = (
+    made,
+    round_trip,
+    outside_stays,
+    labels_last,
+    undo_gives_back,
+    independent,
+    inserts_only,
+    selection_stays,
+    prefixes,
+    views_change_nothing,
+)
 
 
 def try_session(program, path):

@@ -164,7 +164,9 @@ def cost(program, act, text, given, work):
 
 
 def shown(taken):
-    return "too long" if taken is None else f"{taken:.2f} seconds" if isinstance(taken, float) else f"{taken} instructions"
+    return (
+        "too long" if taken is None else f"{taken:.2f} seconds" if isinstance(taken, float) else f"{taken} instructions"
+    )
 
 
 def main():
@@ -177,7 +179,11 @@ def main():
     given = parser.parse_args()
     rng = random.Random(1)
     missed = False
-    parts = [("attributes", "check", attributes, 1, 1), ("declarations", "run", style, 3, 4), ("marks", "run", marks, 30, 1)]
+    parts = [
+        ("attributes", "check", attributes, 1, 1),
+        ("declarations", "run", style, 3, 4),
+        ("marks", "run", marks, 30, 1),
+    ]
     with tempfile.TemporaryDirectory() as folder:
         for part, act, written, extra, width in parts:
             if given.part and part not in given.part:
@@ -188,7 +194,10 @@ def main():
                     if length not in plain:
                         text = written(drawn(rng, count, length))
                         plain[length] = cost(given.program, act, text, given, Path(folder))
-                        print(f"{part}, {millions:g} MB, {count} names of {length} characters: {shown(plain[length])}", flush=True)
+                        print(
+                            f"{part}, {millions:g} MB, {count} names of {length} characters: {shown(plain[length])}",
+                            flush=True,
+                        )
                     taken = cost(given.program, act, written(names), given, Path(folder))
                     if taken is None or plain[length] is None:
                         told, bad = f"more than {given.seconds} seconds", True

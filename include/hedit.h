@@ -112,7 +112,9 @@ typedef struct hedit_editor {
     void *state;
 } hedit_editor;
 
+/* clang-format off */
 #define HEDIT_CLOSED_EDITOR {NULL}
+/* clang-format on */
 
 /* Why a page is refused. */
 enum hedit_page_kind {
@@ -278,9 +280,9 @@ enum hedit_node_kind {
 
 /* What a node is. */
 typedef struct hedit_node_facts {
-    uint32_t kind;        /* of enum hedit_node_kind */
-    uint32_t length;      /* characters of a text or a comment, else children */
-    uint32_t parent;      /* labels of the nodes beside it, or HEDIT_NO_NODE */
+    uint32_t kind;   /* of enum hedit_node_kind */
+    uint32_t length; /* characters of a text or a comment, else children */
+    uint32_t parent; /* labels of the nodes beside it, or HEDIT_NO_NODE */
     uint32_t first_child;
     uint32_t last_child;
     uint32_t previous;
@@ -321,8 +323,8 @@ HEDIT_API
 uint32_t hedit_attribute_name(hedit_editor *editor, uint32_t label, size_t place, uint8_t *buffer,
                               size_t capacity, size_t *length);
 HEDIT_API
-uint32_t hedit_attribute_value(hedit_editor *editor, uint32_t label, size_t place,
-                               uint8_t *buffer, size_t capacity, size_t *length);
+uint32_t hedit_attribute_value(hedit_editor *editor, uint32_t label, size_t place, uint8_t *buffer,
+                               size_t capacity, size_t *length);
 
 /* Give the HTML and the plain text of a node with all that stands below it. The HTML of the document
  * is that of its children. The plain text has the characters of the texts and a line feed for each
@@ -449,8 +451,8 @@ uint32_t hedit_is_kept(hedit_editor *editor, uint32_t label);
  * where the transcript is the line that says so, HEDIT_TOO_LONG; or HEDIT_TOO_SMALL. It needs no
  * editor. */
 HEDIT_API
-uint32_t hedit_session(const uint8_t *input, size_t input_length, uint8_t *output,
-                       size_t capacity, size_t *written);
+uint32_t hedit_session(const uint8_t *input, size_t input_length, uint8_t *output, size_t capacity,
+                       size_t *written);
 
 /* The same with the words of a command line, as "run\n--undo\n9\n": each line is a word. Also
  * HEDIT_USAGE and HEDIT_STEP_REFUSED. */

@@ -288,8 +288,8 @@ class Editor {
     explicit Editor(std::string_view page, std::uint32_t label_cap = 2000000,
                     std::size_t undo_depth = 100) {
         hedit_refusal refusal = {0, 0};
-        std::uint32_t status = hedit_open(&handle_, bytes(page), page.size(), label_cap,
-                                          undo_depth, &refusal);
+        std::uint32_t status =
+            hedit_open(&handle_, bytes(page), page.size(), label_cap, undo_depth, &refusal);
         if (status == HEDIT_PAGE_REFUSED) {
             throw PageRefused(refusal.at, static_cast<hedit_page_kind>(refusal.kind));
         }
@@ -313,8 +313,7 @@ class Editor {
     /* Executes a command by its name, in any case. False where it isn't possible here, or refuses
      * the value. */
     bool exec(std::string_view name, std::string_view value = "") {
-        return answer(
-            hedit_exec(&handle_, bytes(name), name.size(), bytes(value), value.size()));
+        return answer(hedit_exec(&handle_, bytes(name), name.size(), bytes(value), value.size()));
     }
 
     /* The same past a gate: also false where the name is denied, which stands in a list with a
@@ -344,15 +343,15 @@ class Editor {
 
     /* Selects from an anchor to a focus, or puts the caret at one place. */
     void select(const Place &anchor, const Place &focus) {
-        answer(hedit_select(&handle_, path(anchor), anchor.path.size(), anchor.offset,
-                            path(focus), focus.path.size(), focus.offset));
+        answer(hedit_select(&handle_, path(anchor), anchor.path.size(), anchor.offset, path(focus),
+                            focus.path.size(), focus.offset));
     }
     void select(const Place &caret) { select(caret, caret); }
 
     /* The same from one point to another. Its cost doesn't grow with the page. */
     void select_points(const Point &anchor, const Point &focus) {
-        answer(hedit_select_points(&handle_, anchor.label, anchor.offset, focus.label,
-                                   focus.offset));
+        answer(
+            hedit_select_points(&handle_, anchor.label, anchor.offset, focus.label, focus.offset));
     }
     void select_points(const Point &caret) { select_points(caret, caret); }
 
@@ -576,8 +575,7 @@ class Editor {
         std::vector<Attribute> all;
         while (std::optional<std::string> name =
                    attribute(hedit_attribute_name, label, all.size())) {
-            std::optional<std::string> value =
-                attribute(hedit_attribute_value, label, all.size());
+            std::optional<std::string> value = attribute(hedit_attribute_value, label, all.size());
             all.push_back({std::move(*name), std::move(value.value())});
         }
         return all;

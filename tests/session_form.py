@@ -57,10 +57,16 @@ def written(session: Session) -> bytes:
     """The file of a session."""
     about = "".join(f"# {line}\n" for line in session.about.splitlines())
     command = " ".join(["$ hedit", *map(shlex.quote, session.arguments)])
-    return b"".join([
-        about.encode(), command.encode(), b"\n", written_part(session.input),
-        b"--- reply, status %d\n" % session.status, written_part(session.reply),
-    ])
+    return b"".join(
+        [
+            about.encode(),
+            command.encode(),
+            b"\n",
+            written_part(session.input),
+            b"--- reply, status %d\n" % session.status,
+            written_part(session.reply),
+        ]
+    )
 
 
 def parsed(content: bytes) -> Session:
@@ -81,7 +87,7 @@ def parsed(content: bytes) -> Session:
         arguments=tuple(shlex.split(lines[0].removeprefix(COMMAND).decode())),
         input=read_part(lines[1:parting]),
         status=int(status[1]),
-        reply=read_part(lines[parting + 1:]),
+        reply=read_part(lines[parting + 1 :]),
         about="\n".join(about),
     )
 

@@ -42,8 +42,13 @@ class Small(unittest.TestCase):
 class Examples(Small):
     def setUp(self) -> None:
         super().setUp()
-        self.write(examples__one_session="page\n", examples__one_answer="page\n", README_md="",
-                   docs__FOR_MAKERS_md=SESSION, crates__mail_host__src__main_rt="fn main() {}\n")
+        self.write(
+            examples__one_session="page\n",
+            examples__one_answer="page\n",
+            README_md="",
+            docs__FOR_MAKERS_md=SESSION,
+            crates__mail_host__src__main_rt="fn main() {}\n",
+        )
         (self.room / ".ci").mkdir()
         shutil.copy(ROOT / ".ci" / "examples", self.room / ".ci")
 
@@ -177,11 +182,15 @@ class Builds(Small):
     def test_arguments_of_all_kinds_are_made(self) -> None:
         structs = {"Facts": "\n    pub kind: u32,\n    pub ends: Pair,", "Pair": "\n    pub first: usize,"}
         call = self.build.call_of(
-            "go", "alloc: Global, handle: &mut Handle, page: &[u8], facts: &mut Facts, count: u32, all: &mut [Pair]",
-            structs)
+            "go",
+            "alloc: Global, handle: &mut Handle, page: &[u8], facts: &mut Facts, count: u32, all: &mut [Pair]",
+            structs,
+        )
         for line in (
-            "let mut value1 = Handle::closed(alloc);", "let value2 = [0u8, 0u8];",
-            "let mut value3 = Facts { kind: 0u32, ends: Pair { first: 0usize } };", "let value4 = 0u32;",
+            "let mut value1 = Handle::closed(alloc);",
+            "let value2 = [0u8, 0u8];",
+            "let mut value3 = Facts { kind: 0u32, ends: Pair { first: 0usize } };",
+            "let value4 = 0u32;",
             "let mut value5 = [Pair { first: 0usize }, Pair { first: 0usize }];",
             "go(alloc, &mut value1, &value2[..], &mut value3, value4, &mut value5[..])",
         ):
@@ -189,8 +198,10 @@ class Builds(Small):
 
     def test_exports_get_their_own_names(self) -> None:
         text = 'define internal i32 @"hedit_c::editor::go"(i32 %0) {\n}\ndefine i32 @main() {\n}\n'
-        self.assertEqual(self.build.exported(text, {"hedit_c::editor::go": "go"}),
-                         "define i32 @go(i32 %0) {\n}\ndefine internal i32 @main() {\n}\n")
+        self.assertEqual(
+            self.build.exported(text, {"hedit_c::editor::go": "go"}),
+            "define i32 @go(i32 %0) {\n}\ndefine internal i32 @main() {\n}\n",
+        )
 
     def test_an_export_that_the_module_lacks_is_told(self) -> None:
         with self.assertRaisesRegex(SystemExit, "the module has no go"):

@@ -58,7 +58,10 @@ class SmallRepository(unittest.TestCase):
         room = tempfile.TemporaryDirectory()
         self.addCleanup(room.cleanup)
         self.root = Path(room.name)
-        self.write("crates/low/src/lib.rt", "//! Counting. It has more to say.\npub use counting::{Counter, add};\nmod counting;\n")
+        self.write(
+            "crates/low/src/lib.rt",
+            "//! Counting. It has more to say.\npub use counting::{Counter, add};\nmod counting;\n",
+        )
         self.write("crates/low/src/counting.rt", SOURCE)
         self.write("crates/low/specs/Counting.antt", DEFINITIONS)
         self.write("crates/low/must-fail/counts_two.edit", "file: src/counting.rt\nold: 1\nnew: 2\n")
@@ -75,8 +78,12 @@ class Claims(SmallRepository):
         super().setUp()
         self.claims = load("claims", self.root)
         self.claims.CLAIMS = self.root / "docs" / "CLAIMS.md"
-        self.claims.MUTANTS = self.write("bench/mutants.tsv", "# mutant\tcalls\nlow/counts_two\tlow add more; low Counter::step gives\n")
-        self.claims.STEPS = self.write(".ci/steps", "counting\t1\tlow/specs/Counting: count_up\tlow/src/counting: step\n")
+        self.claims.MUTANTS = self.write(
+            "bench/mutants.tsv", "# mutant\tcalls\nlow/counts_two\tlow add more; low Counter::step gives\n"
+        )
+        self.claims.STEPS = self.write(
+            ".ci/steps", "counting\t1\tlow/specs/Counting: count_up\tlow/src/counting: step\n"
+        )
         self.crates = self.claims.read_crates()
 
     def test_reads_calls_with_their_clauses_and_comments(self):
@@ -87,16 +94,27 @@ class Claims(SmallRepository):
         self.assertEqual("", calls["Counter::quiet"].comment)
 
     def test_finds_what_a_row_names_and_nobody_has(self):
-        self.write("docs/CLAIMS.md", "## `low`\n\n|Call|Clauses|\n|---|---|\n|`add`|`more`, `less`|\n|`sub`|`ensures`|\n")
+        self.write(
+            "docs/CLAIMS.md", "## `low`\n\n|Call|Clauses|\n|---|---|\n|`add`|`more`, `less`|\n|`sub`|`ensures`|\n"
+        )
         claimed, faults, rows = self.claims.faults_of_claims(self.crates)
         self.assertEqual({("low", "add"), ("low", "sub")}, claimed)
-        self.assertEqual(["docs/CLAIMS.md:5: add has no clause less", "docs/CLAIMS.md:6: low has no call sub",
-                          "docs/CLAIMS.md:6: sub has no clause ensures"], faults)
+        self.assertEqual(
+            [
+                "docs/CLAIMS.md:5: add has no clause less",
+                "docs/CLAIMS.md:6: low has no call sub",
+                "docs/CLAIMS.md:6: sub has no clause ensures",
+            ],
+            faults,
+        )
         self.assertEqual(2, rows)
 
     def test_finds_theorems_that_are_missing(self):
         self.write("docs/CLAIMS.md", "## Theorems\n\n### `low`\n\nNumbers grow (`numbers_grow`, `add`).\n")
-        self.assertEqual(["docs/CLAIMS.md: `low`: there is no theorem numbers_grow"], list(self.claims.faults_of_theorems(self.crates)))
+        self.assertEqual(
+            ["docs/CLAIMS.md: `low`: there is no theorem numbers_grow"],
+            list(self.claims.faults_of_theorems(self.crates)),
+        )
 
     def test_takes_mutants_that_are_listed(self):
         self.assertEqual(([], 1), self.claims.faults_of_mutants(self.crates))
@@ -112,9 +130,16 @@ class Claims(SmallRepository):
         self.claims.MUTANTS.write_text("low/counts_three\tlow add fewer; high add more\n")
         faults, mutants = self.claims.faults_of_mutants(self.crates)
         self.assertEqual(2, mutants)
-        self.assertEqual(["low add has no clause fewer", "there is no crate high", "there is no mutant low/counts_three",
-                          "low/counts_two names no call, and isn't listed", "low/forgets names no call, and isn't listed"],
-                         [fault.removeprefix("bench/mutants.tsv: ") for fault in faults])
+        self.assertEqual(
+            [
+                "low add has no clause fewer",
+                "there is no crate high",
+                "there is no mutant low/counts_three",
+                "low/counts_two names no call, and isn't listed",
+                "low/forgets names no call, and isn't listed",
+            ],
+            [fault.removeprefix("bench/mutants.tsv: ") for fault in faults],
+        )
 
     def test_writes_the_index(self):
         self.claims.write_index(self.crates, self.root / "out.md")
@@ -135,27 +160,42 @@ class Documents(SmallRepository):
         return [fault for _, fault in self.documents.found_in(page) if fault]
 
     def test_follows_links_and_anchors(self):
-        page = self.write("docs/A.md", "# A page\n\n## Two words\n\n[a](#two-words) [b](#three) [c](B.md) [d](https://example.org)\n")
+        page = self.write(
+            "docs/A.md", "# A page\n\n## Two words\n\n[a](#two-words) [b](#three) [c](B.md) [d](https://example.org)\n"
+        )
         self.assertEqual(["#three has no such heading", "B.md leads nowhere"], self.faults(page))
 
     def test_finds_paths_and_the_names_after_them(self):
-        page = self.write("docs/A.md", "`low/specs/Counting: count_up, count_down` `low/src/none` `crates/CRATE/src` `docs/A.md` `low/must-fail/counts_two`\n")
+        page = self.write(
+            "docs/A.md",
+            "`low/specs/Counting: count_up, count_down` `low/src/none` `crates/CRATE/src` `docs/A.md` `low/must-fail/counts_two`\n",
+        )
         self.assertEqual(["low/specs/Counting has no count_down", "there is no low/src/none"], self.faults(page))
 
     def test_finds_hard_phrases_but_not_in_code(self):
-        page = self.write("docs/A.md", "Nodes stand here.\nIt is no list, `is no list`. Of these. No longer is no longer hard.\n\n```\nstands\n```\n")
-        self.assertEqual([(1, "stand"), (2, "is no list"), (2, "Of t")],
-                         [(line, fault.split('"')[1]) for line, fault in self.documents.faults_of_style(page)])
+        page = self.write(
+            "docs/A.md",
+            "Nodes stand here.\nIt is no list, `is no list`. Of these. No longer is no longer hard.\n\n```\nstands\n```\n",
+        )
+        self.assertEqual(
+            [(1, "stand"), (2, "is no list"), (2, "Of t")],
+            [(line, fault.split('"')[1]) for line, fault in self.documents.faults_of_style(page)],
+        )
 
     def test_counts_words(self):
         page = self.write("docs/A.md", "one two three\n")
         other = self.write("docs/B.md", "one\n")
         self.documents.BUDGETS = {"docs/A.md": 2}
-        self.assertEqual(["docs/A.md: 3 words, and may have 2", "docs/B.md has no budget"], list(self.documents.faults_of_words([page, other], False)))
+        self.assertEqual(
+            ["docs/A.md: 3 words, and may have 2", "docs/B.md has no budget"],
+            list(self.documents.faults_of_words([page, other], False)),
+        )
 
     def test_finds_long_decisions(self):
         page = self.write("docs/DECISIONS.md", f"# Decisions\n\n### Short\n\nYes.\n\n### Long\n\n{'word ' * 81}\n")
-        self.assertEqual(['the decision "Long" has 81 words, and may have 80'], list(self.documents.faults_of_decisions(page)))
+        self.assertEqual(
+            ['the decision "Long" has 81 words, and may have 80'], list(self.documents.faults_of_decisions(page))
+        )
 
     def test_compares_a_crate_with_its_readme(self):
         page = self.write("crates/low/README.md", "# low\n\nCounts.\n\nDefinitions, in reading order: `Counted`.\n")
@@ -164,17 +204,31 @@ class Documents(SmallRepository):
     def test_compares_layers(self):
         self.write("crates.txt", "# Low\nlow: std\nmid: low\n")
         page = self.write("docs/ARCHITECTURE.md", "### Low\n\n|Crate|\n|---|\n|`low`|\n")
-        self.assertEqual(["mid is in the layer Low in only one of this page and crates.txt"], list(self.documents.faults_of_layers(page)))
+        self.assertEqual(
+            ["mid is in the layer Low in only one of this page and crates.txt"],
+            list(self.documents.faults_of_layers(page)),
+        )
 
     def test_ties_steps_to_definitions_and_functions(self):
-        self.write(".ci/steps", "counting\t1\tlow/specs/Counting: count_up\tlow/src/counting: step\n"
-                   "counting\t2\tlow/specs/Counting: idle\tlow/src/counting: add\n")
-        page = self.write("docs/ALGORITHMS.md", "# A\n\n## Counting\n\n`low/specs/Counting: count_up`; `low/src/counting: step`.\n\n1. Add one.\n\n"
-                          "## Idling\n\n`low/specs/Counting: idle`; `low/src/counting: step`.\n\n1. Wait.\n")
-        self.assertEqual([(9, "idling: no function that is named has a definition that is named in its contract"),
-                          (1, ".ci/steps, counting 2: has no step 2"),
-                          (1, ".ci/steps, counting 2: the contract of add has none of idle"),
-                          (1, ".ci/steps, counting 2: no function has idle in its contract")], list(self.documents.faults_of_algorithms(page)))
+        self.write(
+            ".ci/steps",
+            "counting\t1\tlow/specs/Counting: count_up\tlow/src/counting: step\n"
+            "counting\t2\tlow/specs/Counting: idle\tlow/src/counting: add\n",
+        )
+        page = self.write(
+            "docs/ALGORITHMS.md",
+            "# A\n\n## Counting\n\n`low/specs/Counting: count_up`; `low/src/counting: step`.\n\n1. Add one.\n\n"
+            "## Idling\n\n`low/specs/Counting: idle`; `low/src/counting: step`.\n\n1. Wait.\n",
+        )
+        self.assertEqual(
+            [
+                (9, "idling: no function that is named has a definition that is named in its contract"),
+                (1, ".ci/steps, counting 2: has no step 2"),
+                (1, ".ci/steps, counting 2: the contract of add has none of idle"),
+                (1, ".ci/steps, counting 2: no function has idle in its contract"),
+            ],
+            list(self.documents.faults_of_algorithms(page)),
+        )
 
     def test_finds_quotes_that_no_source_has(self):
         page = self.write("docs/PROOFS.md", "# P\n\n```\ncount_up n = n + 1\ncount_up n = n\n```\n")

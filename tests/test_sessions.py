@@ -32,8 +32,8 @@ class Form(unittest.TestCase):
     def test_a_session_is_written_as_it_reads(self) -> None:
         session = Session(("run", "--cap=3"), b"page <<E\nE\nhtml\n", 0, b"\n", "An empty page.")
         self.assertEqual(
-            written(session),
-            b"# An empty page.\n$ hedit run --cap=3\npage <<E\nE\nhtml\n--- reply, status 0\n\n")
+            written(session), b"# An empty page.\n$ hedit run --cap=3\npage <<E\nE\nhtml\n--- reply, status 0\n\n"
+        )
         self.assertEqual(parsed(written(session)), session)
 
     def test_each_byte_is_kept(self) -> None:
@@ -44,9 +44,16 @@ class Form(unittest.TestCase):
 
     def test_what_does_not_show_is_escaped(self) -> None:
         for content, shown in (
-            (b"a\rb\n", "a⟨0D⟩b"), (b"a\tb\n", "a⟨09⟩b"), (b"a \n", "a⟨20⟩"), (b"\xff\xfe\n", "⟨FF FE⟩"),
-            ("a\xa0b\n".encode(), "a⟨C2 A0⟩b"), ("⟨end⟩\n".encode(), "⟨E2 9F A8⟩end⟩"), (b"ab", "ab⟨end⟩"),
-            ("\u200b\n".encode(), "⟨E2 80 8B⟩"), ("é😀\n".encode(), "é😀"), (b"a\\n\n", "a\\n"),
+            (b"a\rb\n", "a⟨0D⟩b"),
+            (b"a\tb\n", "a⟨09⟩b"),
+            (b"a \n", "a⟨20⟩"),
+            (b"\xff\xfe\n", "⟨FF FE⟩"),
+            ("a\xa0b\n".encode(), "a⟨C2 A0⟩b"),
+            ("⟨end⟩\n".encode(), "⟨E2 9F A8⟩end⟩"),
+            (b"ab", "ab⟨end⟩"),
+            ("\u200b\n".encode(), "⟨E2 80 8B⟩"),
+            ("é😀\n".encode(), "é😀"),
+            (b"a\\n\n", "a\\n"),
         ):
             self.assertIn(f"\n{shown}\n", self.round_trip(content).decode(), content)
 
@@ -65,8 +72,11 @@ class Form(unittest.TestCase):
 
     def test_faults_of_files_are_told(self) -> None:
         for file, fault in (
-            (b"", "no line `"), (b"# only a title\n", "no line `"), (b"page\n--- reply, status 0\n", "no line `"),
-            (b"$ hedit run\nhtml\n", "ends the input"), (b"$ hedit run\n--- reply, status 0\nok", "no line feed"),
+            (b"", "no line `"),
+            (b"# only a title\n", "no line `"),
+            (b"page\n--- reply, status 0\n", "no line `"),
+            (b"$ hedit run\nhtml\n", "ends the input"),
+            (b"$ hedit run\n--- reply, status 0\nok", "no line feed"),
         ):
             with self.assertRaisesRegex(ValueError, fault):
                 parsed(file)
@@ -78,13 +88,16 @@ class Form(unittest.TestCase):
             import { readSession } from %r;
             const { words, input, status, reply } = readSession(process.argv[1]);
             console.log(JSON.stringify([words, input.toString("hex"), status, reply.toString("hex")]));
-        """ % str(TESTS / "session_form.mjs")
+        """ % str(
+            TESTS / "session_form.mjs"
+        )
         session = Session(("run ", "", "it's"), bytes(range(256)), 8, b" \r\n--- \n")
         with tempfile.TemporaryDirectory() as room:
             file = Path(room) / "a.txt"
             file.write_bytes(written(session))
-            ran = subprocess.run(["node", "--input-type=module", "-e", script, str(file)],
-                                 capture_output=True, text=True)
+            ran = subprocess.run(
+                ["node", "--input-type=module", "-e", script, str(file)], capture_output=True, text=True
+            )
         told = json.loads(ran.stdout or "null")
         self.assertEqual(told, [list(session.arguments), session.input.hex(), 8, session.reply.hex()], ran.stderr)
 
@@ -102,7 +115,8 @@ class Runs(unittest.TestCase):
         for number, session in enumerate(sessions):
             self.file.with_stem("abcdef"[number]).write_bytes(written(session))
         ran = subprocess.run(
-            [TESTS / "run-sessions", *words, self.program, self.file.parent], capture_output=True, text=True)
+            [TESTS / "run-sessions", *words, self.program, self.file.parent], capture_output=True, text=True
+        )
         return ran.returncode, ran.stdout + ran.stderr
 
     def test_right_answers_pass(self) -> None:

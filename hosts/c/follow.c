@@ -56,8 +56,8 @@ static int show(hedit_editor *editor, const struct tree *tree) {
     size_t length = 0;
     want(own == NULL ? HEDIT_MEMORY : HEDIT_DONE);
     uint32_t status = hedit_view(editor, HEDIT_HTML, own, html.length, &length);
-    int is_same = status == HEDIT_DONE && length == html.length &&
-                  memcmp(own, html.bytes, length) == 0;
+    int is_same =
+        status == HEDIT_DONE && length == html.length && memcmp(own, html.bytes, length) == 0;
     fwrite(html.bytes, 1, html.length, stdout);
     free(own);
     free(html.bytes);

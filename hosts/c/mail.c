@@ -18,9 +18,7 @@ static const char MAIL[] =
 
 static const char *const BUTTONS[] = {"bold", "justifyCenter", "insertUnorderedList"};
 
-static const uint8_t *bytes_of(const char *text) {
-    return (const uint8_t *)text;
-}
+static const uint8_t *bytes_of(const char *text) { return (const uint8_t *)text; }
 
 /* The program ends where a call should have been done and was not. */
 static void want(uint32_t status, const char *call) {
@@ -46,8 +44,8 @@ static int is_on(hedit_editor *editor, const char *button) {
     uint32_t flag;
     uint8_t none[1];
     size_t length;
-    uint32_t status = hedit_query(editor, HEDIT_STATE, bytes_of(button), strlen(button), &flag,
-                                  none, 0, &length);
+    uint32_t status =
+        hedit_query(editor, HEDIT_STATE, bytes_of(button), strlen(button), &flag, none, 0, &length);
     want(status, "query");
     return flag != 0;
 }
@@ -106,8 +104,8 @@ static void select_name(hedit_editor *editor) {
 int main(void) {
     hedit_editor editor = HEDIT_CLOSED_EDITOR;
     hedit_refusal refusal = {0, 0};
-    uint32_t status = hedit_open(&editor, bytes_of(MAIL), strlen(MAIL), LABEL_CAP, UNDO_DEPTH,
-                                 &refusal);
+    uint32_t status =
+        hedit_open(&editor, bytes_of(MAIL), strlen(MAIL), LABEL_CAP, UNDO_DEPTH, &refusal);
     want(status, "open");
     show(&editor);
     select_name(&editor);

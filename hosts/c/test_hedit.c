@@ -11,7 +11,7 @@
 
 static int failed = 0;
 
-#define CHECK(holds)                                                                                \
+#define CHECK(holds)                                                                               \
     do {                                                                                           \
         if (!(holds)) {                                                                            \
             printf("hedit.h, line %d: %s: FAILED\n", __LINE__, #holds);                            \
@@ -23,7 +23,8 @@ static const char PAGE[] = "<p contenteditable>ab</p>";
 static const char BOLD[] = "<p contenteditable=\"\"><b>ab</b></p>\n";
 static const char SESSION[] = "page <<END\n<p>x</p>\nEND\nhtml\nstat\n";
 static const char ANSWER[] = "<p>x</p>\nnodes 3 chars 1 next 3 edits 0 undo 0 redo 0\n";
-static const char NODES[] = "<!--n--><p contenteditable><i class=\"x&amp;y\" lang>\xc3\xa9</i>b</p>";
+static const char NODES[] =
+    "<!--n--><p contenteditable><i class=\"x&amp;y\" lang>\xc3\xa9</i>b</p>";
 static const uint32_t TEXT_OF_PAGE[] = {0, 0};
 static const uint32_t NOWHERE[] = {9};
 
@@ -133,14 +134,20 @@ static uint32_t label_at(hedit_editor *editor, uint32_t first, uint32_t second, 
 }
 
 static uint32_t bold(hedit_editor *editor, const char *denied) {
-    return hedit_exec_gated(editor, (const uint8_t *)denied, strlen(denied), TEXT("Bold"), TEXT(""));
+    return hedit_exec_gated(editor, (const uint8_t *)denied, strlen(denied), TEXT("Bold"),
+                            TEXT(""));
 }
 
 static void gates(void) {
     /* Names of 65 letters, none, one with another character, and 17 names. */
     static const char *const wrong[] = {
-        "abcdefghijklmnopqrstuvwxyzabcdefghijklmnopqrstuvwxyzabcdefghijklm", ",", "italic,",
-        ",italic", "italic, underline", "a_b", "a,b,c,d,e,f,g,h,i,j,k,l,m,n,o,p,q"};
+        "abcdefghijklmnopqrstuvwxyzabcdefghijklmnopqrstuvwxyzabcdefghijklm",
+        ",",
+        "italic,",
+        ",italic",
+        "italic, underline",
+        "a_b",
+        "a,b,c,d,e,f,g,h,i,j,k,l,m,n,o,p,q"};
     hedit_editor editor = opened(PAGE);
     hedit_refusal refusal;
     size_t i;
@@ -215,15 +222,15 @@ static void selected(void) {
     CHECK(hedit_selection_html(&editor, buffer, sizeof buffer, &length) == HEDIT_NO);
     CHECK(hedit_selection_text(&editor, buffer, sizeof buffer, &length) == HEDIT_NO);
     CHECK(holds(buffer, sizeof buffer, ""));
-    CHECK(hedit_select_points(&editor, label_at(&editor, 1, 1, 9), 1, label_at(&editor, 1, 0, 9), 1) ==
-          HEDIT_DONE);
+    CHECK(hedit_select_points(&editor, label_at(&editor, 1, 1, 9), 1, label_at(&editor, 1, 0, 9),
+                              1) == HEDIT_DONE);
     CHECK(hedit_selection_text(&editor, buffer, 0, &length) == HEDIT_TOO_SMALL && length == 1);
     CHECK(hedit_selection_text(&editor, buffer, 1, &length) == HEDIT_DONE && length == 1);
     CHECK(holds(buffer, sizeof buffer, "b"));
     hedit_close(&editor);
     editor = opened("<p><i>\xc3\xa9</i>b</p>");
-    CHECK(hedit_select_points(&editor, label_at(&editor, 0, 9, 9), 0, label_at(&editor, 0, 1, 9), 1) ==
-          HEDIT_DONE);
+    CHECK(hedit_select_points(&editor, label_at(&editor, 0, 9, 9), 0, label_at(&editor, 0, 1, 9),
+                              1) == HEDIT_DONE);
     CHECK(hedit_selection_html(&editor, buffer, sizeof html - 2, &length) == HEDIT_TOO_SMALL);
     CHECK(hedit_selection_html(&editor, buffer, sizeof html - 1, &length) == HEDIT_DONE);
     CHECK(length == sizeof html - 1 && holds(buffer, sizeof buffer, html));
@@ -233,7 +240,15 @@ static void selected(void) {
 }
 
 /* The texts that a node has, and the name that a mark has at a place. */
-enum text { NAME, VALUE, HTML, PLAIN, ATTRIBUTE_NAME, ATTRIBUTE_VALUE, MARK };
+enum text {
+    NAME,
+    VALUE,
+    HTML,
+    PLAIN,
+    ATTRIBUTE_NAME,
+    ATTRIBUTE_VALUE,
+    MARK
+};
 
 static uint32_t text_of(hedit_editor *editor, enum text text, uint32_t label, size_t place,
                         uint8_t *buffer, size_t capacity, size_t *length) {
@@ -256,9 +271,9 @@ static int has(hedit_editor *editor, enum text text, uint32_t label, size_t plac
     uint8_t buffer[20];
     size_t room = strlen(wanted), length = 0;
     memset(buffer, '.', sizeof buffer);
-    if (room > 0 && (text_of(editor, text, label, place, buffer, room - 1, &length) !=
-                         HEDIT_TOO_SMALL ||
-                     length != room || !holds(buffer, sizeof buffer, "")))
+    if (room > 0 &&
+        (text_of(editor, text, label, place, buffer, room - 1, &length) != HEDIT_TOO_SMALL ||
+         length != room || !holds(buffer, sizeof buffer, "")))
         return 0;
     return text_of(editor, text, label, place, buffer, room, &length) == HEDIT_DONE &&
            length == room && holds(buffer, sizeof buffer, wanted);
@@ -285,7 +300,9 @@ static void texts(void) {
     CHECK(has(&editor, NAME, 0, 0, "") && has(&editor, VALUE, 0, 0, ""));
     CHECK(has(&editor, HTML, comment, 0, "<!--n-->") && has(&editor, PLAIN, comment, 0, ""));
     CHECK(has(&editor, HTML, text, 0, "\xc3\xa9") && has(&editor, PLAIN, i, 0, "\xc3\xa9"));
-    CHECK(has(&editor, PLAIN, 0, 0, "\xc3\xa9" "b"));
+    CHECK(has(&editor, PLAIN, 0, 0,
+              "\xc3\xa9"
+              "b"));
     CHECK(has(&editor, ATTRIBUTE_NAME, i, 0, "class"));
     CHECK(has(&editor, ATTRIBUTE_VALUE, i, 0, "x&y"));
     CHECK(has(&editor, ATTRIBUTE_NAME, i, 1, "lang") && has(&editor, ATTRIBUTE_VALUE, i, 1, ""));
@@ -495,9 +512,8 @@ static int tells(hedit_editor *editor, uint64_t wanted_revision, const char *wor
     memset(buffer, '.', sizeof buffer);
     if (hedit_revision(editor, &revision) != HEDIT_DONE || revision != wanted_revision)
         return 0;
-    if (room > 0 &&
-        (hedit_changes(editor, buffer, room - 1, &length) != HEDIT_TOO_SMALL || length != room ||
-         !holds(buffer, sizeof buffer, "")))
+    if (room > 0 && (hedit_changes(editor, buffer, room - 1, &length) != HEDIT_TOO_SMALL ||
+                     length != room || !holds(buffer, sizeof buffer, "")))
         return 0;
     return hedit_changes(editor, buffer, room, &length) == HEDIT_DONE && length == room &&
            memcmp(buffer, wanted, room) == 0 && buffer[room] == '.';
@@ -583,7 +599,8 @@ static void kept(void) {
     hedit_editor editor = opened(PAGE);
     hedit_refusal refusal;
     CHECK(hedit_is_kept(&editor, 0) == HEDIT_DONE && hedit_is_kept(&editor, 2) == HEDIT_DONE);
-    CHECK(hedit_is_kept(&editor, 3) == HEDIT_NO && hedit_is_kept(&editor, HEDIT_NO_NODE) == HEDIT_NO);
+    CHECK(hedit_is_kept(&editor, 3) == HEDIT_NO &&
+          hedit_is_kept(&editor, HEDIT_NO_NODE) == HEDIT_NO);
     select_text(&editor, 2, 0, 2, 2);
     CHECK(bold(&editor, "") == HEDIT_DONE && hedit_is_kept(&editor, 3) == HEDIT_DONE);
     CHECK(hedit_undo(&editor) == HEDIT_DONE && tells(&editor, 2, "3 2 1 - 1 3"));
@@ -594,7 +611,8 @@ static void kept(void) {
     CHECK(hedit_redo(&editor) == HEDIT_NO && hedit_is_kept(&editor, 2) == HEDIT_DONE);
     CHECK(hedit_open(&editor, TEXT(PAGE), 99, 1, &refusal) == HEDIT_DONE);
     select_text(&editor, 2, 0, 2, 2);
-    CHECK(exec(&editor, "delete", "") == HEDIT_DONE && tells(&editor, 1, "1 2 2 1 - 1 0 3 1 'br' 0"));
+    CHECK(exec(&editor, "delete", "") == HEDIT_DONE &&
+          tells(&editor, 1, "1 2 2 1 - 1 0 3 1 'br' 0"));
     CHECK(hedit_is_kept(&editor, 2) == HEDIT_DONE);
     CHECK(exec(&editor, "insertText", "c") == HEDIT_DONE && undo_steps(&editor) == 1);
     CHECK(hedit_is_kept(&editor, 2) == HEDIT_NO && hedit_is_kept(&editor, 3) == HEDIT_DONE);

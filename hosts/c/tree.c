@@ -155,7 +155,7 @@ typedef const uint8_t *packed;
 static uint64_t number(packed *at) {
     uint64_t found = 0;
     for (int shift = 0; shift < 64; shift += 8)
-        found |= (uint64_t)*(*at)++ << shift;
+        found |= (uint64_t) * (*at)++ << shift;
     return found;
 }
 
@@ -286,8 +286,8 @@ struct tree tree_of(hedit_editor *editor) {
 }
 
 static int is_void(const struct text *name) {
-    static const char *const all[] = {"area", "base", "br", "col", "embed", "hr", "img", "input",
-                                      "link", "meta", "source", "track", "wbr"};
+    static const char *const all[] = {"area",  "base", "br",   "col",    "embed", "hr", "img",
+                                      "input", "link", "meta", "source", "track", "wbr"};
     int found = 0;
     for (size_t i = 0; i < sizeof all / sizeof all[0]; i++)
         found |= strlen(all[i]) == name->length && memcmp(all[i], name->bytes, name->length) == 0;

@@ -52,8 +52,8 @@ static std::string escaped(const std::string &text, bool is_value) {
 }
 
 static bool is_void(const std::string &name) {
-    static const char *const all[] = {"area", "base", "br", "col", "embed", "hr", "img", "input",
-                                      "link", "meta", "source", "track", "wbr"};
+    static const char *const all[] = {"area",  "base", "br",   "col",    "embed", "hr", "img",
+                                      "input", "link", "meta", "source", "track", "wbr"};
     return std::find(std::begin(all), std::end(all), name) != std::end(all);
 }
 
@@ -74,8 +74,8 @@ class Tree {
 
   private:
     void read(hedit::Editor &editor, hedit::Label label) {
-        items_[label] = {editor.node(label).kind, editor.node_name(label),
-                         editor.attributes(label), editor.node_value(label)};
+        items_[label] = {editor.node(label).kind, editor.node_name(label), editor.attributes(label),
+                         editor.node_value(label)};
         for (hedit::Label child : editor.children(label)) {
             read(editor, child);
             put(child, label, std::nullopt);

@@ -90,16 +90,19 @@ static void steps() {
     check(editor.counts().undo == 1, "both are one step of typing");
     check(editor.html() == "<p contenteditable=\"\">x</p>\n", "the text is there");
     check(!editor.replace({0, 0}, {0, 0}, "x"), "nothing is replaced outside of the host");
-    refused<hedit::BadPlace>([&] { editor.replace({text, 0}, {text, 9}, "x"); },
-                             "a place past the end");
+    refused<hedit::BadPlace>(
+        [&] {
+            editor.replace({text, 0}, {text, 9}, "x");
+        },
+        "a place past the end");
     refused<hedit::BadArgument>([&] { editor.exec_joined("\xff"); }, "a name that isn't UTF-8");
 }
 
 /* A line for each node below one: its kind, its name or its characters, and its attributes. */
 static std::string told(hedit::Editor &editor, hedit::Label label) {
     hedit::Node node = editor.node(label);
-    std::string text = std::to_string(node.kind) + ' ' + editor.node_name(label) +
-                       editor.node_value(label);
+    std::string text =
+        std::to_string(node.kind) + ' ' + editor.node_name(label) + editor.node_value(label);
     for (const auto &[name, value] : editor.attributes(label)) {
         text += ' ' + name + '=' + value;
     }

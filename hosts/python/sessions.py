@@ -124,7 +124,7 @@ def read_line(line: str) -> re.Match[str] | None:
 def answer(editor: Editor, found: re.Match[str], denied: list[str]) -> str:
     """What a session answers to a line, by calls of an Editor."""
     act = found.lastgroup or ""
-    parts = found.groups()[found.re.groupindex[act]:]
+    parts = found.groups()[found.re.groupindex[act] :]
     if act == "select":
         editor.select(place(*parts[:2]), place(*parts[2:4]))
         return "ok\n"
@@ -162,7 +162,7 @@ def parts_of(text: str) -> tuple[str, list[str], str, list[str]]:
     opening, _, rest = text.partition("\n")
     lines = rest.split("\n")
     end = lines.index(opening.removeprefix("page <<"))
-    return opening, lines[:end], lines[end], [line for line in lines[end + 1:] if line]
+    return opening, lines[:end], lines[end], [line for line in lines[end + 1 :] if line]
 
 
 def by_calls(text: str, options: dict[str, int], denied: list[str]) -> tuple[str, str, bool]:

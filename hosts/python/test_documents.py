@@ -33,8 +33,15 @@ def blocks(page: str, language: str) -> list[str]:
 def run(code: str, **names: object) -> tuple[dict[str, Any], str]:
     """Executes code with names that it takes for granted, and returns its names and what it prints."""
     given = {
-        "Editor": Editor, "NodeKind": NodeKind, "Point": Point, "Iterator": Iterator, "MAIL": MAIL,
-        "re": re, "accumulate": accumulate, "bisect_right": bisect_right, **names,
+        "Editor": Editor,
+        "NodeKind": NodeKind,
+        "Point": Point,
+        "Iterator": Iterator,
+        "MAIL": MAIL,
+        "re": re,
+        "accumulate": accumulate,
+        "bisect_right": bisect_right,
+        **names,
     }
     with contextlib.redirect_stdout(io.StringIO()) as printed:
         exec(compile(code, "document", "exec", dont_inherit=True), given)

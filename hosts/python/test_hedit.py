@@ -159,7 +159,6 @@ class Arguments(unittest.TestCase):
             with self.subTest(bad=bad), self.assertRaises(ValueError):
                 self.editor.ask(bad, "bold")
 
-
     def test_a_point_is_not_wrapped(self) -> None:
         calls: list[Callable[[Point], object]] = [
             self.editor.select,
@@ -717,18 +716,12 @@ class Causes(unittest.TestCase):
             self.assert_refused(hedit.BadPlace, Status.BAD_PLACE, lambda: full.select(((7,), 0)))
             for number in range(16):
                 full.mark(f"m{number}", *NAME)
-            self.assert_refused(
-                hedit.TooManyMarks, Status.TOO_MANY_MARKS, lambda: full.mark("m16", *NAME)
-            )
-            self.assert_refused(
-                hedit.BadArgument, Status.BAD_ARGUMENT, lambda: full.exec(b"\xff")
-            )
+            self.assert_refused(hedit.TooManyMarks, Status.TOO_MANY_MARKS, lambda: full.mark("m16", *NAME))
+            self.assert_refused(hedit.BadArgument, Status.BAD_ARGUMENT, lambda: full.exec(b"\xff"))
         self.assert_refused(hedit.EditorClosed, Status.CLOSED, full.undo)
         self.assertTrue(issubclass(hedit.OutOfMemory, MemoryError))
 
-    def assert_refused(
-        self, cause: type[hedit.HeditError], status: Status, call: Callable[[], object]
-    ) -> None:
+    def assert_refused(self, cause: type[hedit.HeditError], status: Status, call: Callable[[], object]) -> None:
         with self.assertRaises(cause) as caught:
             call()
         self.assertIsInstance(caught.exception, hedit.HeditError)

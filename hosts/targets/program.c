@@ -13,7 +13,11 @@
 #include <io.h>
 #endif
 
-enum { MOST_INPUT = 8388608, READ_FAILED = 3, WRITE_FAILED = 4 };
+enum {
+    MOST_INPUT = 8388608,
+    READ_FAILED = 3,
+    WRITE_FAILED = 4
+};
 
 typedef struct text {
     uint8_t *bytes;
@@ -82,7 +86,8 @@ static int has_answer(uint32_t status) {
 }
 
 static int write_answer(const text *output) {
-    return fwrite(output->bytes, 1, output->length, stdout) == output->length && fflush(stdout) == 0;
+    return fwrite(output->bytes, 1, output->length, stdout) == output->length &&
+           fflush(stdout) == 0;
 }
 
 static uint32_t run(int count, char **each, text *words, text *input, text *output) {

@@ -11,9 +11,17 @@
 #endif
 
 /* The words, the input, the reply, and what the library replies. */
-enum { WORDS, INPUT, REPLY, GOT, PARTS };
+enum {
+    WORDS,
+    INPUT,
+    REPLY,
+    GOT,
+    PARTS
+};
 
-enum { ROOM = 64 << 20 };
+enum {
+    ROOM = 64 << 20
+};
 
 static uint8_t *part[PARTS];
 static size_t length[PARTS];
@@ -34,8 +42,8 @@ static int read_part(int which) {
 
 /* Whether the library answers the session as it is stored. */
 static int is_answered(size_t wanted) {
-    uint32_t status = hedit_session_with_words(part[WORDS], length[WORDS], part[INPUT], length[INPUT],
-                                               part[GOT], ROOM, &length[GOT]);
+    uint32_t status = hedit_session_with_words(part[WORDS], length[WORDS], part[INPUT],
+                                               length[INPUT], part[GOT], ROOM, &length[GOT]);
     if (status != wanted)
         return 0;
     /* Words that are no words are refused without a reply. */

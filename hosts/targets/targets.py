@@ -12,8 +12,7 @@ HERE = Path(__file__).resolve().parent
 ROOT = HERE.parent.parent
 KEPT = HERE / "out"
 HEADER = ROOT / "include" / "hedit.h"
-OPTIONS = ("--no-default-config", "-O2", "-fPIC", "-ffunction-sections", "-fdata-sections",
-           "-fno-addrsig")
+OPTIONS = ("--no-default-config", "-O2", "-fPIC", "-ffunction-sections", "-fdata-sections", "-fno-addrsig")
 WARNINGS = ("-std=c11", "-Wall", "-Wextra", "-Werror", "-pedantic")
 LOCKED = ("-Wl,-z,relro,-z,now", "-Wl,--gc-sections")
 
@@ -38,10 +37,18 @@ class Target:
         return self.name.endswith("windows")
 
 
-LINUX = Target("x86_64-linux", "x86_64-unknown-linux-gnu", "", (
-    "manylinux_2_17_x86_64", "manylinux2014_x86_64", "musllinux_1_1_x86_64"))
-ARM = Target("aarch64-linux", "aarch64-unknown-linux-gnu", "aarch64-linux-gnu-", (
-    "manylinux_2_17_aarch64", "manylinux2014_aarch64", "musllinux_1_1_aarch64"))
+LINUX = Target(
+    "x86_64-linux",
+    "x86_64-unknown-linux-gnu",
+    "",
+    ("manylinux_2_17_x86_64", "manylinux2014_x86_64", "musllinux_1_1_x86_64"),
+)
+ARM = Target(
+    "aarch64-linux",
+    "aarch64-unknown-linux-gnu",
+    "aarch64-linux-gnu-",
+    ("manylinux_2_17_aarch64", "manylinux2014_aarch64", "musllinux_1_1_aarch64"),
+)
 WINDOWS = Target("x86_64-windows", "x86_64-w64-windows-gnu", "x86_64-w64-mingw32-", ("win_amd64",))
 MACS = (Target("arm64-macos", "arm64-apple-macosx11.0"), Target("x86_64-macos", "x86_64-apple-macosx10.15"))
 
@@ -80,15 +87,38 @@ class Workshop:
         if module.suffix == ".ll":
             return module.read_text()
         target = self.folder / "module.ll"
-        run(self.tools / "clang", "--no-default-config", "-S", "-emit-llvm", "-O0", "-Xclang",
-            "-disable-llvm-passes", "-Wno-override-module", "-x", "ir", module, "-o", target)
+        run(
+            self.tools / "clang",
+            "--no-default-config",
+            "-S",
+            "-emit-llvm",
+            "-O0",
+            "-Xclang",
+            "-disable-llvm-passes",
+            "-Wno-override-module",
+            "-x",
+            "ir",
+            module,
+            "-o",
+            target,
+        )
         return target.read_text()
 
     def _compile(self, target: Target, text: str, made: Path) -> Path:
         source = self.folder / f"{target.name}.ll"
         source.write_text(text)
-        run(self.tools / "clang", f"--target={target.triple}", *OPTIONS, "-Wno-override-module",
-            "-c", "-x", "ir", source, "-o", made)
+        run(
+            self.tools / "clang",
+            f"--target={target.triple}",
+            *OPTIONS,
+            "-Wno-override-module",
+            "-c",
+            "-x",
+            "ir",
+            source,
+            "-o",
+            made,
+        )
         source.unlink()
         return made
 
@@ -142,8 +172,18 @@ def version_script(whole: Path) -> Path:
 def shared_library(target: Target, whole: Path, soname: str) -> bytes:
     """The shared library for Linux, as a part of a system that has a C library of its own."""
     made = whole.with_name("libhedit.so")
-    run(f"{target.tools}gcc", "-shared", "-s", f"-Wl,-soname,{soname}", *LOCKED, "-Wl,-z,defs",
-        f"-Wl,--version-script={version_script(whole)}", "-o", made, whole)
+    run(
+        f"{target.tools}gcc",
+        "-shared",
+        "-s",
+        f"-Wl,-soname,{soname}",
+        *LOCKED,
+        "-Wl,-z,defs",
+        f"-Wl,--version-script={version_script(whole)}",
+        "-o",
+        made,
+        whole,
+    )
     return made.read_bytes()
 
 
@@ -151,8 +191,18 @@ def wheel_library(target: Target, whole: Path) -> bytes:
     """The shared library for a wheel. It names no C library and no version of one, so that it takes
     malloc and the others from the one that runs Python, be it glibc or musl."""
     made = whole.with_name("libhedit-wheel.so")
-    run(f"{target.tools}gcc", "-shared", "-s", "-nostdlib", "-Wl,-soname,libhedit.so", *LOCKED,
-        f"-Wl,--version-script={version_script(whole)}", "-o", made, whole)
+    run(
+        f"{target.tools}gcc",
+        "-shared",
+        "-s",
+        "-nostdlib",
+        "-Wl,-soname,libhedit.so",
+        *LOCKED,
+        f"-Wl,--version-script={version_script(whole)}",
+        "-o",
+        made,
+        whole,
+    )
     said = subprocess.check_output([f"{target.tools}readelf", "-dV", made], text=True)
     if "(NEEDED)" in said or "Version needs" in said:
         sys.exit(f"release: the library for wheels of {target.name} wants another one")
@@ -164,8 +214,20 @@ def windows_library(target: Target, whole: Path) -> dict[str, bytes]:
     choose the DLL's address by the name of the folder."""
     dll, imports, exports = (whole.with_name(it) for it in ("hedit.dll", "libhedit.dll.a", "hedit.def"))
     exports.write_text("".join(["LIBRARY hedit.dll\nEXPORTS\n", *(f"    {it}\n" for it in names_of_calls())]))
-    run(f"{target.tools}gcc", "-shared", "-s", "-static-libgcc", "-Wl,--no-insert-timestamp",
-        "-Wl,--disable-auto-image-base", "-Wl,--gc-sections", f"-Wl,--out-implib,{imports}", "-o", dll, whole, exports)
+    run(
+        f"{target.tools}gcc",
+        "-shared",
+        "-s",
+        "-static-libgcc",
+        "-Wl,--no-insert-timestamp",
+        "-Wl,--disable-auto-image-base",
+        "-Wl,--gc-sections",
+        f"-Wl,--out-implib,{imports}",
+        "-o",
+        dll,
+        whole,
+        exports,
+    )
     return {
         "bin/hedit.dll": dll.read_bytes(),
         "lib/libhedit.dll.a": imports.read_bytes(),
@@ -178,6 +240,19 @@ def program(target: Target, whole: Path) -> bytes:
     made = whole.with_name("hedit.exe")
     options = ["-static", "-Wl,--no-insert-timestamp", "-Wl,--stack,8388608"]
     options = options if target.is_windows else ["-pie", "-fPIE", "-Wl,-z,relro,-z,now"]
-    run(f"{target.tools}gcc", *WARNINGS, "-O2", "-s", "-DHEDIT_STATIC", f"-I{HEADER.parent}",
-        f"-ffile-prefix-map={ROOT}=.", *options, "-Wl,--gc-sections", "-o", made, HERE / "program.c", whole)
+    run(
+        f"{target.tools}gcc",
+        *WARNINGS,
+        "-O2",
+        "-s",
+        "-DHEDIT_STATIC",
+        f"-I{HEADER.parent}",
+        f"-ffile-prefix-map={ROOT}=.",
+        *options,
+        "-Wl,--gc-sections",
+        "-o",
+        made,
+        HERE / "program.c",
+        whole,
+    )
     return made.read_bytes()

@@ -117,9 +117,7 @@ def node_there(label: int) -> int | None:
 
 def selection_of(facts: SelectionFacts) -> Selection:
     """The points that the library gives."""
-    return Selection(
-        Point(facts.anchor, facts.anchor_offset), Point(facts.focus, facts.focus_offset)
-    )
+    return Selection(Point(facts.anchor, facts.anchor_offset), Point(facts.focus, facts.focus_offset))
 
 
 def limit(name: str, value: SupportsIndex, most: int) -> int:
@@ -214,9 +212,7 @@ class Editor:
         """Frees the editor's memory. Each other call is refused from then on."""
         self._call("hedit_close")
 
-    def exec(
-        self, name: str | bytes, value: str | bytes = "", denied: Iterable[str] = ()
-    ) -> bool:
+    def exec(self, name: str | bytes, value: str | bytes = "", denied: Iterable[str] = ()) -> bool:
         """Executes a command by its name, in any case. False where it isn't possible here, refuses
         the value, or is denied: `denied` has up to 16 names of commands. What a command does inside
         itself isn't asked for."""
@@ -246,9 +242,7 @@ class Editor:
         """Takes a step forth again. False where there is none."""
         return answer(self._call("hedit_redo"))
 
-    def _place_call(
-        self, name: str, words: tuple[object, ...], anchor: Place | Point, focus: Place | Point
-    ) -> None:
+    def _place_call(self, name: str, words: tuple[object, ...], anchor: Place | Point, focus: Place | Point) -> None:
         """A call between two places, and where one of them is a point, its like between points."""
         places: tuple[object, ...]
         if isinstance(anchor, Point) or isinstance(focus, Point):
@@ -344,9 +338,7 @@ class Editor:
         """The numbers of the page and of the history."""
         facts = NumberFacts()
         answer(self._call("hedit_numbers", ctypes.byref(facts)))
-        return Counts(
-            facts.nodes, facts.next_label, facts.chars, facts.edits, facts.undo, facts.redo
-        )
+        return Counts(facts.nodes, facts.next_label, facts.chars, facts.edits, facts.undo, facts.redo)
 
     def revision(self) -> int:
         """How many calls have changed the page. Where it is what it was before a
@@ -407,9 +399,7 @@ class Editor:
     def path_of(self, label: int) -> list[int]:
         """The path of the node of a label."""
         number = place_number(label)
-        status, path = read_items(
-            lambda *buffer: self._call("hedit_path_of", number, *buffer), NUMBER, 32
-        )
+        status, path = read_items(lambda *buffer: self._call("hedit_path_of", number, *buffer), NUMBER, 32)
         answer(status)
         return path
 
@@ -468,9 +458,7 @@ class Editor:
         """The points at which a text occurs in the texts of a node and of all that stands below it,
         in tree order, none overlapping. Each occurrence stands in one text."""
         words = (place_number(label), *text_words(text))
-        status, points = read_items(
-            lambda *buffer: self._call("hedit_find", *words, *buffer), PointFacts, 64
-        )
+        status, points = read_items(lambda *buffer: self._call("hedit_find", *words, *buffer), PointFacts, 64)
         answer(status)
         return [Point(point.label, point.offset) for point in points]
 
