@@ -3,8 +3,7 @@
 
 Runs `rt ci` with a check on each processor, as `.ci/run` does, and prints for each crate the seconds of processor that its
 proofs, its tests and its must-fail edits took, the most memory that one of its checks held, and the sums; then the longest
-chain of proofs by the clock, and the minutes from the start to the end. The words are handed on: `--anew` proves all
-again, where `rt ci` by itself keeps what an earlier run on the machine proved.
+chain of proofs wall-clock, and the minutes from the start to the end. The words are handed on to `rt ci`.
 
 The seconds are read from /proc, of each process of the prover and of those that it started, five times a second: what
 one of them took after it was last read is left out.
