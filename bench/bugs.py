@@ -38,9 +38,9 @@ WORDS = {
 }
 
 
-def bodies(names):
+def bodies(names: list[str]) -> dict[str, list[Path]]:
     """The files that the names stand for, by crate."""
-    found = {}
+    found: dict[str, list[Path]] = {}
     for name in names or sorted(it.name for it in BUGS.iterdir()):
         crate, _, body = name.partition("/")
         files = sorted((BUGS / crate).glob(f"{body or '*'}.edit"))
@@ -50,7 +50,7 @@ def bodies(names):
     return found
 
 
-def copy_with(found, room):
+def copy_with(found: dict[str, list[Path]], room: str) -> None:
     """Copies the crates to a folder, with these bodies in place of the edits of their crates."""
     for name in ("crates.txt", "HANDLES"):
         shutil.copy(ROOT / name, room)
@@ -63,13 +63,13 @@ def copy_with(found, room):
             shutil.copy(file, folder)
 
 
-def call_of(file):
+def call_of(file: Path) -> str:
     """The public call that a body makes wrong, or nothing where its first line names none."""
     first = file.read_text(encoding="utf-8").splitlines()[0]
     return first.removeprefix("call: ") if first.startswith("call: ") else ""
 
 
-def applies(file):
+def applies(file: Path) -> bool:
     """Whether each line that a body changes stands once in its file, as the changes before it leave that."""
     text = ""
     for line in file.read_text(encoding="utf-8").splitlines():
@@ -85,7 +85,7 @@ def applies(file):
     return True
 
 
-def list_all(found):
+def list_all(found: dict[str, list[Path]]) -> int:
     """Prints the bodies. The status is 1 where one can't be applied."""
     lost = 0
     for crate, files in found.items():
@@ -96,12 +96,12 @@ def list_all(found):
     return 1 if lost else 0
 
 
-def verdict(text):
+def verdict(text: str) -> str:
     """The word for what rt says of an edit."""
     return next(word for said, word in WORDS.items() if text.startswith(said))
 
 
-def main():
+def main() -> int:
     words = argparse.ArgumentParser(description=__doc__, formatter_class=argparse.RawDescriptionHelpFormatter)
     words.add_argument("--list", action="store_true", help="print the bodies and the calls that they make wrong")
     words.add_argument("names", nargs="*", metavar="CRATE | CRATE/BODY")
@@ -110,14 +110,14 @@ def main():
     return list_all(found) if given.list else try_all(found)
 
 
-def try_all(found):
+def try_all(found: dict[str, list[Path]]) -> int:
     """Tries the bodies, and prints what came of each. The status is 1 where one isn't refused."""
-    told = Counter()
+    told: Counter[str] = Counter()
     with TemporaryDirectory() as room:
         copy_with(found, room)
         words = ["rt", "must-fail", *found]
         with subprocess.Popen(words, cwd=room, stdout=subprocess.PIPE, stderr=subprocess.STDOUT, text=True) as ran:
-            for line in ran.stdout:
+            for line in ran.stdout or ():
                 if tried := TRIED.match(line):
                     word = verdict(tried[2])
                     told[word] += 1
@@ -125,7 +125,9 @@ def try_all(found):
                 else:
                     print(line, end="", flush=True)
     missing = sum(map(len, found.values())) - told.total()
-    print(", ".join(f"{count} {word}" for word, count in told.items()) + (f", {missing} not told of" if missing else ""))
+    print(
+        ", ".join(f"{count} {word}" for word, count in told.items()) + (f", {missing} not told of" if missing else "")
+    )
     return 1 if missing or set(told) - {"refused", "at a limit"} else 0
 
 

@@ -43,13 +43,15 @@ import sys
 import time
 from pathlib import Path
 from tempfile import TemporaryDirectory
-from typing import Callable, NamedTuple
+from collections.abc import Callable, Iterable, Iterator, Sequence
+from typing import NamedTuple
 
 ROOT = Path(__file__).resolve().parent.parent
 
 # The commands: each with its value, what is executed before it so that it has work, and a plain engine's instructions for
 # each paragraph, where they are known. A plain engine has the same algorithms and no proofs; the aim is 1.3 times as many.
-COMMANDS = [
+Row = tuple[str, str | None, int | None]
+COMMANDS: list[Row] = [
     ("bold", None, 15900),
     ("bold", "bold", None),
     ("bold", "styleWithCSS true", None),
@@ -108,19 +110,19 @@ OF_LINES = [
 ]
 
 program = ROOT / "crates/hedit/out/hedit"
-chosen = None
-missed = []
+chosen: list[str] | None = None
+missed: list[str] = []
 
 
 # ---- sessions, and what callgrind counts of them
 
 
-def session_of(page, acts):
+def session_of(page: str, acts: Iterable[str]) -> str:
     """The text of a session."""
     return "\n".join(["page <<END", page, "END", *acts, ""])
 
 
-def callgrind(text, words, *options):
+def callgrind(text: str, words: Iterable[str], *options: str) -> tuple[str, list[int]]:
     """Runs the program on a text. Gives what it wrote, and the instructions in the order of callgrind's parts."""
     with TemporaryDirectory() as room:
         ran = subprocess.run(
@@ -131,11 +133,11 @@ def callgrind(text, words, *options):
         if ran.returncode != 0:
             sys.exit(f"bench/commands.py: {' '.join(words)} ends with {ran.returncode}:\n{ran.stderr.decode()}")
         parts = sorted(Path(room).iterdir(), key=lambda part: int(part.suffix[1:] or "999999999"))
-        counts = [int(re.search(r"^totals: (\d+)", part.read_text(), re.M)[1]) for part in parts]
+        counts = [int(re.findall(r"^totals: (\d+)", part.read_text(), re.M)[0]) for part in parts]
     return ran.stdout.decode(), counts
 
 
-def counted(text, *words):
+def counted(text: str, *words: str) -> tuple[str, int]:
     """What the program writes for a text, and the instructions of it all."""
     written, counts = callgrind(text, words)
     return written, sum(counts)
@@ -149,7 +151,7 @@ class Use(NamedTuple):
     written: str
 
 
-def used(text, *words):
+def used(text: str, *words: str) -> Use:
     """Runs the program on a text, without callgrind."""
     ran = subprocess.run(["/usr/bin/time", "-f", "%U %S %M", program, *words], input=text.encode(), capture_output=True)
     if ran.returncode != 0:
@@ -165,7 +167,7 @@ class Trial(NamedTuple):
     """An act to measure, under a name, and the acts that go before it."""
 
     name: str
-    before: list
+    before: list[str]
     act: str
 
 
@@ -178,7 +180,7 @@ class Cost(NamedTuple):
     edits: int
 
 
-def costs(page, caret, trials):
+def costs(page: str, caret: str, trials: list[Trial]) -> dict[str, Cost]:
     """The cost of each trial on a page, by its name, all in one session, where an act selects a caret in a text.
 
     Callgrind parts its counts where a reply is written. The first act has the reading of the page in its count. After each
@@ -207,17 +209,18 @@ def costs(page, caret, trials):
     return found
 
 
-def last_entry(stat):
+def last_entry(stat: str) -> tuple[int, int]:
     """By a reply to `stat`, the edits of the entry that undo would take, and how many entries there are."""
-    return map(int, re.search(r"edits (\d+) undo (\d+)", stat).groups())
+    edits, entries = re.findall(r"edits (\d+) undo (\d+)", stat)[0]
+    return int(edits), int(entries)
 
 
-def is_chosen(command):
+def is_chosen(command: str) -> bool:
     """Whether a command, or the command of a question, is to be measured."""
     return chosen is None or command.split()[0] in chosen
 
 
-def trials_of(commands, selecting, where=""):
+def trials_of(commands: list[Row], selecting: str, where: str = "") -> Iterator[Trial]:
     """The trials of commands on what an act selects."""
     for command, before, _ in commands:
         if is_chosen(command) and before:
@@ -226,7 +229,7 @@ def trials_of(commands, selecting, where=""):
             yield Trial(command + where, [selecting], f"exec {command}")
 
 
-def every_trial(selecting, where=""):
+def every_trial(selecting: str, where: str = "") -> Iterator[Trial]:
     """The trials of all commands, questions and flags on what an act selects."""
     yield from trials_of(COMMANDS, selecting, where)
     for question in QUESTIONS:
@@ -239,7 +242,7 @@ def every_trial(selecting, where=""):
 # ---- tables
 
 
-def told(words, figure, most):
+def told(words: str, figure: float, most: float) -> None:
     """Prints a figure, and the most that it should be."""
     over = figure > most
     print(f"  {words:<56} {figure:>13,.2f}  (at most {most:,.2f}){'  MISSED' if over else ''}", flush=True)
@@ -247,7 +250,14 @@ def told(words, figure, most):
         missed.append(f"{words}: {figure:,.2f}, and at most {most:,.2f}")
 
 
-def table(place, words, heads, rows, figure_of, most_of):
+def table(
+    place: str,
+    words: str,
+    heads: list[str],
+    rows: dict[str, list[Cost]],
+    figure_of: Callable[[Sequence[int]], float],
+    most_of: Callable[[list[Cost]], float],
+) -> dict[str, str]:
     """Prints a row for each name, of its costs in order, and gives each row's figure as Markdown.
 
     Of what a command takes, of its undo and of its redo there is a figure each, made of the counts in order.
@@ -278,7 +288,7 @@ def table(place, words, heads, rows, figure_of, most_of):
     return figures
 
 
-def in_rows(columns):
+def in_rows(columns: list[dict[str, Cost]]) -> dict[str, list[Cost]]:
     """The costs by name, each in the order of the columns."""
     return {name: [column[name] for column in columns] for name in columns[0]}
 
@@ -293,27 +303,27 @@ class Shape(NamedTuple):
     whole: Callable[[int], str]
     amid: Callable[[int], str]
     start: Callable[[int], str]
-    sizes: tuple
+    sizes: tuple[int, ...]
 
 
-def host(inside):
+def host(inside: str) -> str:
     return f'<div contenteditable="true">{inside}</div>'
 
 
-def select(from_, to=None):
+def select(from_: str, to: str | None = None) -> str:
     return f"select {from_} {to or from_}"
 
 
-def beside(part, path, opened="", closed="", between=""):
+def beside(part: str, path: Callable[[int], str], opened: str = "", closed: str = "", between: str = "") -> Shape:
     """A shape of parts side by side. A part has a text, for which {} stands in `part`, at `path` of its index."""
 
-    def word(index):
+    def word(index: int) -> str:
         return f"item {index}"
 
-    def page(count):
+    def page(count: int) -> str:
         return host(opened + between.join(part.format(word(index)) for index in range(count)) + closed)
 
-    def whole(count):
+    def whole(count: int) -> str:
         return select(f"{path(0)}:0", f"{path(count - 1)}:{len(word(count - 1))}")
 
     return Shape(
@@ -325,13 +335,13 @@ def beside(part, path, opened="", closed="", between=""):
     )
 
 
-def chain(name, around):
+def chain(name: str, around: str) -> Shape:
     """A shape of one word in a p, and below so many elements of a name, which {} stands for."""
 
-    def page(count):
+    def page(count: int) -> str:
         return host(around.format(f"<{name}>" * count, f"</{name}>" * count))
 
-    def place(count):
+    def place(count: int) -> str:
         return "0" + "/0" * (count + 2)
 
     return Shape(
@@ -356,25 +366,25 @@ SHAPES = {
 }
 
 
-def trials_over(shape, count):
+def trials_over(shape: Shape, count: int) -> Iterator[Trial]:
     """The trials of a shape: all of it selected, and commands of one place amid it."""
     yield from every_trial(shape.whole(count))
     yield from trials_of(OF_PLACE, shape.amid(count), ", caret amid")
     yield from trials_of(OF_PLACE, shape.start(count), ", caret at a start")
 
 
-def most_over(sizes):
+def most_over(sizes: Sequence[int]) -> Callable[[list[Cost]], float]:
     """What the instructions of a command may grow by over a shape, from its edits."""
 
-    def most(row):
+    def most(row: list[Cost]) -> float:
         fewer, more = (cost.edits + size for cost, size in zip(row[-2:], sizes[-2:]))
         return more / fewer * 1.125
 
     return most
 
 
-def shapes(names):
-    summary = {}
+def shapes(names: list[str]) -> None:
+    summary: dict[str, dict[str, str]] = {}
     for name in names:
         shape = SHAPES[name]
         columns = [costs(shape.page(size), shape.amid(size), list(trials_over(shape, size))) for size in shape.sizes]
@@ -405,7 +415,7 @@ def shapes(names):
 TYPED = ["exec insertText x"] * 200
 
 
-def at_places():
+def at_places() -> Iterator[Trial]:
     """The trials at a caret and on a part of a text, near the start of a page of paragraphs."""
     yield from every_trial(select("0/3/0:1"), ", caret")
     yield from every_trial(select("0/3/0:1", "0/3/0:3"), ", part of a text")
@@ -415,7 +425,7 @@ def at_places():
         yield Trial(f"{len(TYPED)} typed characters, undone", [select("0/5/0:6"), *TYPED], "undo 1")
 
 
-def pages():
+def pages() -> None:
     sizes = (500, 15000, 150000)
     columns = [costs(SHAPES["paragraphs"].page(size), select("0/3/0:1"), list(at_places())) for size in sizes]
     table(
@@ -431,7 +441,7 @@ def pages():
 # ---- one place beside many siblings
 
 
-def siblings():
+def siblings() -> None:
     paragraphs, lines = SHAPES["paragraphs"].page(100001), SHAPES["lines"].page(50001)
     each_before(
         paragraphs,
@@ -451,7 +461,9 @@ def siblings():
     )
 
 
-def each_before(page, place, caret, near, far, trials):
+def each_before(
+    page: str, place: str, caret: str, near: int, far: int, trials: Callable[[int], Iterable[Trial]]
+) -> None:
     """Prints what each sibling before a place costs, by two places that differ in their index alone."""
     columns = [costs(page, select(caret), list(trials(index))) for index in (near, far)]
     table(
@@ -467,7 +479,7 @@ def each_before(page, place, caret, near, far, trials):
 # ---- one place below many elements
 
 
-def depth():
+def depth() -> None:
     shape = SHAPES["div in div"]
     columns = [costs(shape.page(size), shape.amid(size), list(trials_over(shape, size))) for size in (10, 160)]
     table(
@@ -482,7 +494,7 @@ def depth():
         key_in_chains()
 
 
-def key_in_chains():
+def key_in_chains() -> None:
     """A key in the middle one of three chains of b, which stand side by side."""
     seconds = []
     for count in (48, 96, 192):
@@ -506,14 +518,14 @@ NOTHING = {
 }
 
 
-def nothing():
+def nothing() -> None:
     keys = [row for row in OF_PLACE if row[0] in ("delete", "insertText x")]
     for name, node in NOTHING.items():
 
-        def page(count, node=node):
+        def page(count: int) -> str:
             return host(f"<p>ab{node * count}cd{node * count}ef</p>")
 
-        def caret(count):
+        def caret(count: int) -> str:
             return select(f"0/0/{count + 1}:1")
 
         sizes = (50, 100, 200)
@@ -535,7 +547,7 @@ def nothing():
 # ---- one element with a long style
 
 
-def styles():
+def styles() -> None:
     style = " ".join(f"p{number}: v;" for number in range(10000))
     page = host(f'<p style="{style}">foobar</p>')
     for trial in every_trial(select("0/0/0:1", "0/0/0:3"), " at a style of 10,000 declarations"):
@@ -548,9 +560,9 @@ def styles():
 STACK = 128
 
 
-def stack():
+def stack() -> None:
     """Which of the commands and questions, on the deepest pages that are read, end well in a small stack."""
-    limit = ["bash", "-c", f'ulimit -s {STACK} && exec "$0" "$@"', program, "run"]
+    limit = ["bash", "-c", f'ulimit -s {STACK} && exec "$0" "$@"', str(program), "run"]
     failed = []
     for name in ("div", "b", "a", "span", "blockquote"):
         around = '<a href="u">' if name == "a" else f"<{name}>"
@@ -569,11 +581,11 @@ def stack():
 # ---- many keys
 
 
-def typing():
+def typing() -> None:
     """Many keys in one text, and a key before so many characters of one."""
     page, caret = SHAPES["paragraphs"].page(10), select("0/3/0:1")
 
-    def session(count, act):
+    def session(count: int, act: str) -> str:
         return session_of(page, [caret] + [act] * count)
 
     nothing, few, many = (counted(session(count, TYPED[0]), "run")[1] for count in (0, 2500, 10000))
@@ -588,13 +600,13 @@ def typing():
         print(f"  a key before {length:,} characters: {(many - few) / 200:,.0f} instructions")
 
 
-def key_at_front(length, count):
+def key_at_front(length: int, count: int) -> int:
     """The instructions of a session that types so many characters before a long text."""
     page = host(f"<p>{'some words ' * (length // 11)}</p>")
     return counted(session_of(page, [select("0/0/0:0")] + TYPED[:1] * count), "run")[1]
 
 
-def log():
+def log() -> None:
     page = SHAPES["paragraphs"].page(10)
     of_log, of_replay = [], []
     for lines in (100, 400):
@@ -621,7 +633,7 @@ MOVES = {
 }
 
 
-def moves():
+def moves() -> None:
     """A line costs the ways up, and every so many lines a walk."""
     for words, lines in MOVES.items():
         figures = []
@@ -646,7 +658,7 @@ READ_NODES = 10002
 ALL_NODES = 15002
 
 
-def bulk():
+def bulk() -> None:
     empty, peak = (used("", "bulk", paragraphs).kilobytes for paragraphs in ("1", "5000"))
     page = used(session_of(SHAPES["paragraphs"].page(5000), ["stat"]), "run").kilobytes
     print("bulk 5000:")
@@ -658,7 +670,7 @@ def bulk():
     )
 
 
-def long():
+def long() -> None:
     """What a user waits for a key in a long paragraph."""
     print("seconds of processor of a key at a caret amid so many:")
     for name in ("lines", "words"):
@@ -671,8 +683,8 @@ def long():
             told(trial.name, run.seconds - without, 0.1)
 
 
-PARTS = {
-    "shapes": shapes,
+# Those that don't choose shapes.
+PARTS: dict[str, Callable[[], None]] = {
     "pages": pages,
     "siblings": siblings,
     "depth": depth,
@@ -687,19 +699,22 @@ PARTS = {
 }
 
 
-def main():
+def main() -> int:
     global program, chosen
     names = {row[0].split()[0] for row in COMMANDS} | {flag.split()[0] for flag in FLAGS}
     reader = argparse.ArgumentParser(description=__doc__, formatter_class=argparse.RawDescriptionHelpFormatter)
     reader.add_argument("--program", type=Path, default=program)
-    reader.add_argument("--part", nargs="+", choices=PARTS, default=list(PARTS))
+    reader.add_argument("--part", nargs="+", choices=["shapes", *PARTS], default=["shapes", *PARTS])
     reader.add_argument("--shape", nargs="+", choices=SHAPES, default=list(SHAPES))
     reader.add_argument("--command", nargs="+", choices=sorted(names))
     words = reader.parse_args()
     program, chosen = words.program.resolve(), words.command
     began = time.monotonic()
     for part in words.part:
-        PARTS[part](*([words.shape] if part == "shapes" else []))
+        if part == "shapes":
+            shapes(words.shape)
+        else:
+            PARTS[part]()
     print(f"aims missed: {len(missed)}, after {(time.monotonic() - began) / 60:.1f} minutes")
     for line in missed:
         print(f"  {line}")

@@ -14,6 +14,7 @@ import subprocess
 import sys
 import time
 from collections import Counter, defaultdict
+from collections.abc import Iterable
 from dataclasses import dataclass
 from pathlib import Path
 
@@ -24,7 +25,7 @@ KINDS = ("proofs", "tests", "edits")
 
 @dataclass
 class Check:
-    """A process of the prover: what it checks, its seconds of processor, its most KiB of memory, and when it ran."""
+    """A process of the prover: what it checks, its CPU seconds, its most KiB of memory, and when it ran."""
 
     crate: str
     kind: str
@@ -34,14 +35,14 @@ class Check:
     memory: int = 0
 
 
-def kind_of(words, folder):
+def kind_of(words: list[str], folder: str) -> str:
     """What a process of the prover does: an edit is checked in a copy of its crate."""
     if Path(folder).name.startswith("rt-edit-"):
         return "edits"
     return "tests" if "--test" in words else "proofs"
 
 
-def read_processes():
+def read_processes() -> dict[int, tuple[int, float]]:
     """By its number, of each process: the number of the one that started it, and its seconds with those of ended children."""
     found = {}
     for folder in Path("/proc").glob("[0-9]*"):
@@ -51,7 +52,7 @@ def read_processes():
     return found
 
 
-def read_check(number, now):
+def read_check(number: int, now: float) -> Check | None:
     """The check that a process of the prover makes, or None for any other process."""
     folder = Path("/proc", str(number))
     try:
@@ -64,7 +65,7 @@ def read_check(number, now):
     )
 
 
-def read_memory(number):
+def read_memory(number: int) -> int:
     """The most KiB that a process has held."""
     with contextlib.suppress(OSError):
         for line in Path("/proc", str(number), "status").read_text().splitlines():
@@ -73,14 +74,14 @@ def read_memory(number):
     return 0
 
 
-def read_provers(gate, checks, now):
+def read_provers(gate: int, checks: dict[int, Check], now: float) -> None:
     """Notes what each process of the prover that the gate has started took so far, with what runs below it."""
     running = read_processes()
     children = defaultdict(list)
     for number, (parent, _) in running.items():
         children[parent].append(number)
 
-    def seconds_below(number):
+    def seconds_below(number: int) -> float:
         return running[number][1] + sum(seconds_below(child) for child in children[number])
 
     for number in children[gate]:
@@ -92,39 +93,45 @@ def read_provers(gate, checks, now):
             check.memory = max(check.memory, read_memory(number))
 
 
-def print_table(checks):
+def print_table(checks: Iterable[Check]) -> None:
     """Prints the seconds of each crate, the costliest first, and their sums."""
-    sums, memory = Counter(), Counter()
+    sums: dict[tuple[str, str], float] = defaultdict(float)
+    memory: Counter[str] = Counter()
     for check in checks:
         sums[check.crate, check.kind] += check.seconds
         memory[check.crate] = max(memory[check.crate], check.memory)
     crates = sorted(memory, key=lambda it: -sum(sums[it, kind] for kind in KINDS))
-    rows = [(crate, *(sums[crate, kind] for kind in KINDS)) for crate in crates]
-    rows.append(("all", *(sum(row[1 + at] for row in rows) for at in range(len(KINDS)))))
+    rows = [(crate, [sums[crate, kind] for kind in KINDS]) for crate in crates]
+    rows.append(("all", [sum(column) for column in zip(*(seconds for _, seconds in rows))]))
     memory["all"] = max(memory.values(), default=0)
     print(f"\n{'crate':20}{'proofs':>9}{'tests':>9}{'edits':>9}{'all':>9}{'MiB':>9}")
-    for crate, *seconds in rows:
+    for crate, seconds in rows:
         print(f"{crate:20}" + "".join(f"{it:9.0f}" for it in (*seconds, sum(seconds), memory[crate] / 1024)))
 
 
-def read_crates():
+def read_crates() -> dict[str, list[str]]:
     """What crates.txt says: for each crate those that it stands on."""
     rows = (line.partition("#")[0].partition(":") for line in (ROOT / "crates.txt").read_text().splitlines())
     return {name.split()[0]: below.split() for name, colon, below in rows if colon}
 
 
-def print_chain(checks):
+def print_chain(checks: Iterable[Check]) -> None:
     """Prints the chain of proofs that ended last: each crate after the one that it waited for."""
     proofs, below, chain = {it.crate: it for it in checks if it.kind == "proofs"}, read_crates(), []
-    at = max(proofs, key=lambda it: proofs[it].ended, default=None)
+
+    def last(crates: Iterable[str]) -> str | None:
+        return max(((proofs[it].ended, it) for it in crates if it in proofs), default=(0, None))[1]
+
+    at = last(proofs)
     while at:
         chain.append(f"{at} {proofs[at].began / 60:.1f} to {proofs[at].ended / 60:.1f}")
-        at = max((it for it in below[at] if it in proofs), key=lambda it: proofs[it].ended, default=None)
+        at = last(below[at])
     print("\nthe chain of proofs that ended last, in minutes from the start: " + ", ".join(reversed(chain)))
 
 
-def main():
-    checks, began = {}, time.monotonic()
+def main() -> int:
+    checks: dict[int, Check] = {}
+    began = time.monotonic()
     jobs = {"RT_JOBS": str(os.cpu_count()), **os.environ}
     gate = subprocess.Popen(["rt", "ci", *sys.argv[1:]], cwd=ROOT, env=jobs)
     while gate.poll() is None:

@@ -10,6 +10,7 @@ import re
 import subprocess
 import sys
 from collections import Counter, defaultdict
+from collections.abc import Iterator
 from concurrent.futures import ThreadPoolExecutor
 from dataclasses import dataclass
 from functools import cache
@@ -23,37 +24,9 @@ VIEWS = ("html", "tree", "points", "stat")
 PART = "part"
 PARTED = "! 2 unknown act\n"
 VOID = {"area", "base", "br", "col", "embed", "hr", "img", "input", "link", "meta", "param", "source", "track", "wbr"}
-MADE_NAMES = {
-    "a",
-    "address",
-    "b",
-    "blockquote",
-    "br",
-    "dd",
-    "div",
-    "dl",
-    "dt",
-    "font",
-    "h1",
-    "h2",
-    "h3",
-    "h4",
-    "h5",
-    "h6",
-    "hr",
-    "i",
-    "img",
-    "li",
-    "ol",
-    "p",
-    "pre",
-    "s",
-    "span",
-    "sub",
-    "sup",
-    "u",
-    "ul",
-}
+MADE_NAMES = set(
+    "a address b blockquote br dd div dl dt font h1 h2 h3 h4 h5 h6 hr i img li ol p pre s span sub sup u ul".split()
+)
 MADE_ATTRIBUTES = {"href", "src", "style", "color", "face", "size"}
 BLANKS = "\t\n\r \u00a0"
 FLAGS = {"stylewithcss", "usecss", "defaultparagraphseparator"}
@@ -82,42 +55,45 @@ class Step:
     stat: str
 
     @property
-    def numbers(self):
+    def numbers(self) -> dict[str, int]:
         words = self.stat.split()
         return dict(zip(words[::2], map(int, words[1::2])))
 
     @property
-    def seen(self):
+    def seen(self) -> tuple[str, str, str]:
         return self.html, self.tree, self.points
 
 
 class Content(HTMLParser):
     """What a page has: its elements with their attributes, the characters of texts and comments, and what editing keeps, in order."""
 
-    def __init__(self, html):
+    def __init__(self, html: str) -> None:
         super().__init__(convert_charrefs=True)
-        self.names, self.attributes, self.chars, self.kept = set(), set(), set(), []
+        self.names: set[str] = set()
+        self.attributes: set[tuple[str, str | None]] = set()
+        self.chars: set[str] = set()
+        self.kept: list[str] = []
         self.feed(html.removesuffix("\n"))
         self.close()
 
-    def handle_starttag(self, tag, attrs):
+    def handle_starttag(self, tag: str, attrs: list[tuple[str, str | None]]) -> None:
         self.names.add(tag)
         self.attributes |= set(attrs)
         if tag in ("img", "hr"):
             self.kept.append(tag)
 
-    def handle_data(self, data):
+    def handle_data(self, data: str) -> None:
         self.chars |= set(data)
         self.kept += [char for char in data if char not in BLANKS]
 
-    def handle_comment(self, data):
+    def handle_comment(self, data: str) -> None:
         self.chars |= set(data)
 
 
 content = cache(Content)
 
 
-def read_session(path):
+def read_session(path: Path) -> Session | None:
     """The session of a file, or None where it has no page, or is none of `run`."""
     words = path.with_suffix(".args").read_text().splitlines()
     first, *lines = path.read_bytes().decode(errors="replace").split("\n")
@@ -133,19 +109,21 @@ def read_session(path):
     )
 
 
-def answer(program, words, text):
+def answer(program: str, words: list[str], text: str) -> str | None:
     """What the program answers to a session; None where it doesn't end well."""
     ran = subprocess.run([program, *words], input=text.encode(), capture_output=True)
     return ran.stdout.decode(errors="replace") if ran.returncode == 0 else None
 
 
-def replies(program, words, block, acts):
+def replies(program: str, words: list[str], block: str, acts: list[str]) -> list[str] | None:
     """The reply of each act."""
     text = answer(program, words, block + "".join(f"{act}\n{PART}\n" for act in acts))
     return None if text is None else text.split(PARTED)[:-1]
 
 
-def play(program, session, acts=None, words=None):
+def play(
+    program: str, session: Session, acts: list[str] | None = None, words: list[str] | None = None
+) -> list[Step] | None:
     """The steps of a session, the first with no act; None where it can't be played."""
     acts = session.acts if acts is None else acts
     told = replies(
@@ -156,7 +134,7 @@ def play(program, session, acts=None, words=None):
     return [Step("", "", *told[:4]), *(Step(act, *told[4 + 5 * i : 9 + 5 * i]) for i, act in enumerate(acts))]
 
 
-def commands(steps):
+def commands(steps: list[Step]) -> Iterator[tuple[Step, Step, str, str]]:
     """Each step that executed a command and answered true, with the one before it, its name in lower case and its value."""
     for before, step in zip(steps, steps[1:]):
         words = step.act.split(" ", 2)
@@ -164,12 +142,12 @@ def commands(steps):
             yield before, step, words[1].lower(), words[2] if len(words) > 2 else ""
 
 
-def is_caret(points):
+def is_caret(points: str) -> bool:
     lines = points.splitlines()
     return len(lines) > 1 and lines[0].removeprefix("anchor ") == lines[1].removeprefix("focus ")
 
 
-def unescaped(value):
+def unescaped(value: str) -> str:
     return re.sub(
         r"\\(n|t|\\|u\{([0-9a-fA-F]{1,6})\})",
         lambda found: {"n": "\n", "t": "\t", "\\": "\\"}.get(found[1]) or chr(int(found[2], 16)),
@@ -177,9 +155,10 @@ def unescaped(value):
     )
 
 
-def hosts(tree):
+def hosts(tree: str) -> list[str]:
     """The paths of the elements with `contenteditable` in a listing."""
-    path, found = [], []
+    path: list[int] = []
+    found = []
     for line in tree.splitlines():
         level = (len(line) - len(line.lstrip(" "))) // 2
         path = [*path[:level], path[level] + 1] if level < len(path) else [*path, 0]
@@ -188,7 +167,7 @@ def hosts(tree):
     return found
 
 
-def outside(html):
+def outside(html: str) -> tuple[str, str] | None:
     """What is printed before and after the children of the one editable element; None where there isn't just one."""
     tags = list(re.finditer(r"<!--.*?-->|<(/?)([a-z0-9-]+)([^>\"]|\"[^\"]*\")*>", html, re.S))
     starts = [tag for tag in tags if tag[2] and not tag[1] and re.search(r"\scontenteditable=\"", tag[0])]
@@ -203,9 +182,9 @@ def outside(html):
     return None
 
 
-def joined(tree):
+def joined(tree: str) -> list[str]:
     """A listing with texts side by side joined, and empty ones gone."""
-    lines = []
+    lines: list[str] = []
     for line in tree.splitlines():
         text = re.fullmatch(r"( *)\"(.*)\"", line)
         if text and not text[2]:
@@ -218,7 +197,7 @@ def joined(tree):
     return lines
 
 
-def reads_back(tree):
+def reads_back(tree: str) -> bool:
     """Whether no void element has a child, and the page is at most 200 levels deep."""
     lines = tree.splitlines()
     levels = [(len(line) - len(line.lstrip(" "))) // 2 for line in lines]
@@ -229,7 +208,7 @@ def reads_back(tree):
     return not bad and max(levels, default=0) < 200
 
 
-def made(program, session, steps):
+def made(program: str, session: Session, steps: list[Step]) -> Iterator[bool]:
     """What a command brings in: names and attributes of elements, and characters."""
     for before, step, name, value in commands(steps):
         old, new = content(before.html), content(step.html)
@@ -239,7 +218,7 @@ def made(program, session, steps):
         yield new.chars <= old.chars | typed | set(" \u00a0")
 
 
-def round_trip(program, session, steps):
+def round_trip(program: str, session: Session, steps: list[Step]) -> Iterator[bool]:
     """The page, and the page at the end, printed and read again: the same tree, with its texts joined."""
     for step in (steps[0], steps[-1]):
         if reads_back(step.tree):
@@ -247,7 +226,7 @@ def round_trip(program, session, steps):
             yield again is not None and again[0].splitlines() == joined(step.tree)
 
 
-def outside_stays(program, session, steps):
+def outside_stays(program: str, session: Session, steps: list[Step]) -> Iterator[bool]:
     """What is printed outside the children of the editable element stays; a void element has nothing printed after them."""
     for before, step, *_ in commands(steps):
         around = outside(before.html)
@@ -255,18 +234,18 @@ def outside_stays(program, session, steps):
             yield outside(step.html) == around
 
 
-def labels_last(program, session, steps):
+def labels_last(program: str, session: Session, steps: list[Step]) -> Iterator[bool]:
     """The next label never falls but by undo's act, and a label keeps its element's name in the log."""
     yield all(before.numbers["next"] <= step.numbers["next"] for before, step in zip(steps, steps[1:]))
     told = replies(program, session.words, session.block, [*session.acts, "log"])
-    names = {}
+    names: dict[str, str] = {}
     for line in told[-1].splitlines() if told else ():
         found = re.match(r"(make|tag) (\d+) <([a-z0-9-]+)", line)
         if found:
             yield names.setdefault(found[2], found[3]) == found[3]
 
 
-def undo_gives_back(program, session, steps):
+def undo_gives_back(program: str, session: Session, steps: list[Step]) -> Iterator[bool]:
     """After a command that made an entry of its own, undo prints what was printed before it; and all undone and redone is
     the tree that it was."""
     for place, (before, step) in enumerate(zip(steps, steps[1:]), 1):
@@ -278,7 +257,7 @@ def undo_gives_back(program, session, steps):
     yield turned is None or turned[-3].tree == turned[-1].tree
 
 
-def independent(program, session, steps):
+def independent(program: str, session: Session, steps: list[Step]) -> Iterator[bool]:
     """What commands make doesn't depend on marks, on the history, or on the cap where nothing was full."""
     trees = [step.tree for step in steps]
     marked = play(program, session, ["mark zzz .:0 .:0", *session.acts])
@@ -296,7 +275,7 @@ def independent(program, session, steps):
         yield short is not None and [step.tree for step in short] == trees
 
 
-def inserts_only(program, session, steps):
+def inserts_only(program: str, session: Session, steps: list[Step]) -> Iterator[bool]:
     """At a caret, the commands that insert lose nothing, keep the order, and put in what they say."""
     for before, step, name, value in commands(steps):
         if not is_caret(before.points):
@@ -311,7 +290,7 @@ def inserts_only(program, session, steps):
         yield any(old[:at] + put + old[at:] == new for at in range(len(old) + 1))
 
 
-def selection_stays(program, session, steps):
+def selection_stays(program: str, session: Session, steps: list[Step]) -> Iterator[bool]:
     """No command but those that set flags loses the selection, and both points stand at or below the editable element."""
     for before, step, name, _ in commands(steps):
         if before.points.startswith("none") or name in FLAGS:
@@ -323,7 +302,7 @@ def selection_stays(program, session, steps):
             yield all(f"{place}/".startswith(f"{found[0]}/") for place in places)
 
 
-def prefixes(program, session, steps):
+def prefixes(program: str, session: Session, steps: list[Step]) -> Iterator[bool]:
     """The transcript of fewer acts is a beginning of that of more."""
     whole = answer(program, session.words, session.block + "".join(f"{act}\n" for act in session.acts))
     for count in {0, len(session.acts) // 2, max(len(session.acts) - 1, 0)}:
@@ -331,7 +310,7 @@ def prefixes(program, session, steps):
         yield whole is None or part is None or whole.startswith(part)
 
 
-def views_change_nothing(program, session, steps):
+def views_change_nothing(program: str, session: Session, steps: list[Step]) -> Iterator[bool]:
     """The replies are the same where views are printed between the acts."""
     told = replies(program, session.words, session.block, session.acts)
     yield told == [step.reply for step in steps[1:]]
@@ -351,18 +330,20 @@ LAWS = (
 )
 
 
-def try_session(program, path):
+def try_session(program: str, path: Path) -> tuple[str, dict[str, Counter[bool]]] | None:
     """How often each law held, and which were broken."""
     session = read_session(path)
-    steps = session and play(program, session)
-    if not steps:
+    steps = play(program, session) if session else None
+    if not session or not steps:
         return None
     return session.name, {law.__name__: Counter(law(program, session, steps)) for law in LAWS}
 
 
-def main(program, *folders):
+def main(program: str, *folders: str) -> int:
     paths = sorted(path for folder in folders for path in Path(folder).glob("*.stdin"))
-    tried, broken, played = Counter(), defaultdict(list), 0
+    tried: Counter[str] = Counter()
+    broken: dict[str, list[str]] = defaultdict(list)
+    played = 0
     with ThreadPoolExecutor(cpu_count()) as pool:
         for found in pool.map(lambda path: try_session(program, path), paths):
             if not found:

@@ -24,6 +24,7 @@ import resource
 import subprocess
 import sys
 import tempfile
+from collections.abc import Iterable, Iterator
 from pathlib import Path
 
 LETTERS = "abcdefghijklmnopqrstuvwxyz"
@@ -33,26 +34,26 @@ FACTOR = 0x9E3779B97F4A7C15
 MOST = 1.5
 
 
-def joined(a, b):
+def joined(a: int, b: int) -> int:
     """The halves of a product of 128 bits, joined by exclusive or."""
     product = a * b
     return (product & MASK) ^ (product >> 64)
 
 
-def spread(state, number, width):
+def spread(state: int, number: int, width: int) -> int:
     """The state after a number of 1, 4 or 8 bytes."""
     copies = {1: 0x010101, 4: 0x100000001, 8: 1}[width]
     return joined(state ^ (number * copies & MASK), FACTOR ^ 2 * width)
 
 
-def taken_in(state, text, width):
+def taken_in(state: int, text: str, width: int) -> int:
     """The state after each character of a text."""
     for character in text:
         state = spread(state, ord(character), width)
     return state
 
 
-def groups_for(count):
+def groups_for(count: int) -> int:
     """The groups of a table that has grown to so many names: nine to a group."""
     groups = 1
     while 9 * groups < count:
@@ -60,7 +61,7 @@ def groups_for(count):
     return groups
 
 
-def drawn(rng, count, length):
+def drawn(rng: random.Random, count: int, length: int) -> list[str]:
     """Names that are drawn at random, each once."""
     names = dict.fromkeys(word(rng, length) for _ in range(count))
     while len(names) < count:
@@ -68,16 +69,16 @@ def drawn(rng, count, length):
     return list(names)
 
 
-def word(rng, length):
+def word(rng: random.Random, length: int) -> str:
     return "".join(rng.choices(LETTERS, k=length))
 
 
-def colliding(rng, count, length, width):
+def colliding(rng: random.Random, count: int, length: int, width: int) -> list[str]:
     """Names whose search begins in the first sixteenth of the table: their length and then each character are taken into the hash, and
     its lowest bits say where."""
     groups = groups_for(count)
     begun = spread(START, length, 8)
-    names = {}
+    names: dict[str, None] = {}
     while len(names) < count:
         head = word(rng, length - 2)
         state = taken_in(begun, head, width)
@@ -90,7 +91,7 @@ def colliding(rng, count, length, width):
     return list(names)[:count]
 
 
-def counted(count, length, fill="a"):
+def counted(count: int, length: int, fill: str = "a") -> list[str]:
     """Names in their order: letters for the digits of a number, after as many of one letter as are needed."""
     names = []
     for number in range(count):
@@ -102,7 +103,7 @@ def counted(count, length, fill="a"):
     return names
 
 
-def forms(rng, size, extra, width):
+def forms(rng: random.Random, size: int, extra: int, width: int) -> Iterator[tuple[str, int, list[str], int]]:
     """Each form with its names, after the length of its names. `extra` is what stands between two names."""
     short, long = 8, 200
     count, few = size // (short + extra), size // (long + extra)
@@ -118,12 +119,12 @@ def forms(rng, size, extra, width):
     yield "prefix, long", long, alike, few
 
 
-def attributes(names):
+def attributes(names: Iterable[str]) -> str:
     """A page of one tag with these attributes, as the input of `check`."""
     return f'<div contenteditable="true"><p {" ".join(names)}>foobar</p></div>'
 
 
-def style(names):
+def style(names: Iterable[str]) -> str:
     """A session that takes bold out of a style with these declarations."""
     declared = ";".join(name + ":1" for name in names)
     page = f'<div contenteditable="true"><p><span style="{declared};font-weight:bold">foobar</span></p></div>'
@@ -131,13 +132,13 @@ def style(names):
     return "\n".join(["page <<END", page, "END", *acts, ""])
 
 
-def marks(names):
+def marks(names: Iterable[str]) -> str:
     """A session that sets a mark of each name and takes it out again, so that one is there at a time."""
     acts = [f"mark {name} 0:0 0:0\nunmark {name}" for name in names]
     return "\n".join(["page <<END", '<div contenteditable="true"><p>foobar</p></div>', "END", *acts, ""])
 
 
-def measured(command, text, seconds, work):
+def measured(command: list[str | Path], text: str, seconds: int, work: Path) -> float | None:
     """The seconds of processor that a command takes with this input, or None where it takes longer than is given."""
     (work / "input").write_text(text)
     before = resource.getrusage(resource.RUSAGE_CHILDREN)
@@ -150,11 +151,11 @@ def measured(command, text, seconds, work):
     return after.ru_utime - before.ru_utime
 
 
-def cost(program, act, text, given, work):
+def cost(program: Path, act: str, text: str, given: argparse.Namespace, work: Path) -> float | None:
     """What a page costs, or None where it takes longer than is given."""
     if given.clock:
         return measured([program, act], text, given.seconds, work)
-    callgrind = ["valgrind", "--tool=callgrind", "--callgrind-out-file=/dev/null", program, act]
+    callgrind: list[str | Path] = ["valgrind", "--tool=callgrind", "--callgrind-out-file=/dev/null", program, act]
     if measured(callgrind, text, given.seconds, work) is None:
         return None
     for line in (work / "told").read_text(errors="replace").splitlines():
@@ -163,13 +164,13 @@ def cost(program, act, text, given, work):
     sys.exit(f"valgrind counted nothing of {program} {act}")
 
 
-def shown(taken):
-    return (
-        "too long" if taken is None else f"{taken:.2f} seconds" if isinstance(taken, float) else f"{taken} instructions"
-    )
+def shown(taken: float | None) -> str:
+    if taken is None:
+        return "too long"
+    return f"{taken:.2f} seconds" if isinstance(taken, float) else f"{taken} instructions"
 
 
-def main():
+def main() -> int:
     parser = argparse.ArgumentParser(description=__doc__, formatter_class=argparse.RawDescriptionHelpFormatter)
     parser.add_argument("--million", type=float, nargs="+", default=[1, 4], help="the millions of bytes of a page")
     parser.add_argument("--seconds", type=int, default=600, help="the most that one page may take")
@@ -199,10 +200,11 @@ def main():
                             flush=True,
                         )
                     taken = cost(given.program, act, written(names), given, Path(folder))
-                    if taken is None or plain[length] is None:
+                    usual = plain[length]
+                    if taken is None or usual is None:
                         told, bad = f"more than {given.seconds} seconds", True
                     else:
-                        told, bad = f"{taken / plain[length]:.2f} times as many", taken > MOST * plain[length]
+                        told, bad = f"{taken / usual:.2f} times as many", taken > MOST * usual
                     missed |= bad
                     print(f"  {form:14} {told}, at most {MOST}{'  MISSED' if bad else ''}", flush=True)
     return 1 if missed else 0

@@ -19,27 +19,27 @@ LINE = re.compile(r"(proves|no-ensures|untested)\s+(src/\S+):(\d+) (.*)")
 REASON = re.compile(r"  \((?:and in \d+ more impls|[^(){}]*)\)$")
 
 
-def read_rows(path):
+def read_rows(path: Path) -> list[list[str]]:
     """The rows of a table of cells that are separated by tabs."""
     lines = path.read_text(encoding="utf-8").splitlines()
     return [line.split("\t") for line in lines if line and not line.startswith("#")]
 
 
-def read_known():
+def read_known() -> dict[str, set[tuple[str, str]]]:
     """The survivors that have a reason, for each crate that was tried: the calls with the bodies that they may have."""
-    known = {row[0]: set() for row in read_rows(TRIED)}
+    known: dict[str, set[tuple[str, str]]] = {row[0]: set() for row in read_rows(TRIED)}
     for crate, call, body, _ in read_rows(SURVIVORS):
         known.setdefault(crate, set()).add((call, body))
     return known
 
 
-def is_law(file, line):
+def is_law(file: Path, line: int) -> bool:
     """Whether the function at this line has an empty body."""
     rest = map(str.strip, file.read_text(encoding="utf-8").splitlines()[line:])
     return next((it for it in rest if it.startswith("{")), "") == "{}"
 
 
-def survivors(crate, minutes):
+def survivors(crate: str, minutes: int) -> set[tuple[str, str]]:
     """The wrong bodies that the crate's contracts let through: the call, and the body or what else is said of it."""
     words = ["rt", "plant", "--max", "100000", "--minutes", str(minutes)]
     ran = subprocess.run(words, cwd=ROOT / "crates" / crate, capture_output=True, text=True, check=False)
@@ -54,7 +54,7 @@ def survivors(crate, minutes):
     return found
 
 
-def main():
+def main() -> int:
     words = argparse.ArgumentParser(description=__doc__, formatter_class=argparse.RawDescriptionHelpFormatter)
     words.add_argument("--minutes", type=int, default=120, help="at most this many minutes for each crate")
     words.add_argument("crates", nargs="*", metavar="CRATE")

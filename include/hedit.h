@@ -275,7 +275,7 @@ enum hedit_node_kind {
     HEDIT_ELEMENT = 1,
     HEDIT_TEXT = 3,
     HEDIT_COMMENT = 8,
-    HEDIT_DOCUMENT = 9
+    HEDIT_DOCUMENT = 9,
 };
 
 /* What a node is. */

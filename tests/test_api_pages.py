@@ -1,16 +1,10 @@
 """Tests of bin/api-pages on small declarations: python3 -m unittest discover tests"""
 import ast
-import importlib.machinery
-import importlib.util
 import unittest
-from pathlib import Path
 
-PATH = Path(__file__).resolve().parent.parent / "bin" / "api-pages"
-LOADER = importlib.machinery.SourceFileLoader("api_pages", str(PATH))
-SPEC = importlib.util.spec_from_loader("api_pages", LOADER)
-assert SPEC
-api_pages = importlib.util.module_from_spec(SPEC)
-LOADER.exec_module(api_pages)
+from scripts import load_script
+
+api_pages = load_script("bin/api-pages")
 
 CPP = """\
     /* Takes a step back. False where there is

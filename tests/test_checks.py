@@ -1,8 +1,6 @@
 """Tests of ./check, .ci/examples, .ci/manual and bin/try-library on small repositories:
 python3 -m unittest discover tests"""
 import contextlib
-import importlib.machinery
-import importlib.util
 import io
 import shutil
 import subprocess
@@ -10,19 +8,11 @@ import sys
 import tempfile
 import unittest
 from pathlib import Path
-from types import ModuleType
+
+from scripts import load_script
 
 ROOT = Path(__file__).resolve().parent.parent
 SESSION = "```session\npage\n```\n\n```answer\npage\n```\n"
-
-
-def loaded(path: str, room: Path) -> ModuleType:
-    """A script as a module, with its repository in a folder."""
-    loader = importlib.machinery.SourceFileLoader(Path(path).name.replace("-", "_"), str(ROOT / path))
-    module = importlib.util.module_from_spec(importlib.util.spec_from_loader(loader.name, loader))
-    loader.exec_module(module)
-    module.ROOT = room
-    return module
 
 
 class Small(unittest.TestCase):
@@ -92,7 +82,7 @@ class Examples(Small):
 class Manual(Small):
     def setUp(self) -> None:
         super().setUp()
-        self.manual = loaded(".ci/manual", self.room)
+        self.manual = load_script(".ci/manual", self.room)
         sections = self.manual.SECTIONS
         page = "".join(f"\n.SH {section}\n.TP\n.B first\nIs the first.\n" for section in sections)
         heads = ("Status" if head.endswith("tatus") else head for head in sections.values())
@@ -127,7 +117,7 @@ class Manual(Small):
 class Check(Small):
     def setUp(self) -> None:
         super().setUp()
-        self.check = loaded("check", self.room)
+        self.check = load_script("check", self.room)
 
     def main(self, *words: str) -> tuple[int, str]:
         said, sys.argv = io.StringIO(), ["check", *words]
@@ -177,7 +167,7 @@ class Check(Small):
 class Builds(Small):
     def setUp(self) -> None:
         super().setUp()
-        self.build = loaded("bin/try-library", self.room)
+        self.build = load_script("bin/try-library", self.room)
 
     def test_arguments_of_all_kinds_are_made(self) -> None:
         structs = {"Facts": "\n    pub kind: u32,\n    pub ends: Pair,", "Pair": "\n    pub first: usize,"}

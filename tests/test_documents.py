@@ -1,11 +1,9 @@
 """Tests of .ci/claims and .ci/documents on small repositories: python3 -m unittest discover tests"""
-import importlib.machinery
-import importlib.util
 import tempfile
 import unittest
 from pathlib import Path
 
-CI = Path(__file__).resolve().parent.parent / ".ci"
+from scripts import load_script
 
 SOURCE = """\
 /// Adds one.
@@ -44,17 +42,8 @@ idle n = n
 """
 
 
-def load(name, root):
-    """A checker whose repository is the folder `root`."""
-    loader = importlib.machinery.SourceFileLoader(f"ci_{name}", str(CI / name))
-    module = importlib.util.module_from_spec(importlib.util.spec_from_loader(loader.name, loader))
-    loader.exec_module(module)
-    module.ROOT = root
-    return module
-
-
 class SmallRepository(unittest.TestCase):
-    def setUp(self):
+    def setUp(self) -> None:
         room = tempfile.TemporaryDirectory()
         self.addCleanup(room.cleanup)
         self.root = Path(room.name)
@@ -66,7 +55,7 @@ class SmallRepository(unittest.TestCase):
         self.write("crates/low/specs/Counting.antt", DEFINITIONS)
         self.write("crates/low/must-fail/counts_two.edit", "file: src/counting.rt\nold: 1\nnew: 2\n")
 
-    def write(self, name, text):
+    def write(self, name: str, text: str) -> Path:
         path = self.root / name
         path.parent.mkdir(parents=True, exist_ok=True)
         path.write_text(text)
@@ -74,9 +63,9 @@ class SmallRepository(unittest.TestCase):
 
 
 class Claims(SmallRepository):
-    def setUp(self):
+    def setUp(self) -> None:
         super().setUp()
-        self.claims = load("claims", self.root)
+        self.claims = load_script(".ci/claims", self.root)
         self.claims.CLAIMS = self.root / "docs" / "CLAIMS.md"
         self.claims.MUTANTS = self.write(
             "bench/mutants.tsv", "# mutant\tcalls\nlow/counts_two\tlow add more; low Counter::step gives\n"
@@ -86,14 +75,14 @@ class Claims(SmallRepository):
         )
         self.crates = self.claims.read_crates()
 
-    def test_reads_calls_with_their_clauses_and_comments(self):
+    def test_reads_calls_with_their_clauses_and_comments(self) -> None:
         calls = {call.name: call for call in self.crates["low"].public}
         self.assertEqual(["Counter::quiet", "Counter::step", "add"], sorted(calls))
         self.assertEqual(["more", "ensures"], calls["add"].clauses)
         self.assertEqual("Counts up, by one.", calls["Counter::step"].comment)
         self.assertEqual("", calls["Counter::quiet"].comment)
 
-    def test_finds_what_a_row_names_and_nobody_has(self):
+    def test_finds_what_a_row_names_and_nobody_has(self) -> None:
         self.write(
             "docs/CLAIMS.md", "## `low`\n\n|Call|Clauses|\n|---|---|\n|`add`|`more`, `less`|\n|`sub`|`ensures`|\n"
         )
@@ -109,23 +98,23 @@ class Claims(SmallRepository):
         )
         self.assertEqual(2, rows)
 
-    def test_finds_theorems_that_are_missing(self):
+    def test_finds_theorems_that_are_missing(self) -> None:
         self.write("docs/CLAIMS.md", "## Theorems\n\n### `low`\n\nNumbers grow (`numbers_grow`, `add`).\n")
         self.assertEqual(
             ["docs/CLAIMS.md: `low`: there is no theorem numbers_grow"],
             list(self.claims.faults_of_theorems(self.crates)),
         )
 
-    def test_takes_mutants_that_are_listed(self):
+    def test_takes_mutants_that_are_listed(self) -> None:
         self.assertEqual(([], 1), self.claims.faults_of_mutants(self.crates))
 
-    def test_takes_mutants_that_name_their_call(self):
+    def test_takes_mutants_that_name_their_call(self) -> None:
         self.write("bench/bugs/low/forgets.edit", "call: add\nfile: src/counting.rt\n")
         self.assertEqual(([], 2), self.claims.faults_of_mutants(self.crates))
         self.write("bench/bugs/low/forgets.edit", "call: sub\n")
         self.assertEqual(["bench/mutants.tsv: low has no call sub"], self.claims.faults_of_mutants(self.crates)[0])
 
-    def test_finds_mutants_that_are_missing_or_not_listed(self):
+    def test_finds_mutants_that_are_missing_or_not_listed(self) -> None:
         self.write("bench/bugs/low/forgets.edit", "")
         self.claims.MUTANTS.write_text("low/counts_three\tlow add fewer; high add more\n")
         faults, mutants = self.claims.faults_of_mutants(self.crates)
@@ -141,7 +130,7 @@ class Claims(SmallRepository):
             [fault.removeprefix("bench/mutants.tsv: ") for fault in faults],
         )
 
-    def test_writes_the_index(self):
+    def test_writes_the_index(self) -> None:
         self.claims.write_index(self.crates, self.root / "out.md")
         text = (self.root / "out.md").read_text()
         self.assertIn("|`src/lib.rt`|Counting.|", text)
@@ -151,28 +140,28 @@ class Claims(SmallRepository):
 
 
 class Documents(SmallRepository):
-    def setUp(self):
+    def setUp(self) -> None:
         super().setUp()
-        self.documents = load("documents", self.root)
+        self.documents = load_script(".ci/documents", self.root)
         self.documents.CRATES = {"low"}
 
-    def faults(self, page):
+    def faults(self, page: Path) -> list[str | None]:
         return [fault for _, fault in self.documents.found_in(page) if fault]
 
-    def test_follows_links_and_anchors(self):
+    def test_follows_links_and_anchors(self) -> None:
         page = self.write(
             "docs/A.md", "# A page\n\n## Two words\n\n[a](#two-words) [b](#three) [c](B.md) [d](https://example.org)\n"
         )
         self.assertEqual(["#three has no such heading", "B.md leads nowhere"], self.faults(page))
 
-    def test_finds_paths_and_the_names_after_them(self):
+    def test_finds_paths_and_the_names_after_them(self) -> None:
         page = self.write(
             "docs/A.md",
             "`low/specs/Counting: count_up, count_down` `low/src/none` `crates/CRATE/src` `docs/A.md` `low/must-fail/counts_two`\n",
         )
         self.assertEqual(["low/specs/Counting has no count_down", "there is no low/src/none"], self.faults(page))
 
-    def test_finds_hard_phrases_but_not_in_code(self):
+    def test_finds_hard_phrases_but_not_in_code(self) -> None:
         page = self.write(
             "docs/A.md",
             "Nodes stand here.\nIt is no list, `is no list`. Of these. No longer is no longer hard.\n\n```\nstands\n```\n",
@@ -182,7 +171,7 @@ class Documents(SmallRepository):
             [(line, fault.split('"')[1]) for line, fault in self.documents.faults_of_style(page)],
         )
 
-    def test_counts_words(self):
+    def test_counts_words(self) -> None:
         page = self.write("docs/A.md", "one two three\n")
         other = self.write("docs/B.md", "one\n")
         self.documents.BUDGETS = {"docs/A.md": 2}
@@ -191,17 +180,17 @@ class Documents(SmallRepository):
             list(self.documents.faults_of_words([page, other], False)),
         )
 
-    def test_finds_long_decisions(self):
+    def test_finds_long_decisions(self) -> None:
         page = self.write("docs/DECISIONS.md", f"# Decisions\n\n### Short\n\nYes.\n\n### Long\n\n{'word ' * 81}\n")
         self.assertEqual(
             ['the decision "Long" has 81 words, and may have 80'], list(self.documents.faults_of_decisions(page))
         )
 
-    def test_compares_a_crate_with_its_readme(self):
+    def test_compares_a_crate_with_its_readme(self) -> None:
         page = self.write("crates/low/README.md", "# low\n\nCounts.\n\nDefinitions, in reading order: `Counted`.\n")
         self.assertEqual(["no definitions Counting", "there is no Counted"], list(self.documents.faults_of_crate(page)))
 
-    def test_compares_layers(self):
+    def test_compares_layers(self) -> None:
         self.write("crates.txt", "# Low\nlow: std\nmid: low\n")
         page = self.write("docs/ARCHITECTURE.md", "### Low\n\n|Crate|\n|---|\n|`low`|\n")
         self.assertEqual(
@@ -209,7 +198,7 @@ class Documents(SmallRepository):
             list(self.documents.faults_of_layers(page)),
         )
 
-    def test_ties_steps_to_definitions_and_functions(self):
+    def test_ties_steps_to_definitions_and_functions(self) -> None:
         self.write(
             ".ci/steps",
             "counting\t1\tlow/specs/Counting: count_up\tlow/src/counting: step\n"
@@ -230,7 +219,7 @@ class Documents(SmallRepository):
             list(self.documents.faults_of_algorithms(page)),
         )
 
-    def test_finds_quotes_that_no_source_has(self):
+    def test_finds_quotes_that_no_source_has(self) -> None:
         page = self.write("docs/PROOFS.md", "# P\n\n```\ncount_up n = n + 1\ncount_up n = n\n```\n")
         self.assertEqual([(3, "no source has the line count_up n = n")], list(self.documents.faults_of_quotes(page)))
 

@@ -240,15 +240,7 @@ static void selected(void) {
 }
 
 /* The texts that a node has, and the name that a mark has at a place. */
-enum text {
-    NAME,
-    VALUE,
-    HTML,
-    PLAIN,
-    ATTRIBUTE_NAME,
-    ATTRIBUTE_VALUE,
-    MARK
-};
+enum text { NAME, VALUE, HTML, PLAIN, ATTRIBUTE_NAME, ATTRIBUTE_VALUE, MARK };
 
 static uint32_t text_of(hedit_editor *editor, enum text text, uint32_t label, size_t place,
                         uint8_t *buffer, size_t capacity, size_t *length) {

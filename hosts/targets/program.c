@@ -13,11 +13,7 @@
 #include <io.h>
 #endif
 
-enum {
-    MOST_INPUT = 8388608,
-    READ_FAILED = 3,
-    WRITE_FAILED = 4
-};
+enum { MOST_INPUT = 8388608, READ_FAILED = 3, WRITE_FAILED = 4 };
 
 typedef struct text {
     uint8_t *bytes;

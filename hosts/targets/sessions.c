@@ -11,17 +11,9 @@
 #endif
 
 /* The words, the input, the reply, and what the library replies. */
-enum {
-    WORDS,
-    INPUT,
-    REPLY,
-    GOT,
-    PARTS
-};
+enum { WORDS, INPUT, REPLY, GOT, PARTS };
 
-enum {
-    ROOM = 64 << 20
-};
+enum { ROOM = 64 << 20 };
 
 static uint8_t *part[PARTS];
 static size_t length[PARTS];
