@@ -11,7 +11,7 @@ import { argv, exit } from "node:process";
 import { readSession, sessionFiles } from "../../tests/session_form.mjs";
 import { BYTES } from "./test/engine.mjs";
 import { Tree } from "./follow.mjs";
-import { HeditError, load } from "./hedit.js";
+import { HeditError, load } from "./src/hedit.js";
 
 const engine = await load(BYTES);
 

@@ -1,6 +1,6 @@
 import assert from "node:assert/strict";
 import { BYTES } from "./engine.mjs";
-import * as hedit from "../hedit.js";
+import * as hedit from "../src/hedit.js";
 
 /** What the tests of the calls share: the engine, a page, and a name in it. */
 export const engine = await hedit.load(BYTES);

@@ -2,8 +2,8 @@
 import assert from "node:assert/strict";
 import { readFile } from "node:fs/promises";
 import { describe } from "node:test";
-import { isShownElement } from "../shown.js";
-import { CLEAN_BLOCKS, CLEAN_INLINES } from "../clean_tree.js";
+import { isShownElement } from "../src/shown.js";
+import { CLEAN_BLOCKS, CLEAN_INLINES } from "../src/clean_tree.js";
 import { BROWSERS, it } from "./browsers.mjs";
 import { CleaningPage } from "./clean_page.mjs";
 
@@ -276,7 +276,7 @@ describe("the package", () => {
   it("has cleaning by itself, with its types", async () => {
     const file = new URL("../package.json", import.meta.url);
     const { exports } = JSON.parse(await readFile(file, "utf8"));
-    assert.deepEqual(exports["./clean.js"], { types: "./clean.d.ts", default: "./clean.js" });
+    assert.deepEqual(exports["./clean.js"], { types: "./src/clean.d.ts", default: "./src/clean.js" });
   });
 });
 

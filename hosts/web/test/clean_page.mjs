@@ -1,7 +1,7 @@
 /** Opens a page with `cleanPage` in a browser, and checks each result. */
 import assert from "node:assert/strict";
 import { after, before } from "node:test";
-import { load } from "../hedit.js";
+import { load } from "../src/hedit.js";
 import { BYTES } from "./engine.mjs";
 import { serve } from "./server.mjs";
 

@@ -5,7 +5,7 @@
 import assert from "node:assert/strict";
 import { readFile } from "node:fs/promises";
 import { afterEach, beforeEach, describe, it } from "node:test";
-import * as hedit from "../hedit.js";
+import * as hedit from "../src/hedit.js";
 import { BYTES } from "./engine.mjs";
 
 const MAIL = '<div contenteditable="true"><h1>Plan</h1><p>Call Ann &amp; Bob.</p></div>';

@@ -3,7 +3,7 @@ import { readFile } from "node:fs/promises";
 import { describe, it } from "node:test";
 import { NAME, PAGE, at, engine, refused } from "./calls.mjs";
 import { BYTES, collect, withMorePages } from "./engine.mjs";
-import * as hedit from "../hedit.js";
+import * as hedit from "../src/hedit.js";
 
 const { NodeKind, PageKind, Question, Status, View, load, toCharacters, toUnits } = hedit;
 
@@ -43,7 +43,7 @@ describe("the header", async () => {
 });
 
 describe("hedit.d.ts", async () => {
-  const types = await readFile(new URL("../hedit.d.ts", import.meta.url), "utf8");
+  const types = await readFile(new URL("../src/hedit.d.ts", import.meta.url), "utf8");
 
   it("has what is exported", () => {
     const names = [...types.matchAll(/^export declare (?:const|class|function) (\w+)/gm)];

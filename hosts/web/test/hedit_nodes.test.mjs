@@ -1,8 +1,8 @@
 import assert from "node:assert/strict";
 import { describe, it } from "node:test";
 import { NAME, PAGE, at, engine, refused } from "./calls.mjs";
-import { readChanges } from "../changes.js";
-import { NodeKind, Status, toCharacters } from "../hedit.js";
+import { readChanges } from "../src/changes.js";
+import { NodeKind, Status, toCharacters } from "../src/hedit.js";
 
 function* partsOf(editor, label) {
   const isBreak = editor.nodeName(label) === "br";

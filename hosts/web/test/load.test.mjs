@@ -5,7 +5,7 @@ import { createServer } from "node:http";
 import { afterEach, describe, it } from "node:test";
 import { PAGE } from "./calls.mjs";
 import { BYTES } from "./engine.mjs";
-import { EngineNotLoaded, EngineUnsupported, HeditError, load, missingFeatures } from "../hedit.js";
+import { EngineNotLoaded, EngineUnsupported, HeditError, load, missingFeatures } from "../src/hedit.js";
 
 /** The address of a server that answers so with some bytes, until the test ends. */
 async function serve(t, bytes, status, headers) {

@@ -2,13 +2,13 @@
 import assert from "node:assert/strict";
 import { readFile } from "node:fs/promises";
 import { describe } from "node:test";
-import { HABITS, Region } from "../region.js";
+import { HABITS, Region } from "../src/region.js";
 import { BROWSERS, it } from "./browsers.mjs";
 import { RegionPage } from "./region_page.mjs";
 import { serve } from "./server.mjs";
 
 describe("region.d.ts", async () => {
-  const types = await readFile(new URL("../region.d.ts", import.meta.url), "utf8");
+  const types = await readFile(new URL("../src/region.d.ts", import.meta.url), "utf8");
 
   it("has the calls of a region, and its habits", () => {
     const [calls] = types.split("class Region ")[1].split("\n  addEventListener");

@@ -23,7 +23,7 @@ function fileOf(address, page) {
   if (address === "/hedit.wasm") {
     return ["../dist/hedit.wasm", "application/wasm"];
   }
-  return /^\/\w+\.js$/.test(address) ? [`..${address}`, "text/javascript"] : [];
+  return /^\/\w+\.js$/.test(address) ? [`../src${address}`, "text/javascript"] : [];
 }
 
 /** @param {string | undefined} name */

@@ -1,7 +1,7 @@
 /** The tables of what a page shows of HTML from elsewhere. */
 import assert from "node:assert/strict";
 import { describe, it } from "node:test";
-import * as shown from "../shown.js";
+import * as shown from "../src/shown.js";
 
 describe("what is shown", () => {
   it("is an element of the tables", () => {

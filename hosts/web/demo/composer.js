@@ -2,8 +2,8 @@
  * A mail composer over the engine: index.html has its controls, region.js is the editor behind the
  * message, and this file joins them.
  */
-import { HeditError, NodeKind, load } from "./hedit.js";
-import { Region } from "./region.js";
+import { HeditError, NodeKind, load } from "../src/hedit.js";
+import { Region } from "../src/region.js";
 import { dropDraft, fileName, keepDraft, keptDraft, messageOf } from "./composer_draft.js";
 import { addressOf, coloured, countWords, counted, hexOf, withoutLocks } from "./composer_text.js";
 import { startTheme } from "./composer_theme.js";
@@ -153,9 +153,9 @@ function fillPalette(menu, colours) {
 
 /**
  * The first or the last point of a message that isn't in a locked part.
- * @param {import("./hedit.js").Editor} editor
+ * @param {import("../src/hedit.js").Editor} editor
  * @param {boolean} isLast
- * @returns {import("./hedit.js").Point}
+ * @returns {import("../src/hedit.js").Point}
  */
 function edge(editor, isLast) {
   const isOpen = (/** @type {number} */ label) =>
@@ -498,7 +498,7 @@ class Composer {
   /** The end of the selection that moves. There is one wherever a command is enabled. */
   #caret() {
     const selection = this.#region.editor.selection();
-    return /** @type {import("./hedit.js").Selection} */ (selection).focus;
+    return /** @type {import("../src/hedit.js").Selection} */ (selection).focus;
   }
 
   #isCaret() {
