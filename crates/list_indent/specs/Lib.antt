@@ -4,18 +4,3 @@ pub mod Outdenting
 pub mod Series
 pub mod Commands
 pub mod Gaps
-pub use Rattle.inline_value.specs.BlockExtend
-pub use Rattle.inline_value.specs.CommandValue
-pub use Rattle.inline_value.specs.CssValue
-pub use Rattle.inline_value.specs.DocumentEdits
-pub use Rattle.inline_value.specs.EditActions
-pub use Rattle.inline_value.specs.EditDoc
-pub use Rattle.inline_value.specs.EditQuery
-pub use Rattle.inline_value.specs.ForestChanges
-pub use Rattle.inline_value.specs as InlineValue
-pub use Rattle.inline_value.specs.NodePaths
-pub use Rattle.inline_value.specs.NodeStyles
-pub use Rattle.inline_value.specs.NodeTests
-pub use Rattle.inline_value.specs.StyleTable
-pub use Rattle.inline_value.specs.UndoLog
-pub use Rattle.inline_value.specs.WrapSplit

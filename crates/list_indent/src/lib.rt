@@ -17,11 +17,6 @@ mod sublists;
 pub use commands::{indent, normalize_each, normalize_range, outdent, split_items};
 pub use gathering::{has_editable_below, push_items};
 pub use indenting::{fix, indent_list};
-pub use inline_value as inline;
-pub use inline_value::doc::{Doc, EditFault, NodeList, NodeRef};
-pub use inline_value::{
-    actions, css, doc, document, extend, node_place, properties, query, questions, values, wrap,
-};
 pub use lists::{is_in_list, is_item, is_list};
 pub use outdenting::outdent_node;
 pub use sublists::normalize_sublists;
