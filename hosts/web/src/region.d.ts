@@ -59,6 +59,22 @@ export interface ViewOptions {
   ) => boolean | string | null | undefined;
 }
 
+/**
+ * What a key does: the command of a name, or what a function does. A function that returns false leaves
+ * the key to the browser. Null turns the key off.
+ */
+export type KeyAction = string | null | ((region: Region) => boolean);
+
+/**
+ * What keys do, by their names, such as `Mod+Shift+7`: modifiers in any order, and last the character
+ * of the key or its name in KeyboardEvent. The modifiers are Mod (Command on Apple's machines, Control
+ * on others), Control, Alt, Shift and Meta.
+ */
+export type Keymap = Readonly<Record<string, KeyAction>>;
+
+/** The keys that a region has by itself: undo, redo, bold, italic and underline. */
+export declare const KEYMAP: Readonly<Record<string, string>>;
+
 export interface Choices extends Partial<Habits>, Limits {
   /** What the engine opens: by default the element's own markup. */
   readonly html?: string;
@@ -76,6 +92,8 @@ export interface Choices extends Partial<Habits>, Limits {
   readonly view?: ViewOptions;
   /** Whether nothing can be edited: by default it can. */
   readonly readOnly?: boolean;
+  /** What keys do beside those of `KEYMAP`, or in their place. */
+  readonly keymap?: Keymap;
   /** Gives another engine where this one has stopped. */
   readonly reload?: () => Promise<Engine>;
   /** After each event the region checks itself, and throws what differs. */

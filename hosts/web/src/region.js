@@ -37,16 +37,19 @@
  */
 import { HABITS } from "./region_commands.js";
 import { Controller } from "./region_controller.js";
+import { KEYMAP } from "./region_keymap.js";
 import { regionOf } from "./region_owner.js";
 import { missing } from "./region_support.js";
 
-export { HABITS };
+export { HABITS, KEYMAP };
 
 /** @typedef {import("./clean.js").CleanOptions} CleanOptions */
 /** @typedef {import("./hedit.js").Engine} Engine */
 /** @typedef {import("./hedit.js").Limits} Limits */
 /** @typedef {import("./hedit.js").Point} Point */
 /** @typedef {import("./region_commands.js").Habits} Habits */
+/** @typedef {import("./region_keymap.js").KeyAction} KeyAction */
+/** @typedef {import("./region_keymap.js").Keymap} Keymap */
 /** @typedef {import("./region_shown.js").ViewOptions} ViewOptions */
 
 /**
@@ -60,6 +63,7 @@ export { HABITS };
  *   not for what a command or a habit does inside itself;
  * - `view`: what is shown of the page;
  * - `readOnly`: whether nothing can be edited;
+ * - `keymap`: what keys do beside those of `KEYMAP`, or in their place;
  * - `reload`: gives another engine where this one has stopped;
  * - `debug`: after each event the region checks itself, and throws what differs.
  * @typedef {Partial<Habits> & Limits & {
@@ -69,6 +73,7 @@ export { HABITS };
  *   denied?: Iterable<string>,
  *   view?: ViewOptions,
  *   readOnly?: boolean,
+ *   keymap?: Keymap,
  *   reload?: () => Promise<Engine>,
  *   debug?: boolean,
  * }} Choices
