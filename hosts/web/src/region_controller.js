@@ -3,6 +3,7 @@
  * tells of, does what the host asks for, and says what came of it.
  */
 import { BadArgument, EditorClosed, EngineStopped, HeditError } from "./hedit.js";
+import { namesOf } from "./region_command_table.js";
 import { isOfField } from "./region_input.js";
 import { Keys } from "./region_keymap.js";
 import { Lock } from "./region_lock.js";
@@ -217,20 +218,8 @@ export class Controller {
    * @param {string} value
    */
   exec(command, value = "") {
-    const name = command.toLowerCase();
-    if (this.isDenied(name)) {
-      return false;
-    }
-    switch (name) {
-      case "undo":
-        return this.#turn(() => this.#session.undo());
-      case "redo":
-        return this.#turn(() => this.#session.redo());
-      case "forwarddelete":
-        return this.act(() => this.#user.deleteForward());
-      default:
-        return this.act(() => this.#session.commands.run(name, value));
-    }
+    const isAllowed = !this.isDenied(...namesOf(command));
+    return isAllowed && this.act(() => this.#session.run(command, value));
   }
 
   /**
@@ -256,9 +245,8 @@ export class Controller {
 
   /** @param {string} command */
   enabled(command) {
-    const name = command.toLowerCase();
-    const isOpen = this.isEditable && !this.isDenied(name);
-    return isOpen && this.ask(() => this.#session.isEnabled(name), false);
+    const isOpen = this.isEditable && !this.isDenied(...namesOf(command));
+    return isOpen && this.ask(() => this.#session.isEnabled(command), false);
   }
 
   /** @param {{ composing?: "with" | "without" }} options */
@@ -529,20 +517,6 @@ export class Controller {
       this.#region.dispatchEvent(new Event("selectionchange"));
     }
     this.#region.dispatchEvent(new Event("statechange"));
-  }
-
-  /**
-   * Takes a step back or forth, and selects what was selected there.
-   * @param {() => Selection | null | undefined} take
-   */
-  #turn(take) {
-    return this.act(() => {
-      const selection = take();
-      if (selection) {
-        this.#session.commands.selectAgain(selection);
-      }
-      return selection !== undefined;
-    });
   }
 
   /** Selects what the page shows as selected, once what it changed by itself is mended. */

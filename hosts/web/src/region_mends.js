@@ -143,7 +143,7 @@ export class Mends {
     const before = steps.length;
     const isWhole = !isCaret(editor.selection()) && !selections.isPartOfText();
     if (isWhole && !this.#region.isDenied("insertText")) {
-      this.#region.act(() => commands.deleteSelection());
+      this.#region.act(() => commands.run("delete"));
     }
     this.#composing = { records: [], steps: before };
   }

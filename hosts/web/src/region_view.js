@@ -19,6 +19,9 @@ import { isBlockName, VOIDS } from "./shown.js";
 /** From how many changes on it is worth to have the browser look at all of them at once. */
 const MANY_CHANGES = 100;
 
+/** From how many changes on the engine isn't asked for them. */
+const MOST_CHANGES = 5_000;
+
 /** @type {Content} */
 const NO_CONTENT = { name: "", attributes: new Map() };
 
@@ -143,6 +146,14 @@ export class View {
       }
     }
     return null;
+  }
+
+  /**
+   * The first list in an item.
+   * @param {Element} item
+   */
+  listIn(item) {
+    return [...item.querySelectorAll("*")].find((each) => /^[uo]l$/.test(this.nameOf(each)));
   }
 
   /** The page as HTML, or what is in the element: as the page shows it, without the engine. */
@@ -304,13 +315,16 @@ export class View {
    * Does to the page what the engine's last call changed, and looks at nothing else. At first, and
    * where a call was missed or its changes can't be had, the two are compared. Says whether the
    * engine's page is another one.
+   * @param {number} edits about how many edits the call made: to be told of very many takes longer than
+   *   to compare
    */
-  follow() {
+  follow(edits = 0) {
     const [seen, now] = [this.#seen, this.#editor.revision()];
     if (now === seen) {
       return false;
     }
-    if (seen === null || now > seen + 1 || !this.#replay()) {
+    const isKnown = seen !== null && now === seen + 1 && edits < MOST_CHANGES;
+    if (!isKnown || !this.#replay()) {
       this.mend(this.#root);
     }
     this.#seen = now;
