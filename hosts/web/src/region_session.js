@@ -18,8 +18,6 @@ import { View } from "./region_view.js";
 export class Session {
   steps = new Steps();
 
-  #tags;
-
   /**
    * Opens a page in an engine, and shows it.
    * @param {Engine} engine
@@ -37,7 +35,6 @@ export class Session {
     const limits = { undoDepth, ...(labelCap === undefined ? {} : { labelCap }) };
     const { editor, root } = open(engine, tags, html, limits);
     editor.exec("defaultParagraphSeparator", separator);
-    this.#tags = tags;
     this.editor = editor;
     this.view = new View(editor, element, root, shown);
     this.commands = new Commands(editor, this.view, { ...HABITS, ...choices }, undoDepth);
@@ -51,8 +48,8 @@ export class Session {
 
   /** The markup as the engine has it. */
   html() {
-    const page = this.editor.html().slice(0, -1);
-    return this.#tags ? page.replace(/^<(?:[^">]|"[^"]*")*>/, "").replace(/<\/[^<]*$/, "") : page;
+    const labels = [...this.editor.children(this.view.root)];
+    return labels.map((label) => this.editor.nodeHtml(label)).join("");
   }
 
   /** Whether the engine has stopped, here or in another of its editors. */
