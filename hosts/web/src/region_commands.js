@@ -72,7 +72,7 @@ export const HABITS = Object.freeze({
 /** @typedef {{ block: string, states: [string, boolean][], values: [string, string][] }} Style */
 
 /** @type {Intl.Segmenter | undefined} */
-let segmenter = undefined;
+let segmenter;
 
 /**
  * What a user sees as one character, at a unit of a text. The browser takes a while to make the
@@ -215,13 +215,13 @@ export class Commands {
    * @param {boolean} isChanged
    */
   #note(name, before, isChanged) {
-    const isText = name === "inserttext";
+    const isInsertion = name === "inserttext";
     const isFull = before.undo === this.#undoDepth;
     const isMore = this.#editor.counts().undo > before.undo;
-    const isNew = isMore || (isFull && isChanged && !(isText && this.#isTyping));
+    const isNew = isMore || (isFull && isChanged && !(isInsertion && this.#isTyping));
     this.#done.entries += Number(isNew);
     this.#isJoinable ||= isNew;
-    this.#isTyping = isText && (this.#isTyping || isChanged);
+    this.#isTyping = isInsertion && (this.#isTyping || isChanged);
   }
 
   /** @param {Selection} selection */
