@@ -4,6 +4,7 @@
  */
 import { BadArgument, EditorClosed, EngineStopped, HeditError } from "./hedit.js";
 import { isOfField } from "./region_input.js";
+import { Keys } from "./region_keymap.js";
 import { Lock } from "./region_lock.js";
 import { Mends } from "./region_mends.js";
 import { isElement, isSame } from "./region_nodes.js";
@@ -87,7 +88,7 @@ export class Controller {
     this.#scroll = new Scroll(element, () => this.#session.selections.ends()?.focus ?? null);
     const acts = this.#acts();
     this.#mends = new Mends(element, acts);
-    this.#user = new User(acts);
+    this.#user = new User(acts, new Keys(choices.keymap));
     own(element, region);
     try {
       this.#session = this.#open(engine);
@@ -136,6 +137,7 @@ export class Controller {
       refuse: (command, reason, text) => this.#refuse(command, reason, text),
       read: () => this.#read(),
       reveal: () => this.#scroll.reveal(),
+      run: (call) => call(this.#region),
       answer: (call) => this.answer(call),
       finish: (call) => this.#finish(call),
       tell: (kind) => this.#region.dispatchEvent(new Event(kind)),
@@ -299,7 +301,8 @@ export class Controller {
     /** @type {Partial<Record<keyof HTMLElementEventMap, (event: any) => void>>} */
     const answers = {
       beforeinput: (event) => this.#user.input(event),
-      keydown: (event) => this.#user.key(event),
+      keydown: (event) => this.#user.keyDown(event),
+      keyup: () => this.#user.keyUp(),
       copy: (event) => this.#user.copy(event),
       cut: (event) => this.#user.cut(event),
       compositionstart: () => this.#mends.compose(),

@@ -132,29 +132,3 @@ export class Halves {
     return isHalf ? all.slice(0, -1) : all;
   }
 }
-
-/** The commands of keys that are pressed with Control, or with Command on Apple's machines. */
-const OF_KEYS = new Map([
-  ["z", "undo"],
-  ["b", "bold"],
-  ["i", "italic"],
-  ["u", "underline"],
-]);
-
-/**
- * The command that a key asks for, null where it asks for none: undo and redo, of which a browser says
- * nothing where it has nothing to undo itself, and the styles that Firefox has no keys for.
- * @param {KeyboardEvent} event
- */
-export function commandOfKey(event) {
-  const isApple = /^(Mac|iPhone|iPad)/.test(navigator.platform);
-  const isHeld = (isApple ? event.metaKey : event.ctrlKey) && !event.altKey && !event.isComposing;
-  if (!isHeld || event.defaultPrevented) {
-    return null;
-  }
-  // On a keyboard of another script the letter is known by its place.
-  const letter = /^[a-z]$/i.test(event.key) ? event.key : event.code.replace("Key", "");
-  const key = letter.toLowerCase();
-  const isRedo = event.shiftKey ? key === "z" : key === "y" && !isApple;
-  return isRedo ? "redo" : event.shiftKey ? null : (OF_KEYS.get(key) ?? null);
-}

@@ -1,9 +1,10 @@
 /** What the user of a region does by keys, inputs and the clipboard, for region.js. */
 import { isCaret } from "./region_nodes.js";
-import { Halves, commandOfKey, isOfBrowser, meaningOf } from "./region_input.js";
+import { Halves, isOfBrowser, meaningOf } from "./region_input.js";
 
 /** @typedef {import("./hedit.js").Selection} Selection */
 /** @typedef {import("./region_input.js").Meaning} Meaning */
+/** @typedef {import("./region_keymap.js").Keys} Keys */
 /** @typedef {import("./region_session.js").Session} Session */
 
 /**
@@ -18,11 +19,18 @@ import { Halves, commandOfKey, isOfBrowser, meaningOf } from "./region_input.js"
  *   refuse tells that something isn't done
  * @property {() => void} read selects what the page shows as selected
  * @property {() => void} reveal scrolls to where the selection is
+ * @property {(call: (region: import("./region.js").Region) => boolean) => boolean} run calls a
+ *   function of the host
  */
 
 /** The user of a region. */
 export class User {
   #acts;
+
+  #keys;
+
+  /** Whether the key that is down is turned off. */
+  #isKeyOff = false;
 
   #halves = new Halves();
 
@@ -38,9 +46,13 @@ export class User {
    */
   #pasted = null;
 
-  /** @param {Acts} acts */
-  constructor(acts) {
+  /**
+   * @param {Acts} acts
+   * @param {Keys} keys
+   */
+  constructor(acts, keys) {
     this.#acts = acts;
+    this.#keys = keys;
   }
 
   get #session() {
@@ -48,12 +60,24 @@ export class User {
   }
 
   /** @param {KeyboardEvent} event */
-  key(event) {
-    const command = this.#acts.isEditable() ? commandOfKey(event) : null;
-    if (!command) {
-      return;
+  keyDown(event) {
+    const action = this.#keys.actionOf(event);
+    this.#isKeyOff = action === null;
+    if (typeof action === "string" && this.#acts.isEditable()) {
+      event.preventDefault();
+      this.#execute(action);
+    } else if (typeof action === "function" && this.#acts.run(action)) {
+      event.preventDefault();
+      this.#acts.reveal();
     }
-    event.preventDefault();
+  }
+
+  keyUp() {
+    this.#isKeyOff = false;
+  }
+
+  /** @param {string} command */
+  #execute(command) {
     if (this.#acts.isDenied(command)) {
       this.#acts.refuse(command, "denied");
     } else {
@@ -71,6 +95,9 @@ export class User {
       return;
     }
     event.preventDefault();
+    if (this.#isKeyOff && /^(?:format|history)/.test(event.inputType)) {
+      return;
+    }
     const pasted = event.inputType.startsWith("insertFromPaste") ? this.#pasted : null;
     this.#pasted = null;
     const meaning = meaningOf(event, pasted);

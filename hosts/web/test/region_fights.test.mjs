@@ -44,8 +44,6 @@ for (const { Browser, name, skip } of BROWSERS) {
 
     const fight = (call) =>
       region.page.evaluate((source) => {
-        // A call comes into the page as its text.
-        // eslint-disable-next-line no-eval
         const act = (0, eval)(`(${source})`);
         const { element } = window.region;
         window.answers = 0;
