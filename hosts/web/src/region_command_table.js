@@ -160,11 +160,26 @@ export function namesOf(name) {
   return needs === undefined ? [name] : [name, needs];
 }
 
-/** @type {ReadonlyMap<string, { readonly command: string, readonly answer: Answer }>} */
-export const INPUTS = new Map(
-  Object.entries(COMMANDS).flatMap(([command, { inputs = {} }]) =>
-    Object.entries(inputs).flatMap(([answer, kinds]) =>
-      kinds.map((kind) => [kind, { command, answer: /** @type {Answer} */ (answer) }]),
-    ),
-  ),
-);
+/**
+ * The command that a kind of input asks for, and how it is answered.
+ * @typedef {{ readonly command: string, readonly answer: Answer }} Asked
+ */
+
+/**
+ * @param {string} command
+ * @param {Command} row
+ * @returns {[string, Asked][]}
+ */
+function inputsOf(command, { inputs = {} }) {
+  const each = /** @type {[Answer, readonly string[]][]} */ (Object.entries(inputs));
+  return each.flatMap(([answer, kinds]) => {
+    const asked = { command, answer };
+    return kinds.map((kind) => /** @type {[string, Asked]} */ ([kind, asked]));
+  });
+}
+
+/**
+ * What the kinds of input ask for.
+ * @type {ReadonlyMap<string, Asked>}
+ */
+export const INPUTS = new Map(Object.entries(COMMANDS).flatMap((each) => inputsOf(...each)));

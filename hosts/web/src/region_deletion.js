@@ -8,7 +8,7 @@ import { isBlock, isCharacters, isElement, isText } from "./region_nodes.js";
 /** @typedef {import("./region_places.js").NodePlace} NodePlace */
 
 /** @type {Intl.Segmenter | undefined} */
-let segmenter = undefined;
+let segmenter;
 
 /**
  * What a user sees as one character, at a unit of a text. The browser takes a while to make the

@@ -5,7 +5,7 @@ import { SurrogatePairs, isOfBrowser, textOf } from "./region_input.js";
 import { isCaret } from "./region_nodes.js";
 
 /** @typedef {import("./hedit.js").Selection} Selection */
-/** @typedef {import("./region_command_table.js").Answer} Answer */
+/** @typedef {import("./region_command_table.js").Asked} Asked */
 /** @typedef {import("./region_keymap.js").Keys} Keys */
 /** @typedef {import("./region_session.js").Session} Session */
 
@@ -121,7 +121,7 @@ export class User {
 
   /**
    * @param {InputEvent} event
-   * @param {{ command: string, answer: Answer }} asked
+   * @param {Asked} asked
    * @param {string} text
    */
   #answer(event, { command, answer }, text) {

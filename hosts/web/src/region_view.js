@@ -6,7 +6,7 @@
 import { EngineStopped, NodeKind, toCharacters, toUnits } from "./hedit.js";
 import { difference, isBlock, isCharacters, isElement, isInside, isText } from "./region_nodes.js";
 import { print } from "./region_print.js";
-import { isBlockName, VOIDS } from "./shown.js";
+import { VOIDS, isBlockName } from "./shown.js";
 
 /** @typedef {import("./hedit.js").Change} Change */
 /** @typedef {import("./hedit.js").Editor} Editor */
@@ -283,8 +283,8 @@ export class View {
   #adoptFrom(label, node) {
     while (label !== null && node) {
       const { kind, firstChild, next } = this.#editor.node(label);
-      const isElement = kind === NodeKind.ELEMENT;
-      if (node.nodeType !== kind || (isElement && !this.#isNamed(label, node))) {
+      const hasName = kind === NodeKind.ELEMENT;
+      if (node.nodeType !== kind || (hasName && !this.#isNamed(label, node))) {
         return;
       }
       this.#keep(label, node);
@@ -587,8 +587,8 @@ export class View {
    */
   #updateAttributes(node, content) {
     const shown = this.#shown.attributesOf(content);
-    for (const name of node.getAttributeNames().filter((name) => !shown.has(name))) {
-      node.removeAttribute(name);
+    for (const extra of node.getAttributeNames().filter((name) => !shown.has(name))) {
+      node.removeAttribute(extra);
     }
     for (const [name, value] of shown) {
       if (node.getAttribute(name) === value) {
