@@ -369,7 +369,8 @@ for (const { Browser, name: browserName, skip } of TRIED) {
       await page.until(() => localStorage.getItem("hedit-draft")?.includes('"Plan"'));
       await page.reload();
       await page.until(() => document.querySelector("#message > p")?.textContent === "Call Ann");
-      assert.equal(await page.evaluate(() => document.querySelector("#subject").value), "Plan");
+      const subject = () => /** @type {HTMLInputElement} */ (document.querySelector("#subject")).value;
+      assert.equal(await page.evaluate(subject), "Plan");
       await page.click("#discard");
       await page.click("#discard-question .danger");
       await page.until(() => document.querySelector("#message > p")?.textContent === "");

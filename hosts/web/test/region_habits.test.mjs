@@ -18,8 +18,8 @@ for (const { Browser, name, skip } of BROWSERS) {
         (places) => {
           const nodeAt = (steps) =>
             steps.reduce((above, step) => above.childNodes[step], window.region.element);
-          const [from, to] = places.map(([steps, offset]) => [nodeAt(steps), offset]);
-          document.getSelection().setBaseAndExtent(...from, ...to);
+          const [[from, start], [to, end]] = places;
+          document.getSelection().setBaseAndExtent(nodeAt(from), start, nodeAt(to), end);
         },
         ends,
       );
