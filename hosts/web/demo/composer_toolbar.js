@@ -268,8 +268,8 @@ export class Menu {
    */
   #startingWith(letter, at) {
     const places = this.#items.map((_, step) => (at + 1 + step) % this.#items.length);
-    const begins = (/** @type {number} */ place) =>
-      nameOf(this.#items[place]).toLowerCase().startsWith(letter.toLowerCase());
+    const begins = (/** @type {number} */ other) =>
+      nameOf(this.#items[other]).toLowerCase().startsWith(letter.toLowerCase());
     return places.find(begins);
   }
 }

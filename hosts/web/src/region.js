@@ -27,16 +27,19 @@
  */
 import { HABITS } from "./region_commands.js";
 import { Controller } from "./region_controller.js";
+import { KEYMAP } from "./region_keymap.js";
 import { regionOf } from "./region_owner.js";
 import { missing } from "./region_support.js";
 
-export { HABITS };
+export { HABITS, KEYMAP };
 
 /** @typedef {import("./clean.js").CleanOptions} CleanOptions */
 /** @typedef {import("./hedit.js").Engine} Engine */
 /** @typedef {import("./hedit.js").Limits} Limits */
 /** @typedef {import("./hedit.js").Point} Point */
 /** @typedef {import("./region_commands.js").Habits} Habits */
+/** @typedef {import("./region_keymap.js").KeyAction} KeyAction */
+/** @typedef {import("./region_keymap.js").Keymap} Keymap */
 /** @typedef {import("./region_shown.js").ViewOptions} ViewOptions */
 
 /**
@@ -52,6 +55,7 @@ export { HABITS };
  *   meant, by whatever way, and not for what a command or a habit does inside itself.
  * @property {ViewOptions} [view] What is shown of the page.
  * @property {boolean} [readOnly] Whether nothing can be edited: by default it can.
+ * @property {Keymap} [keymap] What keys do beside those of `KEYMAP`, or in their place.
  * @property {() => Promise<Engine>} [reload] Gives another engine where this one has stopped.
  * @property {boolean} [debug] After each event the region checks itself, and throws what differs.
  */
