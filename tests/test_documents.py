@@ -180,6 +180,10 @@ class Documents(SmallRepository):
             list(self.documents.faults_of_words([page, other], False)),
         )
 
+    def test_counts_neither_numbers_of_items_nor_places_in_sources(self) -> None:
+        page = self.write("docs/A.md", "`low/specs/Counting: count_up`; `low`.\n\n1. One\n   - a. two\n- a three 4.\n")
+        self.assertEqual(6, self.documents.count([page]))
+
     def test_finds_long_decisions(self) -> None:
         page = self.write("docs/DECISIONS.md", f"# Decisions\n\n### Short\n\nYes.\n\n### Long\n\n{'word ' * 81}\n")
         self.assertEqual(
