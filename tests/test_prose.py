@@ -23,7 +23,10 @@ room = "is no list"  # a gate
 
 def take(room: str) -> str:
     \"\"\"Tells what `stands` means.\"\"\"
-    return f"beside {room}"
+    return [
+        "beside",
+        f"amid {room}",
+    ]
 """
 
 SHELL = """\
