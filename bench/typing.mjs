@@ -1,7 +1,7 @@
 #!/usr/bin/env node
 /**
- * What typing character by character into one paragraph takes, in hedit and in ProseMirror's model, which another
- * editor stands on. Both keep what undo needs:
+ * What typing character by character into one paragraph takes, in hedit and in ProseMirror's model, on which another
+ * editor is built. Both keep what undo needs:
  *
  *     node bench/typing.mjs [PROGRAM] [KEYS] [ROUNDS]
  *
@@ -11,7 +11,7 @@
  *
  * Each round runs both in turn, each in a process of its own. The time is that of the clock: of hedit the whole
  * process, from its start to its end, with a line to read and an answer to write for each key; of the model the keys
- * alone. Beside it stands the processor's. The memory is by how much the peak of the process grows with the keys, and
+ * alone. Next to it is the CPU time. The memory is by how much the peak of the process grows with the keys, and
  * of the model also what of its heap is still in use after a collection. Both are asked once whether undo gives the
  * paragraph as it was. It ends with status 1 where hedit's median is not the lower one, or where it keeps 2 MB.
  */
@@ -29,7 +29,7 @@ const MIB = 2 ** 20;
 
 // ---- hedit
 
-/** A session that types so many characters amid a text, and then does other acts. */
+/** A session that types so many characters inside a text, and then has other lines. */
 function session(keys, acts = []) {
   const page = `page <<END\n<div contenteditable="true"><p>${TEXT}</p></div>\nEND\nselect 0/0/0:2 0/0/0:2\n`;
   return page + "exec insertText x\n".repeat(keys) + acts.map((act) => `${act}\n`).join("");
