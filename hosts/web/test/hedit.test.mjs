@@ -230,8 +230,8 @@ describe("a cause has a class", () => {
         return [error.at, error.kind, error.message];
       }
     };
-    assert.deepEqual(place("<p>x</b>"), [6, PageKind.STRAY_END, "no page: stray-end at 6"]);
-    assert.deepEqual(place("<p>é😀</b>"), [8, "stray-end", "no page: stray-end at 8"]);
+    assert.deepEqual(place("<p>x</b>"), [6, PageKind.STRAY_END, "the page is refused: stray-end at 6"]);
+    assert.deepEqual(place("<p>é😀</b>"), [8, "stray-end", "the page is refused: stray-end at 8"]);
     assert.deepEqual(place(new TextEncoder().encode("<p>é😀</b>")).slice(0, 2), [11, "stray-end"]);
     assert.deepEqual(place(new Uint8Array([120, 255])).slice(0, 2), [1, PageKind.NOT_UTF8]);
     assert.deepEqual(place("<p>").slice(1, 2), [PageKind.UNCLOSED]);
