@@ -23,11 +23,6 @@ StaysFollowed old new = Between old new CanFollow
 abbrev pub KeepsFollowing : EditorValue → EditorValue → Type 0
 KeepsFollowing old new = new.following ≡ old.following
 
--- nor does a command that isn't done
-abbrev pub KeepsUnlessDone : Status → EditorValue → EditorValue → Type 0
-KeepsUnlessDone Done old new = Unit {0}
-KeepsUnlessDone _ old new = KeepsFollowing old new
-
 -- a new editor has changed nothing yet
 abbrev pub BeginsFollowing : EditorValue → Type 0
 BeginsFollowing v = v.following ≡ first_following

@@ -11,6 +11,6 @@ returns-clause-told c =
     let new = c.replace.new.self in
     let found = pair_of_points old.editing c.args.anchor c.args.focus in
     let text = c.as_slice.result.now in
-    subst (λ (w : List ℕ). ReplaceAnswers c.replaced.result old.editing new.editing found w) c.as_slice.ensures
-    (subst (λ (s : Status). ReplaceAnswers s old.editing new.editing found text) (sym c.replaced.ensures.status)
+    subst (λ (w : List ℕ). ReplaceAnswers c.ranged.result old.editing new.editing found w) c.as_slice.ensures
+    (subst (λ (s : Status). ReplaceAnswers s old.editing new.editing found text) (sym c.ranged.ensures.status)
     (replace_answers found c.replace.result old new text c.replace.ensures.tells))
