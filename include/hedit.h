@@ -186,6 +186,24 @@ uint32_t hedit_replace(hedit_editor *editor, uint32_t anchor, uint32_t anchor_of
                        uint32_t focus, uint32_t focus_offset, const uint8_t *text,
                        size_t text_length);
 
+/* How hedit_exec_with executes a command. */
+typedef struct hedit_exec_options {
+    uint32_t joined; /* not 0: as hedit_exec_joined does */
+    uint32_t ranged; /* not 0: on what is between the two points, in place of the selection */
+    uint32_t anchor, anchor_offset;
+    uint32_t focus, focus_offset;
+} hedit_exec_options;
+
+/* Executes a command as hedit_exec_gated does, with options. The other calls that execute are cases of
+ * it. On a range the command selects that first, and the selection is left where the command leaves
+ * it; so a host formats a range within a step that goes on, which a call that selects would end. Also
+ * HEDIT_BAD_PLACE if an end of the range is nowhere in the document. After any status but HEDIT_DONE
+ * the selection is as before, too. */
+HEDIT_API
+uint32_t hedit_exec_with(hedit_editor *editor, const hedit_exec_options *options,
+                         const uint8_t *denied, size_t denied_length, const uint8_t *name,
+                         size_t name_length, const uint8_t *value, size_t value_length);
+
 /* Takes one step back, or forth again. HEDIT_DONE, HEDIT_NO where there is none, HEDIT_CLOSED.
  * They take no memory. */
 HEDIT_API

@@ -60,6 +60,13 @@ struct Selection {
     Point focus;
 };
 
+/* How a command is executed. */
+struct ExecOptions {
+    std::optional<Selection> range; /* what it works on in place of the selection */
+    bool joined = false;            /* whether it is one step of undo with the last one */
+    std::string_view denied;        /* names that are denied, as "bold,insertImage" */
+};
+
 /* A name for what is between two points. The name is any bytes. */
 struct Mark {
     std::string name;
@@ -328,6 +335,17 @@ class Editor {
     bool exec_joined(std::string_view name, std::string_view value = "") {
         return answer(
             hedit_exec_joined(&handle_, bytes(name), name.size(), bytes(value), value.size()));
+    }
+
+    /* The same with options: on a range, as a part of the last step, past a gate. The selection is
+     * left where the command leaves it. */
+    bool exec(std::string_view name, std::string_view value, const ExecOptions &options) {
+        Selection range = options.range.value_or(Selection{});
+        hedit_exec_options told = {options.joined,     options.range.has_value(),
+                                   range.anchor.label, range.anchor.offset,
+                                   range.focus.label,  range.focus.offset};
+        return answer(hedit_exec_with(&handle_, &told, bytes(options.denied), options.denied.size(),
+                                      bytes(name), name.size(), bytes(value), value.size()));
     }
 
     /* Puts a text in place of what stands between two points: selects it and inserts the text, as

@@ -24,6 +24,7 @@ from ._library import (
     LENGTH,
     NO_NODE,
     NUMBER,
+    ExecOptions,
     Handle,
     NodeFacts,
     NumberFacts,
@@ -212,15 +213,31 @@ class Editor:
         """Frees the editor's memory. Each other call is refused from then on."""
         self._call("hedit_close")
 
-    def exec(self, name: str | bytes, value: str | bytes = "", denied: Iterable[str] = ()) -> bool:
+    def exec(
+        self,
+        name: str | bytes,
+        value: str | bytes = "",
+        denied: Iterable[str] = (),
+        *,
+        range: tuple[Place | Point, Place | Point] | None = None,
+        joined: bool = False,
+    ) -> bool:
         """Executes a command by its name, in any case. False where it isn't possible here, refuses
         the value, or is denied: `denied` has up to 16 names of commands. What a command does inside
-        itself isn't asked for."""
+        itself isn't asked for.
+
+        A command with a range, from an anchor to a focus, works on that in place of the selection. It
+        selects the range first, and the selection is left where the command leaves it. A joined
+        command is one step of undo with the last one, as by `exec_joined`."""
         names = names_words(denied)
         words = (*text_words(name), *text_words(value))
-        if names[1]:
-            return answer(self._call("hedit_exec_gated", *names, *words))
-        return answer(self._call("hedit_exec", *words))
+        if range is None and not names[1]:
+            return answer(self._call("hedit_exec_joined" if joined else "hedit_exec", *words))
+        options = ExecOptions(joined=joined)
+        if range is not None:
+            anchor, focus = (self._point(end) for end in range)
+            options = ExecOptions(joined, True, *anchor, *focus)
+        return answer(self._call("hedit_exec_with", ctypes.byref(options), *names, *words))
 
     def exec_joined(self, name: str | bytes, value: str | bytes = "") -> bool:
         """Executes a command as `exec` does, as one step of undo with the last one, where a command

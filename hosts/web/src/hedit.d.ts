@@ -212,6 +212,19 @@ export declare function toCharacters(text: string, units: number): number;
 /** An offset in a text node in UTF-16 units, from one in characters. */
 export declare function toUnits(text: string, characters: number): number;
 
+/** How a command is executed. */
+export interface ExecOptions {
+  /**
+   * What the command works on in place of the selection. It selects that first, and the selection is left
+   * where the command leaves it.
+   */
+  readonly range?: { readonly anchor: Place | Point; readonly focus: Place | Point };
+  /** Whether it is one step of undo with the last one, as by `execJoined`. */
+  readonly joined?: boolean;
+  /** Up to 16 names of commands that are refused. */
+  readonly denied?: Iterable<string>;
+}
+
 /** An editor of a page, which `Engine.open` gives. Close it: one that is collected is closed then. */
 export declare class Editor {
   private constructor();
@@ -219,8 +232,11 @@ export declare class Editor {
   /** Frees the editor's memory. Each other call is refused from then on. */
   close(): void;
 
-  /** Executes a command by its name, in any case. False where it isn't possible here, or is denied. */
-  exec(name: Text, value?: Text, denied?: Iterable<string>): boolean;
+  /**
+   * Executes a command by its name, in any case. False where it isn't possible here, refuses the value,
+   * or is denied. A list in place of the options has the denied names.
+   */
+  exec(name: Text, value?: Text, options?: ExecOptions | Iterable<string>): boolean;
 
   /**
    * Executes a command as `exec` does, as one step of undo with the last one, where a command made that

@@ -29,7 +29,7 @@
  */
 
 import { readChanges } from "./changes.js";
-import { limit, listOf, member, placeNumber } from "./hedit_arguments.js";
+import { execOptions, limit, listOf, member, placeNumber } from "./hedit_arguments.js";
 import { NodeKind, Question, View } from "./hedit_constants.js";
 import { EditorClosed, answer } from "./hedit_errors.js";
 import { Library } from "./hedit_library.js";
@@ -66,6 +66,16 @@ export const VERSION = "0.9.0";
 /** @typedef {{ readonly label: number, readonly offset: number }} Point */
 
 /** @typedef {{ readonly anchor: Point, readonly focus: Point }} Selection */
+
+/**
+ * How a command is executed. It works on the range in place of the selection, which it selects first: the
+ * selection is left where the command leaves it. A joined command is one step of undo with the last one,
+ * if a command made that step and nothing has come between. `denied` has up to 16 names of commands.
+ * @typedef {object} ExecOptions
+ * @property {{ readonly anchor: Place | Point, readonly focus: Place | Point }} [range]
+ * @property {boolean} [joined]
+ * @property {Iterable<string>} [denied]
+ */
 
 /**
  * A name for what is between two points; the name is bytes where it isn't UTF-8.
@@ -262,19 +272,26 @@ export class Editor {
 
   /**
    * Executes a command by its name, in any case. False where it isn't possible here, refuses the
-   * value, or is denied: `denied` has up to 16 names of commands. What a command does inside itself
-   * isn't asked for.
+   * value, or is denied. What a command does inside itself isn't asked for. A list in place of the
+   * options has the denied names.
    * @param {Text} name
    * @param {Text} value
-   * @param {Iterable<string>} denied
+   * @param {ExecOptions | Iterable<string>} options
    */
-  exec(name, value = "", denied = []) {
+  exec(name, value = "", options = {}) {
+    const { range, joined = false, denied = [] } = execOptions(options);
     const names = listOf(denied);
+    const words = (/** @type {Loan} */ loan) => [...loan.text(name), ...loan.text(value)];
+    if (!range && !names) {
+      return answer(this.#status(joined ? "hedit_exec_joined" : "hedit_exec", words));
+    }
+    const points = range ? [...this.#point(range.anchor), ...this.#point(range.focus)] : [0, 0, 0, 0];
+    const numbers = Uint32Array.of(Number(joined), Number(Boolean(range)), ...points);
     return answer(
-      this.#status(names ? "hedit_exec_gated" : "hedit_exec", (loan) => [
-        ...(names ? loan.text(names) : []),
-        ...loan.text(name),
-        ...loan.text(value),
+      this.#status("hedit_exec_with", (loan) => [
+        loan.array(numbers)[0],
+        ...loan.text(names),
+        ...words(loan),
       ]),
     );
   }

@@ -42,6 +42,18 @@ export function member(enumeration, value) {
 }
 
 /**
+ * How a command is executed: options, or the names that are denied.
+ * @param {import("./hedit.js").ExecOptions | Iterable<string>} options
+ * @returns {import("./hedit.js").ExecOptions}
+ */
+export function execOptions(options) {
+  if (typeof options === "object" && options !== null && !(Symbol.iterator in options)) {
+    return options;
+  }
+  return { denied: options };
+}
+
+/**
  * Names of commands as a text with a comma between, which without names is empty.
  * @param {Iterable<string>} names
  */
