@@ -213,15 +213,15 @@ impl Editor {
         ensures promises { ExecPromises (is_yes result) options.range options.joined
             (command_named name.now) value.now self.old self.new }
     {
-        if gate.denies(name.as_bytes()) {
-            self.promises_as_is();
-            return Ok(Answer::No);
-        }
-        match range_in(&self.doc, options.range) {
-            Some(at) => self.exec_on(alloc, at, options.joined, Command::named(name), value),
-            None => {
-                self.promises_as_is();
-                Err(RangeFault::BadPlace)
+        self.promises_as_is();
+        match (
+            gate.denies(name.as_bytes()),
+            range_in(&self.doc, options.range),
+        ) {
+            (true, _) => Ok(Answer::No),
+            (false, None) => Err(RangeFault::BadPlace),
+            (false, Some(at)) => {
+                self.exec_on(alloc, at, options.joined, Command::named(name), value)
             }
         }
     }

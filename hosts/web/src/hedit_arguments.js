@@ -47,10 +47,8 @@ export function member(enumeration, value) {
  * @returns {import("./hedit.js").ExecOptions}
  */
 export function execOptions(options) {
-  if (typeof options === "object" && options !== null && !(Symbol.iterator in options)) {
-    return options;
-  }
-  return { denied: options };
+  const isList = typeof options !== "object" || options === null || Symbol.iterator in options;
+  return /** @type {import("./hedit.js").ExecOptions} */ (isList ? { denied: options } : options);
 }
 
 /**
