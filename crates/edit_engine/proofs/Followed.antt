@@ -1,12 +1,12 @@
 -- What a host is told of a call leads from the document before it to the document after it.
-use Rattle.std.proofs.Common.{◌≡◌, ℕ, ◌<◌, ◌≤◌, Bool, true, false, cond, true≢false, List, [], ◌∷◌, length, Some, Ok, refl, sym, ap, subst, ◌∙◌, inl, inr, arith}
+use Rattle.std.proofs.Common.{◌≡◌, ℕ, ◌<◌, Bool, true, false, cond, true≢false, List, [], ◌∷◌, length, Some, Ok, refl, sym, ap, subst, ◌∙◌, inl, inr, arith}
 use Rattle.std.specs.Prelude.{◌↔◌, IsTrue}
 use Rattle.edit_model.specs.DomModel.declared.Content.{Content}
 use Rattle.edit_model.specs.DomModel.Forest.{Forest}
 use Rattle.inline_value.specs.UndoLog.declared.log.Committed.{Committed}
 use Rattle.inline_value.specs.UndoLog.declared.log.Committed.TheVariants as committed
 use Rattle.edit_model.specs.State.{State}
-use Rattle.edit_model.specs.History.{Entry, History, document_of, rested, undone_state, undone_history, redone_state, redone_history, undone_state_by, undone_history_by, redone_state_by, redone_history_by, at_view}
+use Rattle.edit_model.specs.History.{Entry, document_of, rested, undone_state, undone_history, redone_state, redone_history, undone_state_by, undone_history_by, redone_state_by, redone_history_by, at_view}
 use Rattle.inline_value.specs.ForestChanges.Change.{Change}
 use Rattle.inline_value.specs.EditDoc.Changes.{Lead, changes_past, changes_undone, resumed_at, ChangesLead, UndoneLead}
 use Rattle.inline_value.specs.EditDoc.Kept.{HoldsOnlyNeeded, LeadAllBack, LeadAllForth}
@@ -15,7 +15,7 @@ use Rattle.edit_engine.specs.declared.following.Following.{Following}
 use Rattle.edit_engine.specs.declared.going.Going.{Going}
 use Rattle.edit_engine.specs.declared.following.LastChange.TheVariants.{Made}
 use Rattle.edit_engine.specs.Following.{changed_by, after_commit, after_undo, after_redo}
-use Rattle.edit_engine.specs.Editing.{EditorValue, value_of}
+use Rattle.edit_engine.specs.Editing.{value_of}
 use Rattle.edit_engine.specs.Changes.{CanFollow}
 use Rattle.edit_engine.specs.Running.{has_entry, TellsChange}
 

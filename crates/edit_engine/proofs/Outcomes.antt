@@ -18,7 +18,7 @@ use Rattle.inline_value.specs.EditDoc.Whole.{Whole}
 use Rattle.edit_engine.specs.Commands.{row_of, action_of, is_enabled_in}
 use Rattle.edit_engine.specs.Editing.{Editing, EditorValue}
 use Rattle.edit_engine.specs.Execution.{Outcome, Refused, Deep, Acted, host_at, run_at, ran, run_outcome, command_outcome, outcome_at, outcome, outcome_with, gated_outcome, misplaced, Tells, TellsOnRange}
-use Rattle.edit_engine.specs.Going.{joins_by, going_after}
+use Rattle.edit_engine.specs.Going.{going_after}
 use Rattle.edit_engine.specs.declared.going.Going.{Going}
 use Rattle.edit_engine.specs.declared.answers.Answer.{Answer}
 use Rattle.edit_engine.specs.declared.answers.Answer.TheVariants.{No}

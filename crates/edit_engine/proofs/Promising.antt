@@ -1,5 +1,5 @@
 -- All that is promised of a command, from what its run comes to.
-use Rattle.std.proofs.Common.{◌≡◌, ℕ, Bool, true, false, List, Option, Some, None, Result, Ok, Err, refl, sym, subst, inl}
+use Rattle.std.proofs.Common.{◌≡◌, ℕ, Bool, false, List, Option, Some, None, Result, refl, sym, inl}
 use Rattle.edit_model.specs.HtmlNames.declared.commands.Command.{Command}
 use Rattle.edit_model.specs.HtmlNames.declared.commands.Command.TheVariants.{InsertText}
 use Rattle.edit_model.specs.LiveRange.declared.places.Pair.{Pair}
@@ -10,7 +10,6 @@ use Rattle.edit_engine.specs.Changes.{CanFollow}
 use Rattle.edit_engine.specs.Confinement.{joins_last}
 use Rattle.edit_engine.specs.Editing.{EditorValue, document}
 use Rattle.edit_engine.specs.Execution.{Tells, command_outcome, host_at}
-use Rattle.edit_engine.specs.declared.following.Following.{Following}
 use Rattle.edit_engine.specs.Going.{joins_by}
 use Rattle.edit_engine.specs.Promises.{ExecPromises, PromisesAsIs, is_yes, told_by_exec}
 use Rattle.edit_engine.proofs.Confining.{Standing, changes, command_kept, unchanged_kept, characters_kept, given_back, same_back, same_characters}

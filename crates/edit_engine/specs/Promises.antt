@@ -1,5 +1,5 @@
 -- What a host may rely on whenever it executes a command, whatever the answer is.
-use Rattle.std.specs.Prelude.{◌≡◌, ℕ, nat_lt, Bool, true, false, List, length, Option, Some, None, Result, Ok, if◌then◌else◌}
+use Rattle.std.specs.Prelude.{◌≡◌, ℕ, nat_lt, Bool, true, false, List, length, Option, Some, Result, Ok, if◌then◌else◌}
 use Rattle.edit_model.specs.HtmlNames.declared.commands.Command.{Command}
 use Rattle.edit_model.specs.LiveRange.declared.places.Pair.{Pair}
 use Rattle.inline_value.specs.EditDoc.Changes.{resumed_at}

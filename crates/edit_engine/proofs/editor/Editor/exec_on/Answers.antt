@@ -1,4 +1,4 @@
-use Rattle.std.proofs.Common.{◌≡◌, Result, Ok, Err, sym, subst}
+use Rattle.std.proofs.Common.{Result, Err, sym, subst}
 use Rattle.edit_engine.specs.Execution.{TellsOnRange, outcome_at}
 use Rattle.edit_engine.specs.Promises.{ExecPromises, is_yes}
 use Rattle.edit_engine.specs.declared.answers.Answer.{Answer}

@@ -1,5 +1,5 @@
 use Rattle.std.proofs.Common.{◌≡◌, false, Option, Some, Err, sym, ap, ◌∙◌, subst, refl}
-use Rattle.std.specs.Prelude.{MatchOption, IfSome}
+use Rattle.std.specs.Prelude.{MatchOption}
 use Rattle.edit_model.specs.LiveRange.declared.places.Pair.{Pair}
 use Rattle.edit_model.specs.HtmlNames.declared.commands.Command.TheVariants.{InsertText}
 use Rattle.edit_model.specs.Valid.{IsPlacedPair}

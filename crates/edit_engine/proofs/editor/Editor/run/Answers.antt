@@ -1,5 +1,4 @@
 use Rattle.std.proofs.Common.{◌≡◌, true, false, sym, ap, ◌∙◌, subst, Ok, Err, Option, Some, IfSome, inr}
-use Rattle.edit_model.specs.LiveRange.declared.places.Pair.{Pair}
 use Rattle.inline_value.specs.UndoLog.declared.log.Committed.{Committed}
 use Rattle.edit_model.specs.Valid.{IsPlacedPair}
 use Rattle.inline_value.specs.EditDoc.Changes.{resumed_at}
@@ -7,9 +6,8 @@ use Rattle.edit_engine.specs.Changes.{CanFollow}
 use Rattle.edit_engine.specs.Commands.{row_of, action_of}
 use Rattle.edit_engine.specs.Editing.{Editing, EditorValue, IsResting, value_of}
 use Rattle.edit_engine.specs.declared.following.Following.{Following}
-use Rattle.edit_engine.specs.declared.going.Going.{Going}
 use Rattle.edit_engine.specs.Execution.{Acted, Tells, host_at, run_at, run_outcome}
-use Rattle.edit_engine.specs.Going.{goes_on, joins_by}
+use Rattle.edit_engine.specs.Going.{joins_by}
 use Rattle.edit_engine.specs.Promises.{makes_edit, told_by_exec}
 use Rattle.edit_engine.specs.Running.{IsRefused, Ran, TellsChange}
 use Rattle.edit_engine.specs.declared.answers.ExecFault.{ExecFault}
