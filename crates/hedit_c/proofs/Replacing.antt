@@ -34,8 +34,8 @@ with_answers None range answer old new denied joined name value found h =
     same = ap (λ (v : EditorValue). v.editing) h.1
 
     by_denied : (d : Bool) → is_denied denied name ≡ d → WithAnswers (ranged_status (misplaced d)) old.editing new.editing denied range joined name value
-    by_denied true is = rw found (refl, (is, same))
-    by_denied false is = (found, (is, same))
+    by_denied true is = rw found (refl, is, same)
+    by_denied false is = (found, is, same)
 with_answers (Some at) range (Ok Yes) old new denied joined name value found h = rw found h
 with_answers (Some at) range (Ok No) old new denied joined name value found h = rw found h
 with_answers (Some at) range (Err BadPlace) old new denied joined name value found h = absurd h

@@ -1,5 +1,5 @@
 -- What the calls of an editor's handle tell.
-use Rattle.std.specs.Prelude.{◌≡◌, ◌⊎◌, ⊤, ℕ, ◌<◌, ◌≤◌, ◌++◌, ◌==◌, nat_lt, List, length, drop, Bool, true, false, not, MatchOption, encode_utf8_all, Option, Some, None, Result, Ok, Err, if◌then◌else◌}
+use Rattle.std.specs.Prelude.{◌≡◌, ◌⊎◌, ℕ, ◌<◌, ◌≤◌, ◌++◌, ◌==◌, nat_lt, List, length, drop, Bool, true, false, not, MatchOption, encode_utf8_all, Option, Some, None, Result, Ok, Err, if◌then◌else◌}
 use Rattle.std.specs.Option.{option_and_then, option_map, IsSomeAnd}
 use Rattle.std.specs.Str.{IsUtf8, chars}
 use Rattle.command_gate.specs.Denied.{is_denied}

@@ -1,5 +1,5 @@
 -- What a host that follows the document of a handle is told.
-use Rattle.std.specs.Prelude.{◌≡◌, ℕ, ◌<◌, List, Option, Some, None}
+use Rattle.std.specs.Prelude.{◌≡◌, ℕ, ◌<◌, List, Option, Some}
 use Rattle.packed_edits.specs.Packed.{packed}
 use Rattle.edit_engine.specs.Changes.{CanFollow, changes_of}
 use Rattle.edit_engine.specs.Editing.{EditorValue, document}

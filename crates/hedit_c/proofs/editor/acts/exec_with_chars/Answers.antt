@@ -1,5 +1,4 @@
 use Rattle.std.proofs.Common.{ℕ, List, refl, sym, subst}
-use Rattle.edit_engine.specs.Editing.{EditorValue}
 use Rattle.edit_engine.specs.Places.{range_in}
 use Rattle.hedit_c.specs.Calls.{WithAnswers}
 use Rattle.hedit_c.specs.declared.editor.status.Status.{Status}

@@ -1,5 +1,4 @@
 use Rattle.std.proofs.Common.{ℕ, List, sym, subst}
-use Rattle.edit_engine.specs.Editing.{EditorValue}
 use Rattle.hedit_c.specs.Calls.{ReplaceAnswers, pair_of_points}
 use Rattle.hedit_c.specs.declared.editor.status.Status.{Status}
 use Rattle.hedit_c.proofs.Replacing.{replace_answers}
