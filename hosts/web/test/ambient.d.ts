@@ -21,6 +21,12 @@ interface Window {
   [name: string]: any;
 }
 
+/** What a selector finds has the properties of its own kind. */
+interface ParentNode {
+  querySelector(selectors: string): any;
+  querySelectorAll(selectors: string): NodeListOf<any>;
+}
+
 interface Array<T> {
   toReversed(): T[];
 }
