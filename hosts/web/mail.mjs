@@ -29,7 +29,7 @@ function tell(name, joined) {
   }
 }
 
-/** Writes the mail and the toolbar, where the buttons that are on stand in brackets. */
+/** Writes the mail and the toolbar, with the buttons that are on in brackets. */
 function show() {
   const buttons = BUTTONS.map((button) => (editor.state(button) ? `[${button}]` : button));
   stdout.write(`${editor.html()}toolbar: ${buttons.join(" ")}\n`);

@@ -13,11 +13,12 @@ import { leaveLocked } from "./region_typing.js";
 /** @typedef {import("./region_view.js").View} View */
 
 /**
- * What a region does beside what the engine's commands do. Each is on, and `false` switches it off.
+ * What a region does beside what the engine's commands do. Each is on but `autoformat`, and `false`
+ * switches it off.
  * docs/SURPRISES.md, "Differences from browsers", has a session for most of them.
  * @typedef {object} Habits
  * @property {boolean} keepStyle Enter goes on in the style of the text before it, within blocks of
- *   one kind.
+ *   one kind, and a space keeps the style that is set.
  * @property {boolean} keepSpaces A space that Enter leaves at the end or at the start of a line
  *   becomes U+00A0, so that it shows, and is still there when the lines are joined.
  * @property {boolean} keepAlignment `formatBlock` keeps the alignment.
@@ -25,8 +26,8 @@ import { leaveLocked } from "./region_typing.js";
  * @property {boolean} hiliteAtCaret `backColor` at a caret colours what is typed, as `hiliteColor`
  *   does.
  * @property {boolean} indentSublists `indent` takes the lists in an item along.
- * @property {boolean} outdentWhole `outdent` and Backspace take a quoted block with formats in it out
- *   of its quotation as it is.
+ * @property {boolean} outdentWhole `outdent` and Backspace take quoted blocks with formats in them out
+ *   of their only quotation as they are.
  * @property {boolean} deleteIntoLinks Backspace behind a link takes its last character, and not the
  *   link.
  * @property {boolean} joinItems Backspace at the start of an item joins it with the one before at
@@ -37,10 +38,12 @@ import { leaveLocked } from "./region_typing.js";
  *   flag, an emoji of several, a letter with its accents.
  * @property {boolean} leaveLocked A caret that a command leaves in a locked part goes back to where
  *   it was.
+ * @property {boolean} autoformat `- `, `* `, `1. ` and `> ` that are typed at the start of a paragraph
+ *   make a list or a quotation.
  */
 
 /**
- * The habits that a region has by default: all of them.
+ * The habits that a region has by default.
  * @type {Readonly<Habits>}
  */
 export const HABITS = Object.freeze({
@@ -57,6 +60,7 @@ export const HABITS = Object.freeze({
   plainAcrossBlocks: true,
   wholeClusters: true,
   leaveLocked: true,
+  autoformat: false,
 });
 
 /**
@@ -185,6 +189,11 @@ export class Commands {
   /** Notes that something else than a command changed what is shown. */
   noteChange() {
     this.#done.isChanged = true;
+  }
+
+  /** Whether the last command typed a text, and nothing was selected since. */
+  get isTyping() {
+    return this.#isTyping;
   }
 
   /** @param {Selection} selection */

@@ -127,6 +127,27 @@ export function keepStyle(commands, next) {
 }
 
 /**
+ * Keeps the style that is set where a space is typed: at the end of a line the engine drops it. Within a
+ * run of typing the text has the style.
+ * @type {Habit}
+ */
+export function keepStyleOverSpace(commands, next, value) {
+  const [spaces] = /^ */.exec(value) ?? [""];
+  if (spaces === "" || commands.isTyping || !commands.isCaret()) {
+    return next();
+  }
+  if (spaces !== value) {
+    return commands.type(spaces) && commands.type(value.slice(spaces.length));
+  }
+  const style = styleAt(commands);
+  const isDone = next();
+  if (isDone) {
+    carry(commands, style);
+  }
+  return isDone;
+}
+
+/**
  * The states and values at the selection, but for what a link there has by itself.
  * @param {Commands} commands
  * @returns {Style}

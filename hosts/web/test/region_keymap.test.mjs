@@ -18,7 +18,8 @@ function pressed(flags, key, code = "", others = {}) {
 }
 
 describe("keys", () => {
-  const NAMES = ["Mod+Shift+7", "alt+x", "Mod+Alt+0", "Mod+?", "Mod++", "F2", "Shift+Enter", "Mod+/"];
+  const SIGNS = ["Mod+Shift+7", "alt+x", "Mod+Alt+0", "Mod+?", "Mod++", "Mod+/"];
+  const NAMES = [...SIGNS, "F2", "Shift+Enter", "Alt+Tab"];
   const keymap = Object.fromEntries(NAMES.map((name) => [name.replace("alt", "Alt"), name]));
 
   const ROWS = [
@@ -54,6 +55,7 @@ describe("keys", () => {
     ["Win32", "F2", ["", "F2", "F2"]],
     ["Win32", "Shift+Enter", ["s", "Enter", "Enter"]],
     ["Win32", undefined, ["", "Enter", "Enter"]],
+    ["Linux x86_64", "Alt+Tab", ["a", "Unidentified", "Tab"]],
     // What an input method takes, and what another listener has taken.
     ["Win32", undefined, ["c", "b", "KeyB", { isComposing: true }]],
     ["MacIntel", undefined, ["m", "b", "KeyB", { keyCode: 229 }]],
