@@ -2,17 +2,19 @@
  * What a call changed in the document: edits by the labels of nodes, in their order.
  */
 
+import { NodeKind } from "./hedit_constants.js";
+
 /**
- * A node of a tree that comes into the document: how many levels it stands below the root of the
- * tree, its label and its content. An element has a name and attributes, a text and a comment have a
- * value.
- * @typedef {object} TreeNode
- * @property {number} level
- * @property {number} label
- * @property {number} kind
- * @property {string} name
- * @property {Map<string, string>} attributes
- * @property {string} value
+ * A node of a tree that comes into the document, with its level below the root of the tree. An
+ * element has a name and attributes, a text and a comment have a value.
+ * @typedef {{
+ *   readonly level: number,
+ *   readonly label: number,
+ *   readonly kind: NodeKind,
+ *   readonly name: string,
+ *   readonly attributes: Map<string, string>,
+ *   readonly value: string,
+ * }} TreeNode
  */
 
 /**
@@ -32,8 +34,6 @@
  */
 
 const NO_NODE = 0xffffffff;
-const ELEMENT = 1;
-const DOCUMENT = 9;
 const decoder = new TextDecoder("utf-8", { ignoreBOM: true });
 
 /**
@@ -83,15 +83,15 @@ class Reader {
   #node() {
     const level = this.#number();
     const label = this.#number();
-    const kind = this.#number();
-    const isElement = kind === ELEMENT;
+    const kind = /** @type {NodeKind} */ (this.#number());
+    const isElement = kind === NodeKind.ELEMENT;
     return {
       level,
       label,
       kind,
       name: isElement ? this.#text() : "",
       attributes: isElement ? this.#attributes() : new Map(),
-      value: isElement || kind === DOCUMENT ? "" : this.#text(),
+      value: isElement || kind === NodeKind.DOCUMENT ? "" : this.#text(),
     };
   }
 

@@ -12,7 +12,19 @@ import {
 
 /** @typedef {import("./clean_tree.js").CleanNode} CleanNode */
 /** @typedef {import("./clean_style.js").Style} Style */
-/** @typedef {import("./clean.js").Dropped} Dropped */
+
+/**
+ * A part of the input that `cleanPage` left out: `element` with its content, `tags` of an element whose
+ * content stayed, an `attribute`, or a declaration of a `style`. `element` is the name of the element in
+ * the input, and `name` that of the attribute or of the property. There is a `value` if other values of
+ * the attribute are kept.
+ * @typedef {{
+ *   readonly kind: "element" | "tags" | "attribute" | "style",
+ *   readonly element: string,
+ *   readonly name?: string,
+ *   readonly value?: string,
+ * }} Dropped
+ */
 
 /**
  * @typedef {{

@@ -30,10 +30,18 @@
 
 import { readChanges } from "./changes.js";
 import { limit, listOf, member, placeNumber } from "./hedit_arguments.js";
-import { NodeKind, Question, View } from "./hedit_constants.js";
+import { Question, View } from "./hedit_constants.js";
 import { EditorClosed, answer } from "./hedit_errors.js";
 import { Library } from "./hedit_library.js";
 import { compileModule } from "./hedit_load.js";
+import {
+  isPoint,
+  readCounts,
+  readNode,
+  readNumber,
+  readPoint,
+  readSelection,
+} from "./hedit_records.js";
 import { DECODER, bytesOf } from "./hedit_text.js";
 
 export { NodeKind, PageKind, Question, Status, View } from "./hedit_constants.js";
@@ -54,102 +62,26 @@ export {
 export { missingFeatures } from "./hedit_load.js";
 export { toCharacters, toUnits } from "./hedit_text.js";
 
-/** The version of this file, and of the module that it came with. */
+/** The version of hedit.js, and of the module that it came with. */
 export const VERSION = "0.9.0";
 
+/** @typedef {import("./changes.js").Change} Change */
+/** @typedef {import("./changes.js").TreeNode} TreeNode */
+/** @typedef {import("./hedit_load.js").Source} Source */
+/** @typedef {import("./hedit_records.js").Counts} Counts */
+/** @typedef {import("./hedit_records.js").Mark} Mark */
+/** @typedef {import("./hedit_records.js").Node} Node */
+/** @typedef {import("./hedit_records.js").Place} Place */
+/** @typedef {import("./hedit_records.js").Point} Point */
+/** @typedef {import("./hedit_records.js").Selection} Selection */
 /** @typedef {import("./hedit_text.js").Text} Text */
 
-/** @typedef {import("./hedit_library.js").Loan} Loan */
-
-/** @typedef {{ readonly path: readonly number[], readonly offset: number }} Place */
-
-/** @typedef {{ readonly label: number, readonly offset: number }} Point */
-
-/** @typedef {{ readonly anchor: Point, readonly focus: Point }} Selection */
-
 /**
- * A name for what is between two points; the name is bytes where it isn't UTF-8.
- * @typedef {{ readonly name: Text, readonly anchor: Point, readonly focus: Point }} Mark
+ * What a page may come to.
+ * @typedef {object} Limits
+ * @property {number} [labelCap] No node gets a number from here on. 2,000,000 by default.
+ * @property {number} [undoDepth] So many commands can be undone. 100 by default.
  */
-
-/**
- * What a node is: the count of its characters or of its children, and the labels of the nodes beside
- * it, null where there is none.
- * @typedef {object} Node
- * @property {number} label
- * @property {typeof NodeKind[keyof typeof NodeKind]} kind
- * @property {number} length
- * @property {number | null} parent
- * @property {number | null} firstChild
- * @property {number | null} lastChild
- * @property {number | null} previous
- * @property {number | null} next
- */
-
-/**
- * The numbers of a page and of its history: `edits` are those of the step that undo would take, and
- * `undo` and `redo` count steps.
- * @typedef {object} Counts
- * @property {number} nodes
- * @property {number} nextLabel
- * @property {number} chars
- * @property {number} edits
- * @property {number} undo
- * @property {number} redo
- */
-
-/**
- * No node gets a number from `labelCap` on (2,000,000 by default), and `undoDepth` commands can be
- * undone (100 by default).
- * @typedef {{ readonly labelCap?: number, readonly undoDepth?: number }} Limits
- */
-
-/** The label in the place of a node that isn't there. */
-const NO_NODE = 0xffff_ffff;
-
-/**
- * @param {DataView} data
- * @param {number} at
- */
-function readNumber(data, at) {
-  return data.getUint32(at, true);
-}
-
-/**
- * @param {DataView} data
- * @param {number} at
- */
-function readLabel(data, at) {
-  const label = readNumber(data, at);
-  return label === NO_NODE ? null : label;
-}
-
-/**
- * @param {DataView} data
- * @param {number} at
- * @returns {Point}
- */
-function readPoint(data, at) {
-  return { label: readNumber(data, at), offset: readNumber(data, at + 4) };
-}
-
-/**
- * @param {DataView} data
- * @param {number} at
- * @returns {Selection}
- */
-function readSelection(data, at) {
-  return { anchor: readPoint(data, at), focus: readPoint(data, at + 8) };
-}
-
-/**
- * Whether a place is a point.
- * @param {Place | Point} place
- * @returns {place is Point}
- */
-function isPoint(place) {
-  return "label" in place;
-}
 
 /** An editor of a page, which `Engine.open` gives. Close it: one that is collected is closed then. */
 export class Editor {
@@ -162,6 +94,7 @@ export class Editor {
   #lengths;
 
   /**
+   * @private
    * @param {Library} library
    * @param {Text} page
    * @param {Limits} limits
@@ -185,7 +118,7 @@ export class Editor {
   /**
    * The status of a call on this editor, with the words that are made for it.
    * @param {string} name
-   * @param {(loan: Loan) => unknown[]} words
+   * @param {(loan: import("./hedit_library.js").Loan) => unknown[]} words
    * @returns {number}
    */
   #status(name, words = () => []) {
@@ -211,7 +144,7 @@ export class Editor {
    * @param {string} name
    * @param {number} size
    * @param {(data: DataView, at: number) => T} read
-   * @param {(loan: Loan) => unknown[]} words
+   * @param {(loan: import("./hedit_library.js").Loan) => unknown[]} words
    */
   #record(name, size, read, words = () => []) {
     return this.#library.borrow((loan) => {
@@ -242,7 +175,7 @@ export class Editor {
    * @param {string} name
    * @param {number} size that of an item in bytes
    * @param {(view: DataView, at: number) => Item} read
-   * @param {(loan: Loan) => unknown[]} words
+   * @param {(loan: import("./hedit_library.js").Loan) => unknown[]} words
    */
   #items(name, size, read, words) {
     return this.#library.borrow((loan) => {
@@ -262,8 +195,7 @@ export class Editor {
 
   /**
    * Executes a command by its name, in any case. False where it isn't possible here, refuses the
-   * value, or is denied: `denied` has up to 16 names of commands. What a command does inside itself
-   * isn't asked for.
+   * value, or is one of up to 16 that are denied.
    * @param {Text} name
    * @param {Text} value
    * @param {Iterable<string>} denied
@@ -292,8 +224,8 @@ export class Editor {
   }
 
   /**
-   * Puts a text in place of what stands between two places or points: selects it and inserts the text,
-   * as one command, which goes on with a run of typing. False where there is no editing host.
+   * Puts a text in place of what is between two places or points, as one command, which goes on with
+   * a run of typing. False where there is no editing host.
    * @param {Place | Point} anchor
    * @param {Place | Point} focus
    * @param {Text} text
@@ -318,15 +250,20 @@ export class Editor {
    * @param {string} name
    * @param {Place | Point} anchor
    * @param {Place | Point} focus
-   * @param {(loan: Loan) => unknown[]} words
+   * @param {(loan: import("./hedit_library.js").Loan) => unknown[]} words
    */
   #between(name, anchor, focus, words = () => []) {
     if (isPoint(anchor) || isPoint(focus)) {
       const points = [...this.#point(anchor), ...this.#point(focus)];
       answer(this.#status(`${name}_points`, (loan) => [...words(loan), ...points]));
     } else {
-      const places = (/** @type {Loan} */ loan) => [...loan.place(anchor), ...loan.place(focus)];
-      answer(this.#status(name, (loan) => [...words(loan), ...places(loan)]));
+      answer(
+        this.#status(name, (loan) => [
+          ...words(loan),
+          ...loan.place(anchor),
+          ...loan.place(focus),
+        ]),
+      );
     }
   }
 
@@ -340,8 +277,7 @@ export class Editor {
   }
 
   /**
-   * Selects from a place or a point to another, or puts the caret at one. Between points its cost
-   * doesn't grow with the page.
+   * Selects from a place or a point to another, or puts the caret at one.
    * @param {Place | Point} anchor
    * @param {Place | Point} focus
    */
@@ -374,13 +310,14 @@ export class Editor {
 
   /**
    * What a command answers to a question: the value is a text, and the others are flags.
-   * @param {typeof Question[keyof typeof Question]} question
+   * @template {Question} Asked
+   * @param {Asked} question
    * @param {Text} name
-   * @returns {boolean | string}
+   * @returns {Asked extends typeof Question.VALUE ? string : boolean}
    */
   ask(question, name) {
     const { flag, text } = this.#ask(member(Question, question), name);
-    return question === Question.VALUE ? text : flag;
+    return /** @type {any} */ (question === Question.VALUE ? text : flag);
   }
 
   /**
@@ -444,7 +381,7 @@ export class Editor {
 
   /**
    * What is printed of the editor, in whole lines.
-   * @param {typeof View[keyof typeof View]} kind
+   * @param {View} kind
    */
   view(kind) {
     member(View, kind);
@@ -475,7 +412,7 @@ export class Editor {
     return this.view(View.POINTS);
   }
 
-  /** The numbers of the page and of the history, as a line; `counts` has them one by one. */
+  /** The numbers of the page and of the history, as a line. */
   numbers() {
     return this.view(View.NUMBERS);
   }
@@ -485,20 +422,11 @@ export class Editor {
    * @returns {Counts}
    */
   counts() {
-    const counts = this.#record("hedit_numbers", 40, (data, at) => ({
-      nodes: data.getUint32(at, true),
-      nextLabel: data.getUint32(at + 4, true),
-      chars: Number(data.getBigUint64(at + 8, true)),
-      edits: Number(data.getBigUint64(at + 16, true)),
-      undo: Number(data.getBigUint64(at + 24, true)),
-      redo: Number(data.getBigUint64(at + 32, true)),
-    }));
-    return /** @type {Counts} */ (counts);
+    return /** @type {Counts} */ (this.#record("hedit_numbers", 40, readCounts));
   }
 
   /**
-   * How many calls have changed the page. Where it is what it was before
-   * a call, the call changed nothing.
+   * How many calls have changed the page.
    */
   revision() {
     const read = (/** @type {DataView} */ data, /** @type {number} */ at) =>
@@ -507,9 +435,8 @@ export class Editor {
   }
 
   /**
-   * What the last call that changed something changed, from the first edit
-   * to the last. A tree that was the page before that call, and follows them, is the page.
-   * @returns {import("./changes.js").Change[]}
+   * What the last call that changed something changed, from the first edit to the last.
+   * @returns {Change[]}
    */
   changes() {
     return this.#library.borrow((loan) => {
@@ -617,23 +544,15 @@ export class Editor {
    */
   node(label) {
     const number = placeNumber(label);
-    const read = (/** @type {DataView} */ data, /** @type {number} */ at) => ({
-      label,
-      kind: /** @type {Node["kind"]} */ (data.getUint32(at, true)),
-      length: data.getUint32(at + 4, true),
-      parent: readLabel(data, at + 8),
-      firstChild: readLabel(data, at + 12),
-      lastChild: readLabel(data, at + 16),
-      previous: readLabel(data, at + 20),
-      next: readLabel(data, at + 24),
-    });
+    const read = (/** @type {DataView} */ data, /** @type {number} */ at) =>
+      readNode(label, data, at);
     return /** @type {Node} */ (this.#record("hedit_node", 28, read, () => [number]));
   }
 
   /**
-   * The labels of a node's children, from the first to the last. The one that is given last may be
-   * removed meanwhile.
+   * The labels of a node's children. The one that is given last may be removed meanwhile.
    * @param {number} label
+   * @returns {IterableIterator<number>}
    */
   children(label) {
     return this.#from(this.node(label).firstChild);
@@ -668,8 +587,7 @@ export class Editor {
   }
 
   /**
-   * The HTML of a node with all that stands below it; that of the document is the HTML of its
-   * children.
+   * The HTML of a node; of the document, that of its children.
    * @param {number} label
    */
   nodeHtml(label) {
@@ -677,9 +595,7 @@ export class Editor {
   }
 
   /**
-   * The plain text of a node with all that stands below it: the characters of its texts and a line
-   * feed for each br. Where a block begins or ends between two of these, a line feed comes between
-   * them, unless the first one is a line feed.
+   * The plain text of a node: lines for blocks and for each br.
    * @param {number} label
    */
   nodeText(label) {
@@ -687,8 +603,8 @@ export class Editor {
   }
 
   /**
-   * The points at which a text occurs in the texts of a node and of all that stands below it, in
-   * tree order, none overlapping. Each occurrence stands in one text. The offsets count characters.
+   * The points at which a text occurs in the text nodes of a node, by default of the whole document.
+   * They are in tree order, and the occurrences don't overlap.
    * @param {Text} text
    * @param {number} label
    * @returns {Point[]}
@@ -722,16 +638,25 @@ if (dispose) {
   Object.defineProperty(Editor.prototype, dispose, { value: Editor.prototype.close });
 }
 
+/**
+ * The constructor of editors, which is private outside of this module.
+ * @type {new (library: Library, page: Text, limits: Limits) => Editor}
+ */
+const NewEditor = /** @type {any} */ (Editor);
+
 /** The engine. Its editors share a memory, which grows as they need and is freed with the engine. */
 export class Engine {
   #library;
 
-  /** @param {WebAssembly.Exports} exports those of hedit.wasm */
+  /**
+   * @private
+   * @param {WebAssembly.Exports} exports those of hedit.wasm
+   */
   constructor(exports) {
     this.#library = new Library(exports);
   }
 
-  /** The version of the module; `VERSION` is that of this file. */
+  /** The version of the module; `VERSION` is that of hedit.js. */
   version() {
     const number = this.#library.call("hedit_version");
     return [number >> 16, (number >> 8) & 255, number & 255].join(".");
@@ -741,15 +666,17 @@ export class Engine {
    * Opens a page.
    * @param {Text} page
    * @param {Limits} limits
+   * @returns {Editor}
    */
   open(page, limits = {}) {
-    return new Editor(this.#library, page, limits);
+    return new NewEditor(this.#library, page, limits);
   }
 
   /**
-   * Runs a session of the program, as its command line has the words: the status and the transcript.
+   * Runs a session of the program, as its command line has the words.
    * @param {Text} text
    * @param {readonly string[]} words
+   * @returns {{ status: import("./hedit_constants.js").Status, transcript: string }}
    */
   session(text, words = ["run"]) {
     return this.#library.borrow((loan) => {
@@ -759,18 +686,25 @@ export class Engine {
       const { status, bytes } = loan.printed(4096 + 4 * input.length, (...buffer) =>
         this.#library.call("hedit_session_with_words", ...given, ...buffer),
       );
-      return { status, transcript: DECODER.decode(bytes) };
+      const ended = /** @type {import("./hedit_constants.js").Status} */ (status);
+      return { status: ended, transcript: DECODER.decode(bytes) };
     });
   }
 }
 
 /**
- * Loads the engine: hedit.wasm beside this file, or at another address, or its response or bytes.
- * Throws EngineUnsupported where the browser lacks what the engine needs, and EngineNotLoaded where a
- * server gives no engine. A server that sends it as application/wasm lets it be compiled while it comes.
- * @param {import("./hedit_load.js").Source} source
+ * The constructor of engines, which is private outside of this module.
+ * @type {new (exports: WebAssembly.Exports) => Engine}
+ */
+const NewEngine = /** @type {any} */ (Engine);
+
+/**
+ * Loads the engine: hedit.wasm next to hedit.js, or at another address, or its response or bytes.
+ * Throws EngineUnsupported or EngineNotLoaded.
+ * @param {Source} source
+ * @returns {Promise<Engine>}
  */
 export async function load(source = new URL("hedit.wasm", import.meta.url)) {
   const { exports } = await WebAssembly.instantiate(await compileModule(source));
-  return new Engine(exports);
+  return new NewEngine(exports);
 }

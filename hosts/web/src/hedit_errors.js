@@ -4,32 +4,38 @@
 
 import { Status } from "./hedit_constants.js";
 
+/** @typedef {import("./hedit_constants.js").PageKind} PageKind */
+
 /** A call was refused. The editor is as before. */
 export class HeditError extends Error {
   name = "HeditError";
 
   /**
    * The status that the engine answered.
-   * @type {number | undefined}
+   * @readonly
+   * @type {Status | undefined}
    */
   status = undefined;
 }
 
-/**
- * The text is no page: what stands before `at` begins one, and `kind` says why no more does. `at`
- * counts UTF-16 units of a string, and bytes of a Uint8Array.
- */
+/** The text is no page: what stands before `at` begins one, and `kind` says why no more does. */
 export class PageRefused extends HeditError {
   name = "PageRefused";
+  /** @readonly */
   status = Status.PAGE_REFUSED;
 
   /**
    * @param {number} at
-   * @param {import("./hedit.js").PageKind} kind
+   * @param {PageKind} kind
    */
   constructor(at, kind) {
     super(`no page: ${kind} at ${at}`);
+    /**
+     * In UTF-16 units of a string, in bytes of a Uint8Array.
+     * @readonly
+     */
     this.at = at;
+    /** @readonly */
     this.kind = kind;
   }
 }
@@ -37,6 +43,7 @@ export class PageRefused extends HeditError {
 /** A path or a label names no node, or an offset is past its length or inside a character. */
 export class BadPlace extends HeditError {
   name = "BadPlace";
+  /** @readonly */
   status = Status.BAD_PLACE;
 
   constructor(message = "no such place") {
@@ -47,6 +54,7 @@ export class BadPlace extends HeditError {
 /** 16 marks of other names are there. */
 export class TooManyMarks extends HeditError {
   name = "TooManyMarks";
+  /** @readonly */
   status = Status.TOO_MANY_MARKS;
 
   constructor(message = "too many marks") {
@@ -57,6 +65,7 @@ export class TooManyMarks extends HeditError {
 /** The command would have made a node whose number reaches the cap. */
 export class PageFull extends HeditError {
   name = "PageFull";
+  /** @readonly */
   status = Status.FULL;
 
   constructor(message = "the page is full") {
@@ -67,6 +76,7 @@ export class PageFull extends HeditError {
 /** The document is too deep for commands. */
 export class TooDeep extends HeditError {
   name = "TooDeep";
+  /** @readonly */
   status = Status.DEEP;
 
   constructor(message = "the page is too deep") {
@@ -77,6 +87,7 @@ export class TooDeep extends HeditError {
 /** There was no memory for the call. */
 export class OutOfMemory extends HeditError {
   name = "OutOfMemory";
+  /** @readonly */
   status = Status.MEMORY;
 
   constructor(message = "out of memory") {
@@ -87,6 +98,7 @@ export class OutOfMemory extends HeditError {
 /** A number is outside its limits, a text isn't Unicode, or a name that is denied is none. */
 export class BadArgument extends HeditError {
   name = "BadArgument";
+  /** @readonly */
   status = Status.BAD_ARGUMENT;
 
   constructor(message = "an argument means nothing") {
@@ -97,6 +109,7 @@ export class BadArgument extends HeditError {
 /** The editor is closed. */
 export class EditorClosed extends HeditError {
   name = "EditorClosed";
+  /** @readonly */
   status = Status.CLOSED;
 
   constructor(message = "the editor is closed") {
@@ -104,21 +117,22 @@ export class EditorClosed extends HeditError {
   }
 }
 
-/**
- * An earlier call stopped in the middle, as when JavaScript's stack was full, and its error is the
- * `cause`. The engine can't go on, with any of its editors: load another one.
- */
+/** An earlier call stopped in the middle, by the `cause`. Load another engine. */
 export class EngineStopped extends HeditError {
   name = "EngineStopped";
 }
 
-/** The browser lacks what the engine needs, and `missing` names that. */
+/** The browser, or this version of Node, lacks what the engine needs. */
 export class EngineUnsupported extends HeditError {
   name = "EngineUnsupported";
 
   /** @param {readonly string[]} missing */
   constructor(missing) {
     super(`the engine can't run here, since ${missing.join(", ")} is missing: use a newer version`);
+    /**
+     * Names of what is missing, as `missingFeatures` gives them.
+     * @readonly
+     */
     this.missing = missing;
   }
 }

@@ -4,7 +4,10 @@
 
 import { EngineNotLoaded, EngineUnsupported } from "./hedit_errors.js";
 
-/** @typedef {string | URL | Response | PromiseLike<Response> | BufferSource} Source */
+/**
+ * Where hedit.wasm comes from: its address, or its response or bytes.
+ * @typedef {string | URL | Response | PromiseLike<Response> | BufferSource} Source
+ */
 
 const MEDIA_TYPE = "application/wasm";
 
@@ -41,8 +44,7 @@ function passesBigInt() {
 }
 
 /**
- * Names what the engine needs and this browser, or this version of Node, doesn't have. The list is
- * empty where the engine runs.
+ * Names what the engine needs and this browser, or this version of Node, doesn't have.
  * @returns {string[]}
  */
 export function missingFeatures() {

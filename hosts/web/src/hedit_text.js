@@ -61,8 +61,8 @@ function width(text, at) {
 }
 
 /**
- * An offset in a text node as the engine counts it, in characters, from the DOM's, in UTF-16 units.
- * Throws BadPlace where the text has no such offset between two characters.
+ * An offset in a text node in characters, as the engine counts, from one in UTF-16 units. Throws
+ * BadPlace where the text has no such offset between two characters.
  * @param {string} text the text node's text
  * @param {number} units
  */
@@ -80,8 +80,8 @@ export function toCharacters(text, units) {
 }
 
 /**
- * An offset in a text node as the DOM counts it, in UTF-16 units, from the engine's, in characters.
- * Throws BadPlace where the text has no such offset.
+ * An offset in a text node in UTF-16 units, as the DOM counts, from one in characters. Throws BadPlace
+ * where the text has no such offset.
  * @param {string} text the text node's text
  * @param {number} characters
  */

@@ -23,33 +23,36 @@ import { isBlock, isCaret, isCharacters, isElement, isSame, isText } from "./reg
 /** @typedef {import("./region_view.js").View} View */
 
 /**
- * Each can be switched off by `false`. docs/SURPRISES.md, "Differences from browsers", has a session
- * for most of them.
+ * What a region does beside what the engine's commands do. Each is on, and `false` switches it off.
+ * docs/SURPRISES.md, "Differences from browsers", has a session for most of them.
  * @typedef {object} Habits
  * @property {boolean} keepStyle Enter goes on in the style of the text before it, within blocks of
- *   one kind
- * @property {boolean} keepSpaces a space that Enter leaves at the end or at the start of a line
- *   becomes U+00A0, so that it shows, and is still there when the lines are joined
- * @property {boolean} keepAlignment `formatBlock` keeps the alignment
- * @property {boolean} quoteByIndent `formatBlock` with `blockquote` indents
+ *   one kind.
+ * @property {boolean} keepSpaces A space that Enter leaves at the end or at the start of a line
+ *   becomes U+00A0, so that it shows, and is still there when the lines are joined.
+ * @property {boolean} keepAlignment `formatBlock` keeps the alignment.
+ * @property {boolean} quoteByIndent `formatBlock` with `blockquote` indents.
  * @property {boolean} hiliteAtCaret `backColor` at a caret colours what is typed, as `hiliteColor`
- *   does
- * @property {boolean} indentSublists `indent` takes the lists in an item along
+ *   does.
+ * @property {boolean} indentSublists `indent` takes the lists in an item along.
  * @property {boolean} outdentWhole `outdent` and Backspace take a quoted block with formats in it out
- *   of its quotation as it is
+ *   of its quotation as it is.
  * @property {boolean} deleteIntoLinks Backspace behind a link takes its last character, and not the
- *   link
+ *   link.
  * @property {boolean} joinItems Backspace at the start of an item joins it with the one before at
- *   once
- * @property {boolean} leaveLinks what is typed at the end of a link stands behind it
- * @property {boolean} plainAcrossBlocks what is typed over blocks of two kinds has no style of theirs
+ *   once.
+ * @property {boolean} leaveLinks What is typed at the end of a link stands behind it.
+ * @property {boolean} plainAcrossBlocks What is typed over blocks of two kinds has no style of theirs.
  * @property {boolean} wholeClusters Backspace and Delete take what a user sees as one character: a
- *   flag, an emoji of several, a letter with its accents
- * @property {boolean} leaveLocked a caret that a command leaves in a locked part goes back to where
- *   it was
+ *   flag, an emoji of several, a letter with its accents.
+ * @property {boolean} leaveLocked A caret that a command leaves in a locked part goes back to where
+ *   it was.
  */
 
-/** @type {Readonly<Habits>} */
+/**
+ * The habits that a region has by default: all of them.
+ * @type {Readonly<Habits>}
+ */
 export const HABITS = Object.freeze({
   keepStyle: true,
   keepSpaces: true,

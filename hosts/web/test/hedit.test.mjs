@@ -42,32 +42,6 @@ describe("the header", async () => {
   });
 });
 
-describe("hedit.d.ts", async () => {
-  const types = await readFile(new URL("../src/hedit.d.ts", import.meta.url), "utf8");
-
-  it("has what is exported", () => {
-    const names = [...types.matchAll(/^export declare (?:const|class|function) (\w+)/gm)];
-    assert.deepEqual(names.map(([, name]) => name).sort(), Object.keys(hedit).sort());
-  });
-
-  it("has the calls of the classes", () => {
-    for (const name of ["Editor", "Engine"]) {
-      const [body] = types.split(`class ${name} {`)[1].split("\n}");
-      const calls = new Set([...body.matchAll(/^  (?:private )?(\w+)\(/gm)].map(([, call]) => call));
-      assert.deepEqual(calls, new Set(Object.getOwnPropertyNames(hedit[name].prototype)));
-    }
-  });
-
-  it("has the numbers and the words", () => {
-    for (const name of ["Status", "Question", "View", "NodeKind", "PageKind"]) {
-      const [body] = types.split(`const ${name}: Readonly<{`)[1].split("}>");
-      const members = [...body.matchAll(/(\w+): ([^;]+);?/g)];
-      const values = members.map(([, key, value]) => [key, JSON.parse(value)]);
-      assert.deepEqual(Object.fromEntries(values), { ...hedit[name] });
-    }
-  });
-});
-
 describe("an editor", () => {
   it("selects, executes, undoes and redoes", () => {
     const editor = engine.open(PAGE);
