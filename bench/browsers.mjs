@@ -11,12 +11,13 @@
  *
  * - A formatting command may not lose, add or reorder characters but whitespace, or images and rules. It is counted by
  *   itself if `createLink` at a caret adds the address as text.
- * - An island is torn if it isn't what it was, but something of it is there, or if it is there twice. It is lost if
+ * - An island is altered if it isn't what it was, but something of it is there, or if it is there twice. It is lost if
  *   nothing of it is there after a formatting command. Other commands may remove it.
  * - Undo restores the page, but for empty and adjacent text nodes. Where it does, the selection has to be between the
  *   same characters as before, in the same blocks.
  *
- * `--list` prints each fault. It needs hosts/web/dist/hedit.wasm, and takes the browsers that are there.
+ * `--list` prints each fault. It needs hosts/web/dist/hedit.wasm, and takes the browsers that are there. WebKit doesn't
+ * tell its version.
  */
 import { argv, exit } from "node:process";
 import { parseArgs } from "node:util";
@@ -304,13 +305,13 @@ async function inBrowser({ Browser }, cases) {
     const page = await browser.open(server.address);
     await page.until(() => document.title === "Commands");
     const agent = await page.evaluate(() => navigator.userAgent);
-    const version = /(?:Chrome|Firefox|Version)\/(\d+(?:\.[1-9]\d*)?)/.exec(agent)?.[1] ?? "";
+    const version = /(?:Chrome|Firefox)\/(\d+)/.exec(agent)?.[1] ?? "";
     const asked = cases.map(({ host, ...rest }) => ({ html: htmlOf(host), ...rest }));
     const courses = [];
     for (let from = 0; from < asked.length; from += BATCH) {
       courses.push(...(await page.evaluate(runInBrowser, asked.slice(from, from + BATCH))));
     }
-    return { name: `${Browser.name} ${version}`, courses };
+    return { name: `${Browser.name} ${version}`.trim(), courses };
   } finally {
     await browser.close();
     server.close();
@@ -403,10 +404,10 @@ function faultOfIslands({ before, after }, command) {
   const faults = [...had].map(([id, [island]]) => {
     const now = has.get(id) ?? [];
     if (now.length === 1 && now[0] === island) return undefined;
-    if (now.length || text.includes(`Kite${id}.`) || text.includes(`Lark${id}.`)) return "islands torn";
+    if (now.length || text.includes(`Kite${id}.`) || text.includes(`Lark${id}.`)) return "islands altered";
     return command in FORMATTING ? "islands lost" : undefined;
   });
-  return faults.includes("islands torn") ? "islands torn" : faults.find(Boolean);
+  return faults.includes("islands altered") ? "islands altered" : faults.find(Boolean);
 }
 
 /** A node without empty and adjacent texts, as a text. */
@@ -451,7 +452,7 @@ function faultOfUndo({ before, undone }) {
 /** What each thing that is counted may come to. */
 const KINDS = {
   "formatting commands": ["text lost", "text added", "text reordered", "address added"],
-  "commands next to islands": ["islands torn", "islands lost"],
+  "commands next to islands": ["islands altered", "islands lost"],
   undos: ["page not restored", "selection not restored"],
 };
 
