@@ -5,8 +5,8 @@
  *     node bench/browsers.mjs [SEED [PAGES]] [--list]
  *
  * Each page is an editing host with blocks, lists, tables, formatted text and islands (parts that aren't editable).
- * In each a selection is made between two places of its text, a command is executed, and, where it changed the page,
- * undone. Pages, selections and commands come from SEED, and are the same for all. A page that the engine refuses is
+ * In each a selection is made between two places of its text, a command is executed, and undone if it changed the
+ * page. Pages, selections and commands come from SEED, and are the same for all. A page that the engine refuses is
  * left out. The table has what was done, and below it how often that went wrong:
  *
  * - A formatting command may not lose, add or reorder characters but whitespace, or images and rules. It is counted by
@@ -144,7 +144,7 @@ class Maker {
     return element(name, this.inline(depth - 1, isLinked || name === "a"), attributes);
   }
 
-  /** Text with formatting, breaks, images and islands. No space is next to a break, where it isn't shown. */
+  /** Text with formatting, breaks, images and islands. No space is next to a break: it wouldn't be shown there. */
   inline(depth = 2, isLinked = false) {
     const parts = this.#many(0, 3, () => {
       const turn = this.below(12);
