@@ -185,6 +185,24 @@ uint32_t hedit_replace(hedit_editor *editor, uint32_t anchor, uint32_t anchor_of
                        uint32_t focus, uint32_t focus_offset, const uint8_t *text,
                        size_t text_length);
 
+/* How hedit_exec_with executes a command. */
+typedef struct hedit_exec_options {
+    uint32_t joined; /* not 0: its edits are added to the previous step, as by hedit_exec_joined */
+    uint32_t ranged; /* not 0: it works on the range between the two points */
+    uint32_t anchor, anchor_offset;
+    uint32_t focus, focus_offset;
+} hedit_exec_options;
+
+/* Executes a command like hedit_exec_gated, with options. The calls above are cases of this one. With a
+ * range the command selects that first, and the selection is left where the command leaves it. So an
+ * application formats a range within a step, which a call that selects would end. Also HEDIT_BAD_PLACE if
+ * an end of the range isn't in the document. After any status but HEDIT_DONE the selection is as before,
+ * too. */
+HEDIT_API
+uint32_t hedit_exec_with(hedit_editor *editor, const hedit_exec_options *options,
+                         const uint8_t *denied, size_t denied_length, const uint8_t *name,
+                         size_t name_length, const uint8_t *value, size_t value_length);
+
 /* Undo or redo one step. HEDIT_DONE, HEDIT_NO if there is none, HEDIT_CLOSED. They take no
  * memory. */
 HEDIT_API

@@ -60,6 +60,13 @@ struct Selection {
     Point focus;
 };
 
+/* How a command is executed. */
+struct ExecOptions {
+    std::optional<Selection> range; /* what it selects first and works on */
+    bool joined = false;            /* whether its edits are added to the previous undo step */
+    std::string_view denied;        /* names that are denied, as "bold,insertImage" */
+};
+
 /* A named range, which follows the edits. The name is any bytes. */
 struct Mark {
     std::string name;
@@ -328,6 +335,17 @@ class Editor {
     bool exec_joined(std::string_view name, std::string_view value = "") {
         return answer(
             hedit_exec_joined(&handle_, bytes(name), name.size(), bytes(value), value.size()));
+    }
+
+    /* Executes a command with options: on a range, as part of the previous undo step, or unless it
+     * is denied. The selection is left where the command leaves it. */
+    bool exec(std::string_view name, std::string_view value, const ExecOptions &options) {
+        Selection range = options.range.value_or(Selection{});
+        hedit_exec_options told = {options.joined,     options.range.has_value(),
+                                   range.anchor.label, range.anchor.offset,
+                                   range.focus.label,  range.focus.offset};
+        return answer(hedit_exec_with(&handle_, &told, bytes(options.denied), options.denied.size(),
+                                      bytes(name), name.size(), bytes(value), value.size()));
     }
 
     /* Replaces the range between two points by a text, as one command, which continues a run of

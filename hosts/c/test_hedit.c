@@ -636,6 +636,42 @@ static void steps(void) {
     CHECK(joined(&editor, "bold", "") == HEDIT_CLOSED);
 }
 
+static uint32_t with(hedit_editor *editor, hedit_exec_options options, const char *denied,
+                     const char *name, const char *value) {
+    return hedit_exec_with(editor, &options, (const uint8_t *)denied, strlen(denied),
+                           (const uint8_t *)name, strlen(name), (const uint8_t *)value,
+                           strlen(value));
+}
+
+static void options(void) {
+    hedit_editor editor = opened(PAGE);
+    uint32_t text = label_at(&editor, 0, 0, 9);
+    hedit_exec_options range = {0, 1, text, 0, text, 1};
+    hedit_exec_options joined_range = {1, 1, text, 1, text, 2};
+    hedit_exec_options past_the_end = {0, 1, text, 0, text, 3};
+    hedit_exec_options none = {0, 0, 98, 9, 98, 9};
+    hedit_selection_facts facts;
+    CHECK(with(&editor, none, "", "bold", "") == HEDIT_NO);
+    CHECK(with(&editor, past_the_end, "", "bold", "") == HEDIT_BAD_PLACE);
+    CHECK(with(&editor, past_the_end, "", "nonsense", "") == HEDIT_BAD_PLACE);
+    CHECK(with(&editor, past_the_end, "bold", "bold", "") == HEDIT_NO);
+    CHECK(with(&editor, range, "italic,Bold", "bold", "") == HEDIT_NO);
+    CHECK(with(&editor, range, ",", "bold", "") == HEDIT_BAD_ARGUMENT);
+    CHECK(with(&editor, range, "", "\xff", "") == HEDIT_BAD_ARGUMENT);
+    CHECK(with(&editor, range, "", "nonsense", "") == HEDIT_NO);
+    CHECK(hedit_selection(&editor, &facts) == HEDIT_NO && undo_steps(&editor) == 0);
+    CHECK(with(&editor, range, "italic", "bold", "") == HEDIT_DONE && undo_steps(&editor) == 1);
+    CHECK(hedit_selection(&editor, &facts) == HEDIT_DONE);
+    text = label_at(&editor, 0, 1, 9);
+    joined_range.anchor = joined_range.focus = text;
+    joined_range.anchor_offset = 0;
+    joined_range.focus_offset = 1;
+    CHECK(with(&editor, joined_range, "", "italic", "") == HEDIT_DONE && undo_steps(&editor) == 1);
+    CHECK(hedit_undo(&editor) == HEDIT_DONE && counts(&editor, 3, 0, 0, 1));
+    hedit_close(&editor);
+    CHECK(with(&editor, range, "", "bold", "") == HEDIT_CLOSED);
+}
+
 static void replacements(void) {
     hedit_editor editor = opened(PAGE);
     uint32_t text = label_at(&editor, 0, 0, 9);
@@ -668,6 +704,7 @@ int main(void) {
     mistakes();
     gates();
     steps();
+    options();
     replacements();
     points();
     selected();

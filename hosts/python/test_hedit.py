@@ -259,6 +259,16 @@ class Steps(unittest.TestCase):
         self.editor.exec_joined("italic")
         self.assertEqual(self.editor.counts().undo, 2)
 
+    def test_a_range_is_formatted_within_a_step(self) -> None:
+        self.assertTrue(self.editor.exec("bold", range=(Point(self.text, 0), Point(self.text, 4))))
+        self.assertTrue(self.editor.exec("italic", range=(((0, 1), 0), ((0, 1), 1)), joined=True))
+        self.assertEqual(self.editor.counts().undo, 1)
+        self.assertFalse(self.editor.exec("bold", denied=["bold"], range=(((0,), 0), ((0,), 1))))
+        with self.assertRaises(hedit.BadPlace):
+            self.editor.exec("bold", range=(Point(self.text, 0), Point(self.text, 99)))
+        self.assertTrue(self.editor.undo())
+        self.assertEqual(self.editor.html(), '<p contenteditable="">Call Ann</p>\n')
+
     def test_a_replacement_goes_on_with_what_is_typed(self) -> None:
         self.editor.select(Point(self.text, 8))
         self.editor.exec("insertText", " teh")

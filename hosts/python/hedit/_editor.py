@@ -24,6 +24,7 @@ from ._library import (
     LENGTH,
     NO_NODE,
     NUMBER,
+    ExecOptions,
     Handle,
     NodeFacts,
     NumberFacts,
@@ -212,15 +213,31 @@ class Editor:
         """Frees the editor's memory. Later calls are refused."""
         self._call("hedit_close")
 
-    def exec(self, name: str | bytes, value: str | bytes = "", denied: Iterable[str] = ()) -> bool:
+    def exec(
+        self,
+        name: str | bytes,
+        value: str | bytes = "",
+        denied: Iterable[str] = (),
+        *,
+        range: tuple[Place | Point, Place | Point] | None = None,
+        joined: bool = False,
+    ) -> bool:
         """Executes a command by its name, in any case. Returns False if it isn't enabled, refuses the
         value, or is one of the up to 16 names in `denied`. Commands that a command executes inside
-        itself aren't checked."""
+        itself aren't checked.
+
+        With a range, from an anchor to a focus, the command selects that first and works on it. The
+        selection is left where the command leaves it. The edits of a joined command are added to the
+        previous undo step, as by `exec_joined`."""
         names = names_words(denied)
         words = (*text_words(name), *text_words(value))
-        if names[1]:
-            return answer(self._call("hedit_exec_gated", *names, *words))
-        return answer(self._call("hedit_exec", *words))
+        if range is None and not names[1]:
+            return answer(self._call("hedit_exec_joined" if joined else "hedit_exec", *words))
+        options = ExecOptions(joined=joined)
+        if range is not None:
+            anchor, focus = (self._point(end) for end in range)
+            options = ExecOptions(joined, True, *anchor, *focus)
+        return answer(self._call("hedit_exec_with", ctypes.byref(options), *names, *words))
 
     def exec_joined(self, name: str | bytes, value: str | bytes = "") -> bool:
         """Executes a command like `exec`, but adds its edits to the previous undo step, if a command

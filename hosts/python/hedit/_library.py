@@ -55,6 +55,19 @@ class SelectionFacts(ctypes.Structure):
     ]
 
 
+class ExecOptions(ctypes.Structure):
+    """How a command is executed."""
+
+    _fields_ = [
+        ("joined", NUMBER),
+        ("ranged", NUMBER),
+        ("anchor", NUMBER),
+        ("anchor_offset", NUMBER),
+        ("focus", NUMBER),
+        ("focus_offset", NUMBER),
+    ]
+
+
 class PointFacts(ctypes.Structure):
     """The label of a node, and an offset in it."""
 
@@ -90,6 +103,7 @@ CALLS: dict[str, list[Any]] = {
     "hedit_exec": EDITOR + TEXT + TEXT,
     "hedit_exec_gated": EDITOR + TEXT + TEXT + TEXT,
     "hedit_exec_joined": EDITOR + TEXT + TEXT,
+    "hedit_exec_with": [*EDITOR, ctypes.POINTER(ExecOptions), *TEXT, *TEXT, *TEXT],
     "hedit_replace": EDITOR + POINT + POINT + TEXT,
     "hedit_undo": EDITOR,
     "hedit_redo": EDITOR,

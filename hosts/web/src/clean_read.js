@@ -396,14 +396,14 @@ function tells([property, value], name, { isBold, isSlanted }) {
  * @returns {Surroundings}
  */
 function within(around, name, isLink, { weight, slope, whiteSpace }) {
-  const isNamed = (/** @type {ReadonlySet<string>[]} */ ...sets) =>
+  const isIn = (/** @type {ReadonlySet<string>[]} */ ...sets) =>
     name !== null && sets.some((set) => set.has(name));
   return {
     depth: around.depth + 1,
     isLinked: around.isLinked || isLink,
-    isBold: around.isBold || isNamed(BOLD, BOLD_BLOCKS) || /^(?:bold|[6-9]00)/.test(weight),
+    isBold: around.isBold || isIn(BOLD, BOLD_BLOCKS) || /^(?:bold|[6-9]00)/.test(weight),
     isSlanted:
-      around.isSlanted || isNamed(SLANTED, SLANTED_BLOCKS) || /^(?:italic|oblique)/.test(slope),
+      around.isSlanted || isIn(SLANTED, SLANTED_BLOCKS) || /^(?:italic|oblique)/.test(slope),
     whiteSpace: whiteSpaceWithin(around.whiteSpace, name, whiteSpace),
   };
 }

@@ -29,7 +29,7 @@
  */
 
 import { readChanges } from "./changes.js";
-import { limit, listOf, member, placeNumber } from "./hedit_arguments.js";
+import { execOptions, limit, listOf, member, placeNumber } from "./hedit_arguments.js";
 import { Question, View } from "./hedit_constants.js";
 import { EditorClosed, answer } from "./hedit_errors.js";
 import { Library } from "./hedit_library.js";
@@ -75,6 +75,16 @@ export const VERSION = "0.9.0";
 /** @typedef {import("./hedit_records.js").Point} Point */
 /** @typedef {import("./hedit_records.js").Selection} Selection */
 /** @typedef {import("./hedit_text.js").Text} Text */
+
+/**
+ * How a command is executed.
+ * @typedef {object} ExecOptions
+ * @property {{ readonly anchor: Place | Point, readonly focus: Place | Point }} [range] The command selects
+ *   this first and works on it. The selection is left where the command leaves it.
+ * @property {boolean} [joined] Whether the edits are added to the previous undo step, as by `execJoined`.
+ *   False by default.
+ * @property {Iterable<string>} [denied] Up to 16 names of commands that are refused.
+ */
 
 /**
  * The limits of a document and of its history.
@@ -194,18 +204,26 @@ export class Editor {
 
   /**
    * Executes a command by its name, in any case. Returns false if it isn't enabled, refuses the value,
-   * or is one of the up to 16 denied names.
+   * or is denied. A list of names in place of the options has the denied ones.
    * @param {Text} name
-   * @param {Text} value
-   * @param {Iterable<string>} denied
+   * @param {Text} [value]
+   * @param {ExecOptions | Iterable<string>} [options]
    */
-  exec(name, value = "", denied = []) {
+  exec(name, value = "", options = {}) {
+    const { range, joined = false, denied = [] } = execOptions(options);
     const names = listOf(denied);
+    /** @param {import("./hedit_library.js").Loan} loan */
+    const words = (loan) => [...loan.text(name), ...loan.text(value)];
+    if (!range && !names) {
+      return answer(this.#status(joined ? "hedit_exec_joined" : "hedit_exec", words));
+    }
+    const points = range ? [...this.#point(range.anchor), ...this.#point(range.focus)] : [0, 0, 0, 0];
+    const numbers = Uint32Array.of(Number(joined), Number(Boolean(range)), ...points);
     return answer(
-      this.#status(names ? "hedit_exec_gated" : "hedit_exec", (loan) => [
-        ...(names ? loan.text(names) : []),
-        ...loan.text(name),
-        ...loan.text(value),
+      this.#status("hedit_exec_with", (loan) => [
+        loan.array(numbers)[0],
+        ...loan.text(names),
+        ...words(loan),
       ]),
     );
   }

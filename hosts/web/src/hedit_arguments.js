@@ -42,6 +42,16 @@ export function member(enumeration, value) {
 }
 
 /**
+ * Returns how a command is executed, from options or from the names that are denied.
+ * @param {import("./hedit.js").ExecOptions | Iterable<string>} options
+ * @returns {import("./hedit.js").ExecOptions}
+ */
+export function execOptions(options) {
+  const isList = typeof options !== "object" || options === null || Symbol.iterator in options;
+  return /** @type {import("./hedit.js").ExecOptions} */ (isList ? { denied: options } : options);
+}
+
+/**
  * Returns names of commands as a text, separated by commas.
  * @param {Iterable<string>} names
  */

@@ -162,7 +162,8 @@ static bool grow(size_t size) {
     if (!(eighth > needed && is_grown(had, eighth)) && !is_grown(had, needed))
         return false;
     if (!end)
-        end = block_of((void *)(((size_t)&__heap_base + sizeof(size_t) + UNIT - 1) & ~(size_t)(UNIT - 1)));
+        end = block_of(
+            (void *)(((size_t)&__heap_base + sizeof(size_t) + UNIT - 1) & ~(size_t)(UNIT - 1)));
     block *grown = end;
     end = block_of((void *)(__builtin_wasm_memory_size(0) * PAGE));
     end->head = 0;
@@ -240,6 +241,8 @@ void rattle_dealloc(void *bytes) { release(bytes); }
 
 void *memcpy(void *to, const void *from, size_t count) { return __builtin_memcpy(to, from, count); }
 
-void *memmove(void *to, const void *from, size_t count) { return __builtin_memmove(to, from, count); }
+void *memmove(void *to, const void *from, size_t count) {
+    return __builtin_memmove(to, from, count);
+}
 
 void *memset(void *to, int byte, size_t count) { return __builtin_memset(to, byte, count); }

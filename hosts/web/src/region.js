@@ -22,21 +22,25 @@
  * A region is an EventTarget, with the events of `RegionEvents`.
  *
  * These of what differs from browsers stay as the engine has them: `formatBlock` drops classes and other
- * attributes of the block, `unlink` at a caret takes the link around it away, `outdent` of several
- * quoted blocks takes those with formats apart, and the elements for a style are the engine's.
+ * attributes of the block, `unlink` at a caret takes the link around it away, `outdent` takes quoted
+ * blocks with formats apart where a list or another quotation is among them or around, and the elements
+ * for a style are the engine's.
  */
 import { HABITS } from "./region_commands.js";
 import { Controller } from "./region_controller.js";
+import { KEYMAP } from "./region_keymap.js";
 import { regionOf } from "./region_owner.js";
 import { missing } from "./region_support.js";
 
-export { HABITS };
+export { HABITS, KEYMAP };
 
 /** @typedef {import("./clean.js").CleanOptions} CleanOptions */
 /** @typedef {import("./hedit.js").Engine} Engine */
 /** @typedef {import("./hedit.js").Limits} Limits */
 /** @typedef {import("./hedit.js").Point} Point */
 /** @typedef {import("./region_commands.js").Habits} Habits */
+/** @typedef {import("./region_keymap.js").KeyAction} KeyAction */
+/** @typedef {import("./region_keymap.js").Keymap} Keymap */
 /** @typedef {import("./region_shown.js").ViewOptions} ViewOptions */
 
 /**
@@ -52,6 +56,7 @@ export { HABITS };
  *   meant, by whatever way, and not for what a command or a habit does inside itself.
  * @property {ViewOptions} [view] What is shown of the page.
  * @property {boolean} [readOnly] Whether nothing can be edited: by default it can.
+ * @property {Keymap} [keymap] What keys do beside those of `KEYMAP`, or in their place.
  * @property {() => Promise<Engine>} [reload] Gives another engine where this one has stopped.
  * @property {boolean} [debug] After each event the region checks itself, and throws what differs.
  */

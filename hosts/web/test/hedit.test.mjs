@@ -214,6 +214,33 @@ describe("denied names", () => {
   });
 });
 
+describe("a command with options", () => {
+  const open = (t) => {
+    const editor = engine.open(PAGE);
+    t.after(() => editor.close());
+    return { editor, text: editor.labelAt([0, 0]) };
+  };
+
+  it("works on a range within a step", (t) => {
+    const { editor, text } = open(t);
+    const range = { anchor: { label: text, offset: 0 }, focus: { label: text, offset: 4 } };
+    assert.equal(editor.exec("bold", "", { range }), true);
+    const rest = { anchor: { path: [0, 1], offset: 0 }, focus: { path: [0, 1], offset: 1 } };
+    assert.equal(editor.exec("italic", "", { range: rest, joined: true }), true);
+    assert.equal(editor.counts().undo, 1);
+    assert.equal(editor.undo(), true);
+    assert.equal(editor.html(), '<p contenteditable="">Call Ann</p>\n');
+  });
+
+  it("is refused where its name is denied or its range is nowhere", (t) => {
+    const { editor, text } = open(t);
+    const range = { anchor: { label: text, offset: 0 }, focus: { label: text, offset: 99 } };
+    assert.equal(editor.exec("bold", "", { range, denied: ["bold"] }), false);
+    refused(() => editor.exec("bold", "", { range }), "BadPlace", Status.BAD_PLACE);
+    assert.equal(editor.selection(), null);
+  });
+});
+
 describe("a cause has a class", () => {
   const open = (t, page, limits) => {
     const editor = engine.open(page, limits);

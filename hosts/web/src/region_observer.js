@@ -9,19 +9,19 @@ import { isCaret, windowOf } from "./region_nodes.js";
 /** @typedef {import("./region_user.js").Acts} Acts */
 
 /**
- * What of a region its mends need, beside what its user's acts do.
+ * What of a region its observer needs, beside what its user's acts do.
  * @typedef {Acts & {
- *   answer: (call: () => void) => void,
+ *   handle: (call: () => void) => void,
  *   finish: (call: () => boolean) => boolean,
- *   tell: (kind: "input" | "statechange") => void,
- * }} Mending
+ *   dispatch: (kind: "input" | "statechange") => void,
+ * }} ObserverActs
  */
 
 /** The most changes of the page that wait to be looked at one by one. */
 const MOST_WAITING = 1000;
 
-/** What a region hears and mends of what the page changes. */
-export class Mends {
+/** Observes what the page changes in a region, and mends it. */
+export class DOMObserver {
   #element;
 
   #region;
@@ -34,10 +34,10 @@ export class Mends {
    * What the page changed and wasn't looked at yet.
    * @type {MutationRecord[]}
    */
-  #waiting = [];
+  #records = [];
 
   /** Whether it changed more than what waits. */
-  #isAdrift = false;
+  #hasLostRecords = false;
 
   /**
    * What the browser changed while an input method composes, and how many steps there were before.
@@ -47,16 +47,16 @@ export class Mends {
 
   /**
    * @param {HTMLElement} element
-   * @param {Mending} region
+   * @param {ObserverActs} region
    */
   constructor(element, region) {
     const page = /** @type {Window & typeof globalThis} */ (windowOf(element));
     this.#element = element;
     this.#region = region;
-    const mend = () => region.answer(() => this.mend());
-    this.#budget = new Budget(page, mend, () => this.#giveIn());
+    const mend = () => region.handle(() => this.readDOMChange());
+    this.#budget = new Budget(page, mend, () => this.#contest());
     this.#observer = new page.MutationObserver((records) => {
-      region.answer(() => this.#observe(records));
+      region.handle(() => this.#observe(records));
     });
   }
 
@@ -75,8 +75,8 @@ export class Mends {
   }
 
   /** Whether something waits to be mended. */
-  get isBehind() {
-    return this.#waiting.length > 0 || this.#isAdrift;
+  get isPending() {
+    return this.#records.length > 0 || this.#hasLostRecords;
   }
 
   /** Listens to the page. */
@@ -96,7 +96,7 @@ export class Mends {
   }
 
   /** Forgets what the page tells of, as it is what the region itself just did. */
-  skip() {
+  discardRecords() {
     this.#observer.takeRecords();
   }
 
@@ -104,46 +104,46 @@ export class Mends {
    * Changes the page otherwise than to show what the engine did.
    * @param {() => void} call
    */
-  quietly(call) {
+  unobserved(call) {
     const records = this.#observer.takeRecords();
     call();
-    this.skip();
+    this.discardRecords();
     if (records.length > 0) {
-      this.#region.answer(() => this.#observe(records));
+      this.#region.handle(() => this.#observe(records));
     }
   }
 
   /** Mends what waits, if it may: the markup is asked for. */
-  catchUp() {
+  flushWithinBudget() {
     this.#note(this.#observer.takeRecords());
-    if (this.isBehind && this.#budget.take()) {
-      this.mend();
+    if (this.isPending && this.#budget.take()) {
+      this.readDOMChange();
     }
   }
 
   /** Reads what the browser did that wasn't told yet, as the user acts now. */
-  settle() {
-    this.composed();
-    this.#isAdrift ||= this.isContested;
+  flush() {
+    this.endComposition();
+    this.#hasLostRecords ||= this.isContested;
     this.#budget.reset();
-    this.mend();
+    this.readDOMChange();
   }
 
   /**
    * Begins to compose. So that it all happens in one text, what is selected goes before, unless it is
    * a part of one: then the engine puts what is composed in its place at once.
    */
-  compose() {
+  startComposition() {
     if (!this.#region.isEditable()) {
       return;
     }
-    this.settle();
+    this.flush();
     this.#region.read();
     const { steps, editor, selections, commands } = this.#session;
     const before = steps.length;
     const isWhole = !isCaret(editor.selection()) && !selections.isPartOfText();
     if (isWhole && !this.#region.isDenied("insertText")) {
-      this.#region.act(() => commands.deleteSelection());
+      this.#region.act(() => commands.run("delete"));
     }
     this.#composing = { records: [], steps: before };
   }
@@ -152,14 +152,14 @@ export class Mends {
    * Reads back what was composed, as one step of undo.
    * @param {string} text what the input method gave, where it has ended
    */
-  composed(text = "") {
+  endComposition(text = "") {
     if (!this.#composing) {
       return;
     }
     const { records, steps } = this.#composing;
     this.#composing = null;
     this.#note(records);
-    this.mend(text);
+    this.readDOMChange(text);
     this.#session.steps.join(steps);
   }
 
@@ -168,11 +168,11 @@ export class Mends {
    * that one had begun.
    * @param {string} text what it gave
    */
-  ended(text) {
+  compositionEnded(text) {
     if (this.#composing) {
-      this.composed(text);
+      this.endComposition(text);
     } else {
-      this.mend();
+      this.readDOMChange();
     }
   }
 
@@ -183,10 +183,10 @@ export class Mends {
   #observe(records) {
     this.#note(records);
     if (this.#composing) {
-      this.#composing.records.push(...this.#waiting.splice(0));
-      this.#region.tell("input");
-    } else if (this.isBehind && this.#budget.take()) {
-      this.mend();
+      this.#composing.records.push(...this.#records.splice(0));
+      this.#region.dispatch("input");
+    } else if (this.isPending && this.#budget.take()) {
+      this.readDOMChange();
     }
   }
 
@@ -197,10 +197,10 @@ export class Mends {
   #note(records) {
     const isPages = (/** @type {MutationRecord} */ { type, target }) =>
       type === "attributes" && target === this.#element;
-    this.#waiting.push(...records.filter((record) => !isPages(record)));
-    if (this.#waiting.length > MOST_WAITING && !this.#composing) {
-      this.#waiting = [];
-      this.#isAdrift = true;
+    this.#records.push(...records.filter((record) => !isPages(record)));
+    if (this.#records.length > MOST_WAITING && !this.#composing) {
+      this.#records = [];
+      this.#hasLostRecords = true;
     }
   }
 
@@ -209,21 +209,21 @@ export class Mends {
    * all that it changed.
    * @param {string | null} composed what an input method gave, where one did it
    */
-  mend(composed = null) {
+  readDOMChange(composed = null) {
     this.#note(this.#observer.takeRecords());
-    const [records, isAdrift] = [this.#waiting.splice(0), this.#isAdrift];
-    this.#isAdrift = false;
-    if (records.length === 0 && !isAdrift) {
+    const [records, hasLostRecords] = [this.#records.splice(0), this.#hasLostRecords];
+    this.#hasLostRecords = false;
+    if (records.length === 0 && !hasLostRecords) {
       return;
     }
     const { view, readback } = this.#session;
-    const isRead = !isAdrift && this.#region.isEditable();
+    const isRead = !hasLostRecords && this.#region.isEditable();
     const write = isRead ? readback.writeOf(records, composed) : null;
     const labels = records.flatMap(({ target }) => view.nearest(target) ?? []);
-    for (const label of new Set(isAdrift ? [view.root] : labels)) {
+    for (const label of new Set(hasLostRecords ? [view.root] : labels)) {
       view.mend(label);
     }
-    this.skip();
+    this.discardRecords();
     const isDenied = write !== null && this.#region.isDenied(write.command);
     this.#region.finish(write && !isDenied ? write.call : () => false);
     if (isDenied) {
@@ -232,8 +232,8 @@ export class Mends {
   }
 
   /** Begins to rest, as a script of the page undoes each mend. */
-  #giveIn() {
+  #contest() {
     console.warn("hedit: a script of the page undoes what the region shows");
-    this.#region.tell("statechange");
+    this.#region.dispatch("statechange");
   }
 }
