@@ -1,19 +1,20 @@
 #!/usr/bin/env node
 /**
- * What typing character by character into one paragraph takes, in hedit and in ProseMirror's model, which another
- * editor stands on. Both keep what undo needs:
+ * What typing character by character into one paragraph takes, in hedit and in ProseMirror's model, which
+ * another editor uses. Both keep what undo needs:
  *
  *     node bench/typing.mjs [PROGRAM] [KEYS] [ROUNDS]
  *
- * PROGRAM is crates/hedit/out/hedit unless given, with 10,000 keys in five rounds. It needs GNU time, and Debian's
- * node-prosemirror-model and node-prosemirror-state. These two keep no history of their own, so each step that takes
- * a key back is kept in a list, as their history does.
+ * PROGRAM is crates/hedit/out/hedit unless given, with 10,000 keys in five rounds. It needs GNU time, and
+ * Debian's node-prosemirror-model and node-prosemirror-state. These two keep no history of their own, so
+ * each step that takes a key back is kept in a list, as their history does.
  *
- * Each round runs both in turn, each in a process of its own. The time is that of the clock: of hedit the whole
- * process, from its start to its end, with a line to read and an answer to write for each key; of the model the keys
- * alone. Beside it stands the processor's. The memory is by how much the peak of the process grows with the keys, and
- * of the model also what of its heap is still in use after a collection. Both are asked once whether undo gives the
- * paragraph as it was. It ends with status 1 where hedit's median is not the lower one, or where it keeps 2 MB.
+ * Each round runs both in turn, each in a process of its own. The time is wall-clock: of hedit the whole
+ * process, from its start to its end, with a line to read and an answer to write for each key; of the model
+ * the keys alone. CPU time is next to it. The memory is by how much the peak of the process grows with the
+ * keys, and of the model also what of its heap is still in use after a collection. Both are asked once
+ * whether undo gives the paragraph as it was. It ends with status 1 if hedit's median is not the lower one,
+ * or if it keeps 2 MB.
  */
 import { spawnSync } from "node:child_process";
 import { createRequire } from "node:module";
@@ -29,7 +30,7 @@ const MIB = 2 ** 20;
 
 // ---- hedit
 
-/** A session that types so many characters amid a text, and then does other acts. */
+/** A session that types so many characters inside a text, and then has other lines. */
 function session(keys, acts = []) {
   const page = `page <<END\n<div contenteditable="true"><p>${TEXT}</p></div>\nEND\nselect 0/0/0:2 0/0/0:2\n`;
   return page + "exec insertText x\n".repeat(keys) + acts.map((act) => `${act}\n`).join("");
@@ -86,7 +87,8 @@ function typeIntoModel(keys) {
   const kept = memoryUsage().heapUsed - used;
   const isTyped = state.doc.textContent.length === TEXT.length + keys;
   const undone = undo.reduceRight((tr, step) => tr.step(step), state.tr).doc;
-  console.log(JSON.stringify({ seconds, processor: (user + system) / 1e6, grown, kept, undoes: isTyped && undone.eq(start) }));
+  const undoes = isTyped && undone.eq(start);
+  console.log(JSON.stringify({ seconds, processor: (user + system) / 1e6, grown, kept, undoes }));
 }
 
 function model(keys) {
@@ -121,7 +123,8 @@ function compare(program, keys, count) {
   console.log(`of its heap the model keeps ${(median(rounds, (round) => round.model.kept) / MIB).toFixed(2)} MiB`);
   const undoes = { hedit: heditUndoes(program, keys), model: rounds.every((round) => round.model.undoes) };
   console.log(`undo gives the paragraph as it was: hedit ${undoes.hedit}, model ${undoes.model}; load after: ${loadavg()[0].toFixed(1)}`);
-  return undoes.hedit && undoes.model && figures.hedit.seconds < figures.model.seconds && figures.hedit.grown < MOST_KEPT;
+  const isLower = figures.hedit.seconds < figures.model.seconds;
+  return undoes.hedit && undoes.model && isLower && figures.hedit.grown < MOST_KEPT;
 }
 
 if (argv[2] === "--model") {

@@ -21,28 +21,68 @@ CPP = """\
 """
 
 TYPES = """\
-/** What a node is. */
-export interface Node {
-  readonly label: number;
-  /** Characters or children. */
-  readonly length: number | null;
-}
-
+/** @typedef {import("./errors.js").Place} Place */
+/**
+ * Loads the engine.
+ * @param {string} source
+ * @throws {NotLoaded} There is no file.
+ */
+export function load(source?: string): Promise<import("./errors.js").Engine>;
 /** An editor. */
-export declare class Editor {
-  private constructor();
-
-  /** Selects from a place to another. */
-  select(
-    anchor: Place,
-    focus?: Place,
-  ): void;
+export class Editor {
+    /**
+     * @private
+     */
+    private constructor();
+    /**
+     * Selects from a place to another.
+     * @param {Place} anchor
+     */
+    select(anchor: Place): {
+        ok: boolean;
+        missing: string[];
+    };
+    #private;
 }
+export type Place = import("./errors.js").Place;
+export type Other = import("./region.js").Other;
+/**
+ * What a page may come to.
+ */
+export type Limits = Depth & {
+    /**
+     * So many commands.
+     */
+    undo?: ((count: number) => void) | undefined;
+};
+/**
+ * What is wanted.
+ */
+export type Wanted = import("./errors.js").More & Least;
+export type Least = {
+    /**
+     * So many at least.
+     */
+    readonly least: number | null;
+};
+export { NotLoaded } from "./errors.js";
+import { Depth } from "./errors.js";
+"""
 
-/** Loads the engine. */
-export declare function load(
-  source?: string | URL,
-): Promise<Engine>;
+ERRORS = """\
+/** There is no file. */
+export class NotLoaded extends Error {
+    constructor(message?: string);
+}
+/** Where something is. */
+export type Place = {
+    readonly path: readonly number[];
+    readonly offset: number;
+};
+export type More = {
+    /** So many at most. */
+    most?: number | undefined;
+};
 """
 
 
@@ -61,12 +101,27 @@ class Items(unittest.TestCase):
 
 class Pages(unittest.TestCase):
     def test_a_module_has_its_classes_and_its_calls(self) -> None:
-        text = api_pages.js_module("hedit.js", TYPES)
-        self.assertIn("| `readonly label: number` |  |", text)
-        self.assertIn("| `readonly length: number \\| null` | Characters or children. |", text)
-        self.assertIn("| `select(anchor: Place, focus?: Place): void` | Selects from", text)
-        self.assertIn("| `load(source?: string \\| URL): Promise<Engine>` | Loads the engine. |", text)
+        modules = api_pages.Modules({"hedit.js": TYPES, "errors.js": ERRORS})
+        text = modules.part("hedit.js")
+        self.assertIn("| `load(source?: string): Promise<Engine>` | Loads the engine. Throws NotLoaded: There", text)
+        self.assertIn("| `select(anchor: Place): { ok: boolean; missing: string[] }` | Selects from a place", text)
         self.assertNotIn("constructor", text)
+        self.assertNotIn("private", text)
+
+    def test_a_module_has_what_it_exports_of_others(self) -> None:
+        modules = api_pages.Modules({"hedit.js": TYPES, "errors.js": ERRORS})
+        text = modules.part("hedit.js")
+        self.assertIn("| `NotLoaded` | There is no file. |", text)
+        self.assertIn("| `Place`: `path`, `offset` | Where something is. |", text)
+        self.assertNotIn("Other`", text)
+
+    def test_a_type_has_its_members(self) -> None:
+        modules = api_pages.Modules({"hedit.js": TYPES, "errors.js": ERRORS})
+        text = modules.part("hedit.js")
+        self.assertIn("### Wanted\n\nWhat is wanted.\n", text)
+        self.assertIn("| `most?: number` | So many at most. |", text)
+        self.assertIn("| `readonly least: number \\| null` | So many at least. |", text)
+        self.assertIn("| `Limits`: `undo` | What a page may come to. |", text)
 
     def test_indented_lines_are_code(self) -> None:
         text = api_pages.paragraphs("First\nline:\n\n    a\n\n    b\n\n- one\n  more\n- two")

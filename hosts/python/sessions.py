@@ -44,7 +44,7 @@ LINE = re.compile(
 
 
 class FollowedEditor(Editor):
-    """An editor beside which a tree follows what each call changed."""
+    """An editor with a tree that follows what each call changed."""
 
     def __init__(self, page: str, **options: int) -> None:
         super().__init__(page, **options)

@@ -51,6 +51,47 @@ export function addressOf(text) {
 }
 
 /**
+ * The scheme of an address, as the browser reads it; the empty text if it can't.
+ * @param {string} address
+ */
+function schemeOf(address) {
+  try {
+    return new URL(address).protocol;
+  } catch {
+    return "";
+  }
+}
+
+/**
+ * Whether a link may lead to an address.
+ * @param {string} address
+ */
+export function isLinkAddress(address) {
+  const scheme = schemeOf(address);
+  const isWhole = /^mailto:[^@]+@[^@]+$/i.test(address) || /^tel:[+\d]/i.test(address);
+  return isWhole || (/^https?:$/.test(scheme) && /^https?:\/\/[^/]/i.test(address));
+}
+
+/**
+ * Whether a picture may come from an address: of the web, or one that holds it.
+ * @param {string} address
+ */
+export function isPictureAddress(address) {
+  const isData = /^data:image\/(?:png|jpeg|gif|webp);base64,[a-z\d+/=]+$/i.test(address);
+  return isData || (schemeOf(address) === "https:" && /^https:\/\/[^/]/i.test(address));
+}
+
+/**
+ * The text of some HTML, a line for each block.
+ * @param {string} html
+ */
+export function plainText(html) {
+  const lines = html.replace(/<(?:br|hr|\/(?:p|div|li|h[1-6]|tr|pre|blockquote))\b[^>]*>/gi, "$&\n");
+  const { body } = new DOMParser().parseFromString(lines, "text/html");
+  return (body.textContent ?? "").replace(/\n{3,}/g, "\n\n").trim();
+}
+
+/**
  * HTML as a mail program gets it: without what says that a part can't be edited.
  * @param {string} html
  */

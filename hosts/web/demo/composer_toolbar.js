@@ -182,30 +182,50 @@ export function onPopup(popup, opened, closes) {
   });
 }
 
-/** A menu of values of which one is chosen, in one column or in several. */
+/** A menu, of values of which one is chosen or of things to do, in one column or in several. */
 export class Menu {
   #element;
 
   /** @type {HTMLElement[]} */
-  #items;
+  #items = [];
 
   /**
    * @param {HTMLElement} element
    * @param {(item: HTMLElement) => void} choose
    * @param {(before: Element | null) => void} closes what `onPopup` calls
+   * @param {() => Promise<void>} [fill] puts the items in, each time that it opens
    */
-  constructor(element, choose, closes) {
+  constructor(element, choose, closes, fill) {
     this.#element = element;
-    this.#items = [...element.querySelectorAll("button")];
-    for (const item of this.#items) {
-      item.tabIndex = -1;
-      item.addEventListener("click", () => {
+    this.#takeItems();
+    element.addEventListener("click", ({ target }) => {
+      const item = /** @type {Element} */ (target).closest("button");
+      if (item && !isDisabled(item)) {
         element.hidePopover();
         choose(item);
-      });
-    }
+      }
+    });
     element.addEventListener("keydown", (event) => this.#move(event));
-    onPopup(element, () => (this.#chosen() ?? this.#items[0]).focus(), closes);
+    onPopup(element, () => (fill ? this.#fill(fill) : this.#enter()), closes);
+  }
+
+  #takeItems() {
+    this.#items = [...this.#element.querySelectorAll("button")];
+    for (const item of this.#items) {
+      item.tabIndex = -1;
+    }
+  }
+
+  #enter() {
+    (this.#chosen() ?? this.#items[0]).focus();
+  }
+
+  /** @param {() => Promise<void>} fill */
+  async #fill(fill) {
+    await fill();
+    this.#takeItems();
+    place(this.#element);
+    this.#enter();
   }
 
   /**
@@ -248,8 +268,8 @@ export class Menu {
    */
   #startingWith(letter, at) {
     const places = this.#items.map((_, step) => (at + 1 + step) % this.#items.length);
-    const begins = (/** @type {number} */ place) =>
-      nameOf(this.#items[place]).toLowerCase().startsWith(letter.toLowerCase());
+    const begins = (/** @type {number} */ other) =>
+      nameOf(this.#items[other]).toLowerCase().startsWith(letter.toLowerCase());
     return places.find(begins);
   }
 }

@@ -10,8 +10,23 @@ import { PageReader } from "./clean_read.js";
 import { isBlock, print } from "./clean_tree.js";
 import { makeWordLists } from "./clean_word.js";
 
-/** @typedef {import("./clean_read.js").Settings} Settings */
-/** @typedef {import("./clean.js").CleanOptions} CleanOptions */
+/** @typedef {import("./clean_read.js").Dropped} Dropped */
+
+/**
+ * How a page is cleaned.
+ * @typedef {object} CleanOptions
+ * @property {RegExp | Iterable<string>} [classes] Words of `class` that stay: a list, or an expression
+ *   that matches whole words. Default: none.
+ * @property {boolean} [relative] Whether relative addresses stay. Default: false.
+ * @property {boolean} [locked] Whether `contenteditable="false"` stays. Default: false.
+ * @property {number} [maxDepth] How many levels of elements stay, from 1 to 190. The text of deeper
+ *   ones stays. Default: 100.
+ * @property {boolean} [inline] Whether a page of one line gets no `p` around it, and keeps a space at
+ *   each end. Default: false.
+ * @property {(dropped: Dropped) => void} [report] Called for each part that is left out.
+ * @property {(html: string) => Document} [parse] Parses markup into a document in which nothing runs.
+ *   Default: a `DOMParser`.
+ */
 
 /** The engine reads 200 levels. */
 const MOST_DEPTH = 190;
@@ -74,7 +89,7 @@ function removeNames(document) {
 /**
  * Cleans a page once.
  * @param {string} html
- * @param {Settings} settings
+ * @param {import("./clean_read.js").Settings} settings
  * @param {(html: string) => Document} parse
  */
 function cleanOnce(html, settings, parse) {
@@ -90,7 +105,7 @@ function cleanOnce(html, settings, parse) {
 /**
  * Returns the text of a page, each line as a paragraph.
  * @param {string} html
- * @param {Settings} settings
+ * @param {import("./clean_read.js").Settings} settings
  * @param {(html: string) => Document} parse
  */
 function cleanText(html, settings, parse) {
@@ -102,7 +117,7 @@ function cleanText(html, settings, parse) {
 
 /**
  * @param {CleanOptions} options
- * @returns {Settings}
+ * @returns {import("./clean_read.js").Settings}
  */
 function settingsOf({ classes, relative = false, locked = false, inline = false, ...others }) {
   const { maxDepth = 100, report } = others;
@@ -123,10 +138,13 @@ function checkLength(html) {
 }
 
 /**
- * Cleans HTML from elsewhere; see clean.d.ts.
+ * Cleans HTML from elsewhere, such as a mail or the clipboard. The engine reads the result, and
+ * cleaning that again with the same options changes nothing. Text is lost only with elements that are
+ * removed with their content. It needs a browser's document.
  * @param {string} html
- * @param {CleanOptions} [options]
+ * @param {CleanOptions} options
  * @returns {string}
+ * @throws {PageRefused} The result has more than 4 MiB less 4 KiB.
  */
 export function cleanPage(html, options = {}) {
   const parse = options.parse ?? parseInert;

@@ -12,7 +12,19 @@ import {
 
 /** @typedef {import("./clean_tree.js").CleanNode} CleanNode */
 /** @typedef {import("./clean_style.js").Style} Style */
-/** @typedef {import("./clean.js").Dropped} Dropped */
+
+/**
+ * A part of the input that `cleanPage` left out: `element` with its content, `tags` of an element whose
+ * content stayed, an `attribute`, or a declaration of a `style`. `element` is the name of the element in
+ * the input, and `name` that of the attribute or of the property. There is a `value` if other values of
+ * the attribute are kept.
+ * @typedef {{
+ *   readonly kind: "element" | "tags" | "attribute" | "style",
+ *   readonly element: string,
+ *   readonly name?: string,
+ *   readonly value?: string,
+ * }} Dropped
+ */
 
 /**
  * @typedef {{
@@ -384,14 +396,14 @@ function tells([property, value], name, { isBold, isSlanted }) {
  * @returns {Surroundings}
  */
 function within(around, name, isLink, { weight, slope, whiteSpace }) {
-  const isNamed = (/** @type {ReadonlySet<string>[]} */ ...sets) =>
+  const isIn = (/** @type {ReadonlySet<string>[]} */ ...sets) =>
     name !== null && sets.some((set) => set.has(name));
   return {
     depth: around.depth + 1,
     isLinked: around.isLinked || isLink,
-    isBold: around.isBold || isNamed(BOLD, BOLD_BLOCKS) || /^(?:bold|[6-9]00)/.test(weight),
+    isBold: around.isBold || isIn(BOLD, BOLD_BLOCKS) || /^(?:bold|[6-9]00)/.test(weight),
     isSlanted:
-      around.isSlanted || isNamed(SLANTED, SLANTED_BLOCKS) || /^(?:italic|oblique)/.test(slope),
+      around.isSlanted || isIn(SLANTED, SLANTED_BLOCKS) || /^(?:italic|oblique)/.test(slope),
     whiteSpace: whiteSpaceWithin(around.whiteSpace, name, whiteSpace),
   };
 }

@@ -9,31 +9,39 @@
  *     editor.exec("bold");
  *     editor.html();
  *
- * A place is a path and an offset: the index of a child in each node on the way from the document
- * down, and a count of children in an element, or of characters in a text. Characters are Unicode
- * code points, and JavaScript counts UTF-16 units: `toCharacters` and `toUnits` convert.
+ * A place is a path and an offset. The path has the index of a child in each node, from the document
+ * down. The offset counts children in an element, and characters in a text node. Characters are
+ * Unicode code points, but JavaScript counts UTF-16 units: `toCharacters` and `toUnits` convert.
  *
- * A point has in place of the path the label of the node: a number that it keeps for as long as the
- * editor is open. The document's label is 0, and from there `children` leads to the others:
+ * A point has the label of a node instead of the path: a number that the node keeps as long as the
+ * editor is open. The document has 0, and `children` leads to the others:
  *
  *     const show = (label = 0) => {
  *       console.log(editor.node(label), editor.nodeName(label), editor.nodeValue(label));
  *       for (const child of editor.children(label)) show(child);
  *     };
  *
- * A call that is refused throws a `HeditError`, with a class of its own for each cause, and leaves
- * the editor as it was.
+ * A refused call throws a `HeditError`, with a class of its own for each cause, and leaves the editor
+ * as it was.
  *
- * The engine is a WebAssembly module with a memory of 32 bits. Its pointers and counts are BigInt,
- * and no call here takes or gives one. `missingFeatures` names what an older browser lacks for it.
+ * The engine is a WebAssembly module with a 32-bit memory. `missingFeatures` names what a browser
+ * lacks for it.
  */
 
 import { readChanges } from "./changes.js";
-import { limit, listOf, member, placeNumber } from "./hedit_arguments.js";
-import { NodeKind, Question, View } from "./hedit_constants.js";
+import { execOptions, limit, listOf, member, placeNumber } from "./hedit_arguments.js";
+import { Question, View } from "./hedit_constants.js";
 import { EditorClosed, answer } from "./hedit_errors.js";
 import { Library } from "./hedit_library.js";
 import { compileModule } from "./hedit_load.js";
+import {
+  isPoint,
+  readCounts,
+  readNode,
+  readNumber,
+  readPoint,
+  readSelection,
+} from "./hedit_records.js";
 import { DECODER, bytesOf } from "./hedit_text.js";
 
 export { NodeKind, PageKind, Question, Status, View } from "./hedit_constants.js";
@@ -54,114 +62,49 @@ export {
 export { missingFeatures } from "./hedit_load.js";
 export { toCharacters, toUnits } from "./hedit_text.js";
 
-/** The version of this file, and of the module that it came with. */
+/** The version of hedit.js, and of the module in its package. */
 export const VERSION = "0.9.0";
 
+/** @typedef {import("./changes.js").Change} Change */
+/** @typedef {import("./changes.js").TreeNode} TreeNode */
+/** @typedef {import("./hedit_load.js").Source} Source */
+/** @typedef {import("./hedit_records.js").Counts} Counts */
+/** @typedef {import("./hedit_records.js").Mark} Mark */
+/** @typedef {import("./hedit_records.js").Node} Node */
+/** @typedef {import("./hedit_records.js").Place} Place */
+/** @typedef {import("./hedit_records.js").Point} Point */
+/** @typedef {import("./hedit_records.js").Selection} Selection */
 /** @typedef {import("./hedit_text.js").Text} Text */
 
-/** @typedef {import("./hedit_library.js").Loan} Loan */
-
-/** @typedef {{ readonly path: readonly number[], readonly offset: number }} Place */
-
-/** @typedef {{ readonly label: number, readonly offset: number }} Point */
-
-/** @typedef {{ readonly anchor: Point, readonly focus: Point }} Selection */
-
 /**
- * A name for what is between two points; the name is bytes where it isn't UTF-8.
- * @typedef {{ readonly name: Text, readonly anchor: Point, readonly focus: Point }} Mark
+ * How a command is executed.
+ * @typedef {object} ExecOptions
+ * @property {{ readonly anchor: Place | Point, readonly focus: Place | Point }} [range] The command selects
+ *   this first and works on it. The selection is left where the command leaves it.
+ * @property {boolean} [joined] Whether the edits are added to the previous undo step, as by `execJoined`.
+ *   False by default.
+ * @property {Iterable<string>} [denied] Up to 16 names of commands that are refused.
  */
 
 /**
- * What a node is: the count of its characters or of its children, and the labels of the nodes beside
- * it, null where there is none.
- * @typedef {object} Node
- * @property {number} label
- * @property {typeof NodeKind[keyof typeof NodeKind]} kind
- * @property {number} length
- * @property {number | null} parent
- * @property {number | null} firstChild
- * @property {number | null} lastChild
- * @property {number | null} previous
- * @property {number | null} next
+ * The limits of a document and of its history.
+ * @typedef {object} Limits
+ * @property {number} [labelCap] No node gets a label from here on. 2,000,000 by default.
+ * @property {number} [undoDepth] How many commands can be undone. 100 by default.
  */
 
-/**
- * The numbers of a page and of its history: `edits` are those of the step that undo would take, and
- * `undo` and `redo` count steps.
- * @typedef {object} Counts
- * @property {number} nodes
- * @property {number} nextLabel
- * @property {number} chars
- * @property {number} edits
- * @property {number} undo
- * @property {number} redo
- */
-
-/**
- * No node gets a number from `labelCap` on (2,000,000 by default), and `undoDepth` commands can be
- * undone (100 by default).
- * @typedef {{ readonly labelCap?: number, readonly undoDepth?: number }} Limits
- */
-
-/** The label in the place of a node that isn't there. */
-const NO_NODE = 0xffff_ffff;
-
-/**
- * @param {DataView} data
- * @param {number} at
- */
-function readNumber(data, at) {
-  return data.getUint32(at, true);
-}
-
-/**
- * @param {DataView} data
- * @param {number} at
- */
-function readLabel(data, at) {
-  const label = readNumber(data, at);
-  return label === NO_NODE ? null : label;
-}
-
-/**
- * @param {DataView} data
- * @param {number} at
- * @returns {Point}
- */
-function readPoint(data, at) {
-  return { label: readNumber(data, at), offset: readNumber(data, at + 4) };
-}
-
-/**
- * @param {DataView} data
- * @param {number} at
- * @returns {Selection}
- */
-function readSelection(data, at) {
-  return { anchor: readPoint(data, at), focus: readPoint(data, at + 8) };
-}
-
-/**
- * Whether a place is a point.
- * @param {Place | Point} place
- * @returns {place is Point}
- */
-function isPoint(place) {
-  return "label" in place;
-}
-
-/** An editor of a page, which `Engine.open` gives. Close it: one that is collected is closed then. */
+/** An editor of a page, made by `Engine.open`. Close it. Otherwise it is closed when it is collected. */
 export class Editor {
   #library;
 
-  /** 0n where the editor is closed. */
+  /** 0n if the editor is closed. */
   #handle;
 
-  /** How long the text of each view was when it was last printed. */
+  /** The length of each view when it was last printed. */
   #lengths;
 
   /**
+   * @private
    * @param {Library} library
    * @param {Text} page
    * @param {Limits} limits
@@ -174,7 +117,7 @@ export class Editor {
     this.#lengths = [page.length, 0, 0, 0];
   }
 
-  /** Frees the editor's memory. Each other call is refused from then on. */
+  /** Frees the editor's memory. Later calls are refused. */
   close() {
     if (this.#handle) {
       this.#library.close(this, this.#handle);
@@ -183,9 +126,9 @@ export class Editor {
   }
 
   /**
-   * The status of a call on this editor, with the words that are made for it.
+   * Returns the status of a call on this editor. `words` makes its arguments.
    * @param {string} name
-   * @param {(loan: Loan) => unknown[]} words
+   * @param {(loan: import("./hedit_library.js").Loan) => unknown[]} words
    * @returns {number}
    */
   #status(name, words = () => []) {
@@ -205,13 +148,12 @@ export class Editor {
   }
 
   /**
-   * What `read` gives of the record of so many bytes that a call writes; undefined where the answer is
-   * false.
+   * Returns what `read` makes of the record that a call writes, or undefined if the answer is false.
    * @template T
    * @param {string} name
    * @param {number} size
    * @param {(data: DataView, at: number) => T} read
-   * @param {(loan: Loan) => unknown[]} words
+   * @param {(loan: import("./hedit_library.js").Loan) => unknown[]} words
    */
   #record(name, size, read, words = () => []) {
     return this.#library.borrow((loan) => {
@@ -222,7 +164,7 @@ export class Editor {
   }
 
   /**
-   * The text of a call that takes a buffer; undefined where the answer is false.
+   * Returns the text of a call that takes a buffer, or undefined if the answer is false.
    * @param {string} name
    * @param {number} capacity
    * @param {unknown[]} words
@@ -237,12 +179,12 @@ export class Editor {
   }
 
   /**
-   * What `read` gives of each item of a call that takes an array of so many.
+   * Returns what `read` makes of each item of a call that takes an array.
    * @template Item
    * @param {string} name
-   * @param {number} size that of an item in bytes
+   * @param {number} size of an item in bytes
    * @param {(view: DataView, at: number) => Item} read
-   * @param {(loan: Loan) => unknown[]} words
+   * @param {(loan: import("./hedit_library.js").Loan) => unknown[]} words
    */
   #items(name, size, read, words) {
     return this.#library.borrow((loan) => {
@@ -261,27 +203,34 @@ export class Editor {
   }
 
   /**
-   * Executes a command by its name, in any case. False where it isn't possible here, refuses the
-   * value, or is denied: `denied` has up to 16 names of commands. What a command does inside itself
-   * isn't asked for.
+   * Executes a command by its name, in any case. Returns false if it isn't enabled, refuses the value,
+   * or is denied. A list of names in place of the options has the denied ones.
    * @param {Text} name
-   * @param {Text} value
-   * @param {Iterable<string>} denied
+   * @param {Text} [value]
+   * @param {ExecOptions | Iterable<string>} [options]
    */
-  exec(name, value = "", denied = []) {
+  exec(name, value = "", options = {}) {
+    const { range, joined = false, denied = [] } = execOptions(options);
     const names = listOf(denied);
+    /** @param {import("./hedit_library.js").Loan} loan */
+    const words = (loan) => [...loan.text(name), ...loan.text(value)];
+    if (!range && !names) {
+      return answer(this.#status(joined ? "hedit_exec_joined" : "hedit_exec", words));
+    }
+    const points = range ? [...this.#point(range.anchor), ...this.#point(range.focus)] : [0, 0, 0, 0];
+    const numbers = Uint32Array.of(Number(joined), Number(Boolean(range)), ...points);
     return answer(
-      this.#status(names ? "hedit_exec_gated" : "hedit_exec", (loan) => [
-        ...(names ? loan.text(names) : []),
-        ...loan.text(name),
-        ...loan.text(value),
+      this.#status("hedit_exec_with", (loan) => [
+        loan.array(numbers)[0],
+        ...loan.text(names),
+        ...words(loan),
       ]),
     );
   }
 
   /**
-   * Executes a command as `exec` does, as one step of undo with the last one, where a command made that
-   * step and nothing has come between.
+   * Executes a command like `exec`, but adds its edits to the previous undo step, if a command made
+   * that step and nothing has intervened.
    * @param {Text} name
    * @param {Text} value
    */
@@ -292,8 +241,8 @@ export class Editor {
   }
 
   /**
-   * Puts a text in place of what stands between two places or points: selects it and inserts the text,
-   * as one command, which goes on with a run of typing. False where there is no editing host.
+   * Replaces the range between two places or points by a text, as one command, which continues a run
+   * of typing. Returns false if they aren't in an editing host.
    * @param {Place | Point} anchor
    * @param {Place | Point} focus
    * @param {Text} text
@@ -303,35 +252,40 @@ export class Editor {
     return answer(this.#status("hedit_replace", (loan) => [...points, ...loan.text(text)]));
   }
 
-  /** Takes a step back. False where there is none. */
+  /** Undoes one step. Returns false if there is none. */
   undo() {
     return answer(this.#status("hedit_undo"));
   }
 
-  /** Takes a step forth again. False where there is none. */
+  /** Redoes one step. Returns false if there is none. */
   redo() {
     return answer(this.#status("hedit_redo"));
   }
 
   /**
-   * A call between two places, and where one of them is a point, its like between points.
+   * Makes a call with two places, or its variant for points if one of them is a point.
    * @param {string} name
    * @param {Place | Point} anchor
    * @param {Place | Point} focus
-   * @param {(loan: Loan) => unknown[]} words
+   * @param {(loan: import("./hedit_library.js").Loan) => unknown[]} words
    */
   #between(name, anchor, focus, words = () => []) {
     if (isPoint(anchor) || isPoint(focus)) {
       const points = [...this.#point(anchor), ...this.#point(focus)];
       answer(this.#status(`${name}_points`, (loan) => [...words(loan), ...points]));
     } else {
-      const places = (/** @type {Loan} */ loan) => [...loan.place(anchor), ...loan.place(focus)];
-      answer(this.#status(name, (loan) => [...words(loan), ...places(loan)]));
+      answer(
+        this.#status(name, (loan) => [
+          ...words(loan),
+          ...loan.place(anchor),
+          ...loan.place(focus),
+        ]),
+      );
     }
   }
 
   /**
-   * The label and the offset of a point.
+   * Returns the label and the offset of a point.
    * @param {Place | Point} place
    */
   #point(place) {
@@ -340,8 +294,7 @@ export class Editor {
   }
 
   /**
-   * Selects from a place or a point to another, or puts the caret at one. Between points its cost
-   * doesn't grow with the page.
+   * Selects from one place or point to another, or sets the caret.
    * @param {Place | Point} anchor
    * @param {Place | Point} focus
    */
@@ -349,13 +302,13 @@ export class Editor {
     this.#between("hedit_select", anchor, focus);
   }
 
-  /** Gives the selection up. */
+  /** Removes the selection. */
   unselect() {
     answer(this.#status("hedit_unselect"));
   }
 
   /**
-   * Gives a name to what is between two places or points; the mark goes along with the text.
+   * Sets the marker of a name from one place or point to another. It follows the edits.
    * @param {Text} name
    * @param {Place | Point} anchor
    * @param {Place | Point} focus
@@ -365,7 +318,7 @@ export class Editor {
   }
 
   /**
-   * Takes the mark of a name out. False where there is none.
+   * Removes the marker of a name. Returns false if there is none.
    * @param {Text} name
    */
   unmark(name) {
@@ -373,14 +326,15 @@ export class Editor {
   }
 
   /**
-   * What a command answers to a question: the value is a text, and the others are flags.
-   * @param {typeof Question[keyof typeof Question]} question
+   * Answers a query about a command: the value as a text, the others as booleans.
+   * @template {Question} Asked
+   * @param {Asked} question
    * @param {Text} name
-   * @returns {boolean | string}
+   * @returns {Asked extends typeof Question.VALUE ? string : boolean}
    */
   ask(question, name) {
     const { flag, text } = this.#ask(member(Question, question), name);
-    return question === Question.VALUE ? text : flag;
+    return /** @type {any} */ (question === Question.VALUE ? text : flag);
   }
 
   /**
@@ -403,7 +357,7 @@ export class Editor {
   }
 
   /**
-   * Whether there is such a command.
+   * Returns whether there is such a command.
    * @param {Text} name
    */
   supported(name) {
@@ -411,7 +365,7 @@ export class Editor {
   }
 
   /**
-   * Whether there is something for the command to work in.
+   * Returns whether the command has an editing host to work in.
    * @param {Text} name
    */
   enabled(name) {
@@ -419,7 +373,7 @@ export class Editor {
   }
 
   /**
-   * Whether the command's state is so for a part of the selection only.
+   * Returns whether only a part of the selection has it.
    * @param {Text} name
    */
   indeterm(name) {
@@ -427,7 +381,7 @@ export class Editor {
   }
 
   /**
-   * Whether the selection has it, as a toolbar's button shows it.
+   * Returns whether the selection has it, for a button of a toolbar.
    * @param {Text} name
    */
   state(name) {
@@ -435,7 +389,7 @@ export class Editor {
   }
 
   /**
-   * The command's value: a font, a colour, the name of a block.
+   * Returns the command's value: a font, a colour, the name of a block.
    * @param {Text} name
    */
   value(name) {
@@ -443,12 +397,12 @@ export class Editor {
   }
 
   /**
-   * What is printed of the editor, in whole lines.
-   * @param {typeof View[keyof typeof View]} kind
+   * Returns a view of the editor, as complete lines.
+   * @param {View} kind
    */
   view(kind) {
     member(View, kind);
-    // Room for what commands have made of it since, so that it is printed once.
+    // Enough capacity for what commands have added since, so that it is printed once.
     const capacity = 4096 + Math.ceil(this.#lengths[kind] * 1.25);
     return this.#library.borrow((loan) => {
       const { status, bytes } = loan.printed(capacity, (...buffer) =>
@@ -460,45 +414,36 @@ export class Editor {
     });
   }
 
-  /** The page as HTML, with a line feed at the end. */
+  /** Returns the document as HTML, with a line feed at the end. */
   html() {
     return this.view(View.HTML);
   }
 
-  /** A line for each node. */
+  /** Returns a line for each node. */
   tree() {
     return this.view(View.TREE);
   }
 
-  /** The selection and the marks. */
+  /** Returns the selection and the markers, as lines. */
   points() {
     return this.view(View.POINTS);
   }
 
-  /** The numbers of the page and of the history, as a line; `counts` has them one by one. */
+  /** Returns the counts of the document and of its history, as a line. */
   numbers() {
     return this.view(View.NUMBERS);
   }
 
   /**
-   * The numbers of the page and of the history.
+   * Returns the counts of the document and of its history.
    * @returns {Counts}
    */
   counts() {
-    const counts = this.#record("hedit_numbers", 40, (data, at) => ({
-      nodes: data.getUint32(at, true),
-      nextLabel: data.getUint32(at + 4, true),
-      chars: Number(data.getBigUint64(at + 8, true)),
-      edits: Number(data.getBigUint64(at + 16, true)),
-      undo: Number(data.getBigUint64(at + 24, true)),
-      redo: Number(data.getBigUint64(at + 32, true)),
-    }));
-    return /** @type {Counts} */ (counts);
+    return /** @type {Counts} */ (this.#record("hedit_numbers", 40, readCounts));
   }
 
   /**
-   * How many calls have changed the page. Where it is what it was before
-   * a call, the call changed nothing.
+   * Returns how many calls have changed the document.
    */
   revision() {
     const read = (/** @type {DataView} */ data, /** @type {number} */ at) =>
@@ -507,9 +452,8 @@ export class Editor {
   }
 
   /**
-   * What the last call that changed something changed, from the first edit
-   * to the last. A tree that was the page before that call, and follows them, is the page.
-   * @returns {import("./changes.js").Change[]}
+   * Returns the changes of the last call that changed something, from the first to the last.
+   * @returns {Change[]}
    */
   changes() {
     return this.#library.borrow((loan) => {
@@ -522,8 +466,8 @@ export class Editor {
   }
 
   /**
-   * Whether the node of a label is in the page, or may come back by `undo` or `redo`. A node that went
-   * and isn't kept never comes back, so what is held of it can be forgotten.
+   * Returns whether the node of a label is in the document, or may be restored by `undo` or `redo`. A
+   * removed node that isn't kept is never restored, so you can forget it.
    * @param {number} label
    */
   isKept(label) {
@@ -532,7 +476,7 @@ export class Editor {
   }
 
   /**
-   * The points of the selection; null where nothing is selected.
+   * Returns the points of the selection, or null if nothing is selected.
    * @returns {Selection | null}
    */
   selection() {
@@ -540,7 +484,7 @@ export class Editor {
   }
 
   /**
-   * The marks: a new one goes last, and one that is set anew keeps its place.
+   * Returns the markers. A new one is last, and one that is set again keeps its index.
    * @returns {Mark[]}
    */
   marks() {
@@ -557,7 +501,7 @@ export class Editor {
   }
 
   /**
-   * The name of the mark at a place of the list of marks.
+   * Returns the name of a marker by its index in the list of markers.
    * @param {bigint} place
    * @returns {Text}
    */
@@ -576,7 +520,7 @@ export class Editor {
   }
 
   /**
-   * The HTML of what is selected, for the clipboard; null where nothing is selected.
+   * Returns the selection as HTML, for the clipboard, or null if nothing is selected.
    * @returns {string | null}
    */
   selectionHtml() {
@@ -584,7 +528,7 @@ export class Editor {
   }
 
   /**
-   * The plain text of what is selected, for the clipboard; null where nothing is selected.
+   * Returns the selection as plain text, for the clipboard, or null if nothing is selected.
    * @returns {string | null}
    */
   selectionText() {
@@ -592,7 +536,7 @@ export class Editor {
   }
 
   /**
-   * The label of the node at a path. The document's is 0.
+   * Returns the label of the node at a path. The document has 0.
    * @param {readonly number[]} path
    */
   labelAt(path) {
@@ -601,7 +545,7 @@ export class Editor {
   }
 
   /**
-   * The path of the node of a label.
+   * Returns the path of the node of a label.
    * @param {number} label
    * @returns {number[]}
    */
@@ -611,29 +555,21 @@ export class Editor {
   }
 
   /**
-   * What the node of a label is.
+   * Returns the node of a label.
    * @param {number} label
    * @returns {Node}
    */
   node(label) {
     const number = placeNumber(label);
-    const read = (/** @type {DataView} */ data, /** @type {number} */ at) => ({
-      label,
-      kind: /** @type {Node["kind"]} */ (data.getUint32(at, true)),
-      length: data.getUint32(at + 4, true),
-      parent: readLabel(data, at + 8),
-      firstChild: readLabel(data, at + 12),
-      lastChild: readLabel(data, at + 16),
-      previous: readLabel(data, at + 20),
-      next: readLabel(data, at + 24),
-    });
+    const read = (/** @type {DataView} */ data, /** @type {number} */ at) =>
+      readNode(label, data, at);
     return /** @type {Node} */ (this.#record("hedit_node", 28, read, () => [number]));
   }
 
   /**
-   * The labels of a node's children, from the first to the last. The one that is given last may be
-   * removed meanwhile.
+   * Yields the labels of a node's children. You may remove the one that was yielded last.
    * @param {number} label
+   * @returns {IterableIterator<number>}
    */
   children(label) {
     return this.#from(this.node(label).firstChild);
@@ -652,7 +588,7 @@ export class Editor {
   }
 
   /**
-   * The name of an element, and an empty text for another node.
+   * Returns the name of an element, and an empty text for another node.
    * @param {number} label
    */
   nodeName(label) {
@@ -660,7 +596,7 @@ export class Editor {
   }
 
   /**
-   * The characters of a text or a comment, and an empty text for another node.
+   * Returns the characters of a text node or a comment, and an empty text for another node.
    * @param {number} label
    */
   nodeValue(label) {
@@ -668,8 +604,7 @@ export class Editor {
   }
 
   /**
-   * The HTML of a node with all that stands below it; that of the document is the HTML of its
-   * children.
+   * Returns the HTML of a node; for the document, that of its children.
    * @param {number} label
    */
   nodeHtml(label) {
@@ -677,9 +612,7 @@ export class Editor {
   }
 
   /**
-   * The plain text of a node with all that stands below it: the characters of its texts and a line
-   * feed for each br. Where a block begins or ends between two of these, a line feed comes between
-   * them, unless the first one is a line feed.
+   * Returns the plain text of a node: lines for blocks and for each br.
    * @param {number} label
    */
   nodeText(label) {
@@ -687,8 +620,8 @@ export class Editor {
   }
 
   /**
-   * The points at which a text occurs in the texts of a node and of all that stands below it, in
-   * tree order, none overlapping. Each occurrence stands in one text. The offsets count characters.
+   * Returns the points at which a text occurs in a node, by default in the document. They are in tree
+   * order, and the occurrences don't overlap.
    * @param {Text} text
    * @param {number} label
    * @returns {Point[]}
@@ -699,7 +632,7 @@ export class Editor {
   }
 
   /**
-   * The attributes of a node, in their order.
+   * Returns the attributes of a node, in their order.
    * @param {number} label
    * @returns {Map<string, string>}
    */
@@ -722,16 +655,25 @@ if (dispose) {
   Object.defineProperty(Editor.prototype, dispose, { value: Editor.prototype.close });
 }
 
-/** The engine. Its editors share a memory, which grows as they need and is freed with the engine. */
+/**
+ * The constructor of editors, which is private outside of this module.
+ * @type {new (library: Library, page: Text, limits: Limits) => Editor}
+ */
+const NewEditor = /** @type {any} */ (Editor);
+
+/** The engine. Its editors share a memory, which grows if needed and is freed with the engine. */
 export class Engine {
   #library;
 
-  /** @param {WebAssembly.Exports} exports those of hedit.wasm */
+  /**
+   * @private
+   * @param {WebAssembly.Exports} exports those of hedit.wasm
+   */
   constructor(exports) {
     this.#library = new Library(exports);
   }
 
-  /** The version of the module; `VERSION` is that of this file. */
+  /** Returns the version of the module. `VERSION` is that of hedit.js. */
   version() {
     const number = this.#library.call("hedit_version");
     return [number >> 16, (number >> 8) & 255, number & 255].join(".");
@@ -741,15 +683,17 @@ export class Engine {
    * Opens a page.
    * @param {Text} page
    * @param {Limits} limits
+   * @returns {Editor}
    */
   open(page, limits = {}) {
-    return new Editor(this.#library, page, limits);
+    return new NewEditor(this.#library, page, limits);
   }
 
   /**
-   * Runs a session of the program, as its command line has the words: the status and the transcript.
+   * Runs a session of the program with the arguments of a command line.
    * @param {Text} text
    * @param {readonly string[]} words
+   * @returns {{ status: import("./hedit_constants.js").Status, transcript: string }}
    */
   session(text, words = ["run"]) {
     return this.#library.borrow((loan) => {
@@ -759,18 +703,25 @@ export class Engine {
       const { status, bytes } = loan.printed(4096 + 4 * input.length, (...buffer) =>
         this.#library.call("hedit_session_with_words", ...given, ...buffer),
       );
-      return { status, transcript: DECODER.decode(bytes) };
+      const ended = /** @type {import("./hedit_constants.js").Status} */ (status);
+      return { status: ended, transcript: DECODER.decode(bytes) };
     });
   }
 }
 
 /**
- * Loads the engine: hedit.wasm beside this file, or at another address, or its response or bytes.
- * Throws EngineUnsupported where the browser lacks what the engine needs, and EngineNotLoaded where a
- * server gives no engine. A server that sends it as application/wasm lets it be compiled while it comes.
- * @param {import("./hedit_load.js").Source} source
+ * The constructor of engines, which is private outside of this module.
+ * @type {new (exports: WebAssembly.Exports) => Engine}
+ */
+const NewEngine = /** @type {any} */ (Engine);
+
+/**
+ * Loads the engine from hedit.wasm next to hedit.js, or from another address, a response or bytes.
+ * Throws EngineUnsupported or EngineNotLoaded.
+ * @param {Source} source
+ * @returns {Promise<Engine>}
  */
 export async function load(source = new URL("hedit.wasm", import.meta.url)) {
   const { exports } = await WebAssembly.instantiate(await compileModule(source));
-  return new Engine(exports);
+  return new NewEngine(exports);
 }

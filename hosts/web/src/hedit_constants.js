@@ -1,8 +1,8 @@
 /**
- * The numbers and words that the calls of the engine take and answer.
+ * The numbers and words that calls of the engine take and return.
  */
 
-/** How a call of the engine ended; hedit.h says what each number means. */
+/** The status of a call of the engine. hedit.h says what each number means. */
 export const Status = Object.freeze(
   /** @type {const} */ ({
     DONE: 0,
@@ -22,20 +22,28 @@ export const Status = Object.freeze(
   }),
 );
 
-/** What can be asked of a command. */
+/** @typedef {typeof Status[keyof typeof Status]} Status */
+
+/** The queries about a command. */
 export const Question = Object.freeze(
   /** @type {const} */ ({ SUPPORTED: 0, ENABLED: 1, INDETERM: 2, STATE: 3, VALUE: 4 }),
 );
 
-/** What is printed of an editor. */
+/** @typedef {typeof Question[keyof typeof Question]} Question */
+
+/** The views of an editor. */
 export const View = Object.freeze(
   /** @type {const} */ ({ HTML: 0, TREE: 1, POINTS: 2, NUMBERS: 3 }),
 );
+
+/** @typedef {typeof View[keyof typeof View]} View */
 
 /** Kinds of nodes, with the numbers of DOM's nodeType. */
 export const NodeKind = Object.freeze(
   /** @type {const} */ ({ ELEMENT: 1, TEXT: 3, COMMENT: 8, DOCUMENT: 9 }),
 );
+
+/** @typedef {typeof NodeKind[keyof typeof NodeKind]} NodeKind */
 
 /** Why a page is refused: the program's words. */
 export const PageKind = Object.freeze(
@@ -53,3 +61,5 @@ export const PageKind = Object.freeze(
     FULL: "full",
   }),
 );
+
+/** @typedef {typeof PageKind[keyof typeof PageKind]} PageKind */

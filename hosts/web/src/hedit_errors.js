@@ -4,32 +4,38 @@
 
 import { Status } from "./hedit_constants.js";
 
-/** A call was refused. The editor is as before. */
+/** @typedef {import("./hedit_constants.js").PageKind} PageKind */
+
+/** A call was refused. The editor is unchanged. */
 export class HeditError extends Error {
   name = "HeditError";
 
   /**
    * The status that the engine answered.
-   * @type {number | undefined}
+   * @readonly
+   * @type {Status | undefined}
    */
   status = undefined;
 }
 
-/**
- * The text is no page: what stands before `at` begins one, and `kind` says why no more does. `at`
- * counts UTF-16 units of a string, and bytes of a Uint8Array.
- */
+/** The text isn't a page: the part before `at` begins one, and `kind` says why no more does. */
 export class PageRefused extends HeditError {
   name = "PageRefused";
+  /** @readonly */
   status = Status.PAGE_REFUSED;
 
   /**
    * @param {number} at
-   * @param {import("./hedit.js").PageKind} kind
+   * @param {PageKind} kind
    */
   constructor(at, kind) {
-    super(`no page: ${kind} at ${at}`);
+    super(`the page is refused: ${kind} at ${at}`);
+    /**
+     * Counted in UTF-16 units of a string, or in bytes of a Uint8Array.
+     * @readonly
+     */
     this.at = at;
+    /** @readonly */
     this.kind = kind;
   }
 }
@@ -37,29 +43,32 @@ export class PageRefused extends HeditError {
 /** A path or a label names no node, or an offset is past its length or inside a character. */
 export class BadPlace extends HeditError {
   name = "BadPlace";
+  /** @readonly */
   status = Status.BAD_PLACE;
 
-  constructor(message = "no such place") {
+  constructor(message = "the document has no such place") {
     super(message);
   }
 }
 
-/** 16 marks of other names are there. */
+/** There are 16 markers of other names. */
 export class TooManyMarks extends HeditError {
   name = "TooManyMarks";
+  /** @readonly */
   status = Status.TOO_MANY_MARKS;
 
-  constructor(message = "too many marks") {
+  constructor(message = "there are 16 markers of other names already") {
     super(message);
   }
 }
 
-/** The command would have made a node whose number reaches the cap. */
+/** A node that the command makes would have the label `labelCap`. */
 export class PageFull extends HeditError {
   name = "PageFull";
+  /** @readonly */
   status = Status.FULL;
 
-  constructor(message = "the page is full") {
+  constructor(message = "no label is left below labelCap") {
     super(message);
   }
 }
@@ -67,16 +76,18 @@ export class PageFull extends HeditError {
 /** The document is too deep for commands. */
 export class TooDeep extends HeditError {
   name = "TooDeep";
+  /** @readonly */
   status = Status.DEEP;
 
-  constructor(message = "the page is too deep") {
+  constructor(message = "the document is too deep") {
     super(message);
   }
 }
 
-/** There was no memory for the call. */
+/** The call ran out of memory. */
 export class OutOfMemory extends HeditError {
   name = "OutOfMemory";
+  /** @readonly */
   status = Status.MEMORY;
 
   constructor(message = "out of memory") {
@@ -84,12 +95,13 @@ export class OutOfMemory extends HeditError {
   }
 }
 
-/** A number is outside its limits, a text isn't Unicode, or a name that is denied is none. */
+/** A number is outside its limits, a text isn't Unicode, or a denied name is malformed. */
 export class BadArgument extends HeditError {
   name = "BadArgument";
+  /** @readonly */
   status = Status.BAD_ARGUMENT;
 
-  constructor(message = "an argument means nothing") {
+  constructor(message = "an argument is invalid") {
     super(message);
   }
 }
@@ -97,6 +109,7 @@ export class BadArgument extends HeditError {
 /** The editor is closed. */
 export class EditorClosed extends HeditError {
   name = "EditorClosed";
+  /** @readonly */
   status = Status.CLOSED;
 
   constructor(message = "the editor is closed") {
@@ -104,21 +117,22 @@ export class EditorClosed extends HeditError {
   }
 }
 
-/**
- * An earlier call stopped in the middle, as when JavaScript's stack was full, and its error is the
- * `cause`. The engine can't go on, with any of its editors: load another one.
- */
+/** An earlier call was interrupted by the `cause`. Load another engine. */
 export class EngineStopped extends HeditError {
   name = "EngineStopped";
 }
 
-/** The browser lacks what the engine needs, and `missing` names that. */
+/** The browser, or this version of Node, lacks what the engine needs. */
 export class EngineUnsupported extends HeditError {
   name = "EngineUnsupported";
 
   /** @param {readonly string[]} missing */
   constructor(missing) {
     super(`the engine can't run here, since ${missing.join(", ")} is missing: use a newer version`);
+    /**
+     * Names of what is missing, as `missingFeatures` gives them.
+     * @readonly
+     */
     this.missing = missing;
   }
 }
@@ -139,7 +153,7 @@ const REFUSALS = {
 };
 
 /**
- * Whether a call was done; where it was refused, this throws why.
+ * Returns whether a call was done. Throws an error if it was refused.
  * @param {number} status
  */
 export function answer(status) {

@@ -19,63 +19,88 @@
  * What the page gets of the engine's nodes is a view: what the tables of shown.js have, and
  * placeholders for the rest. So nothing in it acts, and `html` still has all.
  *
- * A region is an EventTarget, with these events:
- * - `change`: the page has other nodes, attributes or texts now;
- * - `input`: an input method composes, and `html` has other texts now; `change` comes when it ends;
- * - `selectionchange`: the selection is another one;
- * - `statechange`: after both and after each command, for toolbars, as states, values and `status` may
- *   have changed;
- * - `error`, an ErrorEvent: the engine refused what the user did, or stopped, and `error` says why.
- *   What the methods do throws it;
- * - `refused`: what the user did isn't done, as `command`, `reason` and `text` say;
- * - `recovered`: the region goes on after the engine stopped.
- * A console is told of an `error` or a `refused` that nobody prevents.
+ * A region is an EventTarget, with the events of `RegionEvents`.
  *
  * These of what differs from browsers stay as the engine has them: `formatBlock` drops classes and other
- * attributes of the block, `unlink` at a caret takes the link around it away, `outdent` of several
- * quoted blocks takes those with formats apart, and the elements for a style are the engine's.
+ * attributes of the block, `unlink` at a caret takes the link around it away, `outdent` takes quoted
+ * blocks with formats apart where a list or another quotation is among them or around, and the elements
+ * for a style are the engine's.
  */
 import { HABITS } from "./region_commands.js";
 import { Controller } from "./region_controller.js";
+import { KEYMAP } from "./region_keymap.js";
 import { regionOf } from "./region_owner.js";
 import { missing } from "./region_support.js";
 
-export { HABITS };
+export { HABITS, KEYMAP };
 
 /** @typedef {import("./clean.js").CleanOptions} CleanOptions */
 /** @typedef {import("./hedit.js").Engine} Engine */
 /** @typedef {import("./hedit.js").Limits} Limits */
 /** @typedef {import("./hedit.js").Point} Point */
 /** @typedef {import("./region_commands.js").Habits} Habits */
+/** @typedef {import("./region_keymap.js").KeyAction} KeyAction */
+/** @typedef {import("./region_keymap.js").Keymap} Keymap */
 /** @typedef {import("./region_shown.js").ViewOptions} ViewOptions */
 
 /**
- * What a region is made with, beside the habits:
- * - `html`: what the engine opens, by default the element's own markup;
- * - `clean`: whether that is cleaned before, and how: by default it is in an editing host. What isn't
- *   cleaned has to be a page as docs/FORMATS.md says, and others throw PageRefused;
- * - `labelCap`, `undoDepth`: those of `Engine.open`;
- * - `separator`: the element that Enter makes where no block is around the caret, by default `p`;
- * - `denied`: names of commands that do nothing: they are asked for what is meant, by whatever way, and
- *   not for what a command or a habit does inside itself;
- * - `view`: what is shown of the page;
- * - `readOnly`: whether nothing can be edited;
- * - `reload`: gives another engine where this one has stopped;
- * - `debug`: after each event the region checks itself, and throws what differs.
- * @typedef {Partial<Habits> & Limits & {
- *   html?: string,
- *   clean?: boolean | CleanOptions,
- *   separator?: "p" | "div",
- *   denied?: Iterable<string>,
- *   view?: ViewOptions,
- *   readOnly?: boolean,
- *   reload?: () => Promise<Engine>,
- *   debug?: boolean,
- * }} Choices
+ * What a region is made with, beside the habits and the limits.
+ * @typedef {object} RegionChoices
+ * @property {string} [html] What the engine opens: by default the element's own markup.
+ * @property {boolean | CleanOptions} [clean] Whether the page is cleaned before the engine reads it, and
+ *   how. By default it is in an editing host, and an element without `contenteditable` has it as it is:
+ *   then what isn't a page as docs/FORMATS.md says throws PageRefused.
+ * @property {"p" | "div"} [separator] The element that Enter makes where no block is around the caret:
+ *   by default `p`.
+ * @property {Iterable<string>} [denied] Names of commands that do nothing. They are asked for what is
+ *   meant, by whatever way, and not for what a command or a habit does inside itself.
+ * @property {ViewOptions} [view] What is shown of the page.
+ * @property {boolean} [readOnly] Whether nothing can be edited: by default it can.
+ * @property {Keymap} [keymap] What keys do beside those of `KEYMAP`, or in their place.
+ * @property {() => Promise<Engine>} [reload] Gives another engine where this one has stopped.
+ * @property {boolean} [debug] After each event the region checks itself, and throws what differs.
  */
 
-/** An editor behind an element of a page. */
-export class Region extends EventTarget {
+/** @typedef {RegionChoices & Partial<Habits> & Limits} Choices */
+
+/**
+ * What the user did, and what isn't done. A console is told, unless it is prevented. `command` is the
+ * one that it comes to, or the kind of the input; `reason` is `impossible` where the selection is; and
+ * `text` isn't inserted.
+ * @typedef {Event & {
+ *   readonly command: string,
+ *   readonly reason: "denied" | "impossible" | "unknown",
+ *   readonly text: string,
+ * }} RefusedEvent
+ */
+
+/**
+ * The events of a region.
+ * @typedef {object} RegionEvents
+ * @property {Event} change The page has other nodes, attributes or texts now.
+ * @property {Event} input An input method composes, and `html` has other texts now. `change` comes when
+ *   it ends.
+ * @property {Event} selectionchange The selection is another one.
+ * @property {Event} statechange States, values and `status` may have changed: after each command, and
+ *   after `change` and `selectionchange`. It is for toolbars.
+ * @property {ErrorEvent} error The engine refused what the user did, or stopped, and `error` says why.
+ *   What the methods do throws it. A console is told, unless it is prevented.
+ * @property {RefusedEvent} refused What the user did isn't done.
+ * @property {Event} recovered The region goes on after the engine stopped.
+ */
+
+/**
+ * @typedef {{
+ *   addEventListener<Kind extends keyof RegionEvents>(
+ *     type: Kind,
+ *     listener: (this: Region, event: RegionEvents[Kind]) => void,
+ *     options?: boolean | AddEventListenerOptions,
+ *   ): void,
+ * } & EventTarget} RegionTarget
+ */
+
+/** An editor behind an element of a page: its editing host, or what holds one. */
+export class Region extends /** @type {new () => RegionTarget} */ (EventTarget) {
   /** @type {Controller} */
   #controller;
 
@@ -110,18 +135,16 @@ export class Region extends EventTarget {
 
   /**
    * The editor, to read from. What is changed in it otherwise than through the region isn't shown.
+   * @returns {import("./hedit.js").Editor}
    */
   get editor() {
     return this.#controller.session.editor;
   }
 
   /**
-   * What the region can do:
-   * - `ready`: all;
-   * - `contested`: a script of the page undoes what the region shows, which waits for the user's next
-   *   act;
-   * - `stopped`: the engine has stopped, and nothing can be edited until `recover`;
-   * - `closed`: nothing more.
+   * `contested` where a script of the page undoes what the region shows, until the user acts; `stopped`
+   * where the engine has stopped, until `recover`.
+   * @returns {"ready" | "contested" | "stopped" | "closed"}
    */
   get status() {
     return this.#controller.status;
@@ -137,24 +160,23 @@ export class Region extends EventTarget {
   }
 
   /**
-   * Closes the editor. The element's children stay as they are, and nothing listens to them any more.
+   * Closes the editor. The element's children stay as they are.
    */
   close() {
     this.#controller.close();
   }
 
   /**
-   * Goes on after the engine stopped, with the one that the choice `reload` gives: the page is what it
-   * was, and its history is lost. Where a script of the page undoes what the region shows, it is shown
-   * again.
+   * Goes on after the engine stopped, with the one that the choice `reload` gives. The page stays, and
+   * its history is lost. Where a script of the page undoes what the region shows, it is shown again.
    */
   recover() {
     return this.#controller.recover();
   }
 
   /**
-   * Executes a command of the engine, as its user would: with the habits, and as one step of undo.
-   * `undo`, `redo` and `forwardDelete` are commands here too. False where it isn't possible.
+   * Executes a command, `undo`, `redo` or `forwardDelete`, with the habits and as one step of undo.
+   * False where it isn't possible.
    * @param {string} command
    * @param {string} value
    */
@@ -175,7 +197,7 @@ export class Region extends EventTarget {
   }
 
   /**
-   * Makes one step of undo of all that a function does by the region, and says what it answers.
+   * Makes one step of undo of all that a function does by the region.
    * @template T
    * @param {() => T} call
    * @returns {T}
@@ -227,9 +249,8 @@ export class Region extends EventTarget {
   }
 
   /**
-   * The markup: what is in the element, where that is the editing host, and else the engine's page.
-   * It has what an input method composes, or with `composing: "without"` what was there before. It is
-   * there after the engine stopped too.
+   * The markup: what is in the element, where that is the editing host, and else the engine's page. It
+   * has what an input method composes, or with `composing: "without"` what was there before.
    * @param {{ composing?: "with" | "without" }} options
    */
   html(options = {}) {
@@ -242,8 +263,7 @@ export class Region extends EventTarget {
   }
 
   /**
-   * The first difference between the page and the engine: of a node, an attribute, a text or the
-   * selection. Null where there is none, and while an input method composes.
+   * The first difference between the page and the engine; null where there is none.
    */
   check() {
     return this.#controller.check();

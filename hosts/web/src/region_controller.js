@@ -3,9 +3,11 @@
  * tells of, does what the host asks for, and says what came of it.
  */
 import { BadArgument, EditorClosed, EngineStopped, HeditError } from "./hedit.js";
+import { namesOf } from "./region_command_table.js";
 import { isOfField } from "./region_input.js";
+import { Keys } from "./region_keymap.js";
 import { Lock } from "./region_lock.js";
-import { Mends } from "./region_mends.js";
+import { DOMObserver } from "./region_observer.js";
 import { isElement, isSame } from "./region_nodes.js";
 import { isHost, pageOf, tagsOf } from "./region_open.js";
 import { disown, own } from "./region_owner.js";
@@ -20,7 +22,7 @@ import { User } from "./region_user.js";
 /** @typedef {import("./hedit.js").Selection} Selection */
 /** @typedef {import("./region.js").Choices} Choices */
 /** @typedef {import("./region.js").Region} Region */
-/** @typedef {import("./region_mends.js").Mending} Mending */
+/** @typedef {import("./region_observer.js").ObserverActs} ObserverActs */
 
 /**
  * @param {Iterable<string>} names
@@ -51,7 +53,7 @@ export class Controller {
 
   #scroll;
 
-  #mends;
+  #observer;
 
   #user;
 
@@ -86,8 +88,8 @@ export class Controller {
     this.#lock = new Lock(element, this.#tags !== null);
     this.#scroll = new Scroll(element, () => this.#session.selections.ends()?.focus ?? null);
     const acts = this.#acts();
-    this.#mends = new Mends(element, acts);
-    this.#user = new User(acts);
+    this.#observer = new DOMObserver(element, acts);
+    this.#user = new User(acts, new Keys(choices.keymap));
     own(element, region);
     try {
       this.#session = this.#open(engine);
@@ -124,7 +126,7 @@ export class Controller {
 
   /**
    * What of this region others do.
-   * @returns {Mending}
+   * @returns {ObserverActs}
    */
   #acts() {
     return {
@@ -136,9 +138,10 @@ export class Controller {
       refuse: (command, reason, text) => this.#refuse(command, reason, text),
       read: () => this.#read(),
       reveal: () => this.#scroll.reveal(),
-      answer: (call) => this.answer(call),
+      run: (call) => call(this.#region),
+      handle: (call) => this.handle(call),
       finish: (call) => this.#finish(call),
-      tell: (kind) => this.#region.dispatchEvent(new Event(kind)),
+      dispatch: (kind) => this.#region.dispatchEvent(new Event(kind)),
     };
   }
 
@@ -151,7 +154,7 @@ export class Controller {
     if (this.#ends.signal.aborted) {
       return "closed";
     }
-    return this.#stop ? "stopped" : this.#mends.isContested ? "contested" : "ready";
+    return this.#stop ? "stopped" : this.#observer.isContested ? "contested" : "ready";
   }
 
   get isReadOnly() {
@@ -163,7 +166,7 @@ export class Controller {
       return;
     }
     if (!this.#stop) {
-      this.guard(() => this.#settle());
+      this.guard(() => this.#flush());
     }
     this.#isReadOnly = isReadOnly;
     this.#lockUp();
@@ -180,7 +183,7 @@ export class Controller {
       return;
     }
     this.#ends.abort();
-    this.#mends.end();
+    this.#observer.end();
     this.#lock.lift();
     this.element.removeAttribute(MARK);
     disown(this.element);
@@ -190,7 +193,7 @@ export class Controller {
   async recover() {
     const { reload } = this.#choices;
     if (this.status === "contested") {
-      this.guard(() => this.#settle());
+      this.guard(() => this.#flush());
     }
     if (this.status !== "stopped") {
       return;
@@ -203,10 +206,10 @@ export class Controller {
       this.#session = this.#begin(engine, this.#session.view.html(), true);
       this.#stop = null;
       this.#lockUp();
-      this.#mends.watch();
+      this.#observer.watch();
       this.#read();
       this.#region.dispatchEvent(new Event("recovered"));
-      this.#tell(false, true);
+      this.#dispatch(false, true);
     }
   }
 
@@ -215,20 +218,8 @@ export class Controller {
    * @param {string} value
    */
   exec(command, value = "") {
-    const name = command.toLowerCase();
-    if (this.isDenied(name)) {
-      return false;
-    }
-    switch (name) {
-      case "undo":
-        return this.#turn(() => this.#session.undo());
-      case "redo":
-        return this.#turn(() => this.#session.redo());
-      case "forwarddelete":
-        return this.act(() => this.#user.deleteForward());
-      default:
-        return this.act(() => this.#session.commands.run(name, value));
-    }
+    const isAllowed = !this.isDenied(...namesOf(command));
+    return isAllowed && this.act(() => this.#session.run(command, value));
   }
 
   /**
@@ -238,7 +229,7 @@ export class Controller {
    */
   step(call) {
     if (this.isEditable) {
-      this.guard(() => this.#settle());
+      this.guard(() => this.#flush());
     }
     const { commands, steps } = this.#session;
     const before = steps.length;
@@ -254,9 +245,8 @@ export class Controller {
 
   /** @param {string} command */
   enabled(command) {
-    const name = command.toLowerCase();
-    const isOpen = this.isEditable && !this.isDenied(name);
-    return isOpen && this.ask(() => this.#session.isEnabled(name), false);
+    const isOpen = this.isEditable && !this.isDenied(...namesOf(command));
+    return isOpen && this.ask(() => this.#session.isEnabled(command), false);
   }
 
   /** @param {{ composing?: "with" | "without" }} options */
@@ -264,12 +254,12 @@ export class Controller {
     if (this.status === "closed") {
       throw new EditorClosed();
     }
-    if (this.status === "ready" && !this.#mends.isComposing) {
-      this.answer(() => this.#mends.catchUp());
+    if (this.status === "ready" && !this.#observer.isComposing) {
+      this.handle(() => this.#observer.flushWithinBudget());
     }
-    const { isBehind, isComposing, isContested } = this.#mends;
+    const { isPending, isComposing, isContested } = this.#observer;
     const isKept = composing === "without" || this.isDenied("insertText");
-    const isOfEngine = isBehind || isContested || (isComposing && isKept);
+    const isOfEngine = isPending || isContested || (isComposing && isKept);
     return isOfEngine && !this.#stop ? this.#session.html() : this.#session.view.html();
   }
 
@@ -286,7 +276,7 @@ export class Controller {
 
   check() {
     const { selections, view } = this.#session;
-    const isElsewhere = this.#mends.isComposing || this.#stop;
+    const isElsewhere = this.#observer.isComposing || this.#stop;
     return isElsewhere ? null : (selections.difference() ?? view.difference());
   }
 
@@ -295,33 +285,34 @@ export class Controller {
   #listen() {
     const { signal } = this.#ends;
     const page = this.element.ownerDocument;
-    page.addEventListener("selectionchange", () => this.answer(() => this.#read()), { signal });
+    page.addEventListener("selectionchange", () => this.handle(() => this.#read()), { signal });
     /** @type {Partial<Record<keyof HTMLElementEventMap, (event: any) => void>>} */
     const answers = {
       beforeinput: (event) => this.#user.input(event),
-      keydown: (event) => this.#user.key(event),
+      keydown: (event) => this.#user.keyDown(event),
+      keyup: () => this.#user.keyUp(),
       copy: (event) => this.#user.copy(event),
       cut: (event) => this.#user.cut(event),
-      compositionstart: () => this.#mends.compose(),
-      compositionend: ({ data }) => this.#mends.ended(data),
+      compositionstart: () => this.#observer.startComposition(),
+      compositionend: ({ data }) => this.#observer.compositionEnded(data),
       paste: (event) => this.#user.paste(event),
     };
     for (const [kind, call] of Object.entries(answers)) {
       const answer = (/** @type {Event} */ event) => {
         if (!isOfField(event)) {
-          this.answer(() => call(event));
+          this.handle(() => call(event));
         }
       };
       this.element.addEventListener(kind, answer, { signal });
     }
-    this.#mends.watch();
+    this.#observer.watch();
   }
 
   /**
    * Answers an event. What the engine refuses becomes an event of the region.
    * @param {() => void} call
    */
-  answer(call) {
+  handle(call) {
     if (this.#stop || this.status === "closed") {
       return;
     }
@@ -331,7 +322,7 @@ export class Controller {
       if (this.#session.hasStopped()) {
         this.#halt(error);
       } else if (error instanceof HeditError) {
-        this.#tellError(error);
+        this.#dispatchError(error);
       } else {
         throw error;
       }
@@ -342,7 +333,7 @@ export class Controller {
   }
 
   /** @param {Error} error */
-  #tellError(error) {
+  #dispatchError(error) {
     const { message } = error;
     const event = new ErrorEvent("error", { error, message, cancelable: true });
     if (this.#region.dispatchEvent(event)) {
@@ -371,11 +362,11 @@ export class Controller {
 
   /** Throws what differs. A selection that the browser didn't tell of yet is read before. */
   #debug() {
-    if (this.#mends.isContested || this.#mends.isComposing) {
+    if (this.#observer.isContested || this.#observer.isComposing) {
       return;
     }
     this.#read();
-    if (this.#mends.isBehind) {
+    if (this.#observer.isPending) {
       return;
     }
     const found = this.check();
@@ -396,7 +387,7 @@ export class Controller {
       return false;
     }
     return this.guard(() => {
-      this.#settle();
+      this.#flush();
       return this.#finish(call);
     });
   }
@@ -444,9 +435,9 @@ export class Controller {
     if (!this.#stop) {
       const isSaid = cause instanceof EngineStopped;
       this.#stop = isSaid ? cause : new EngineStopped("the engine has stopped", { cause });
-      this.#mends.end();
+      this.#observer.end();
       this.#lockUp();
-      this.#tellError(this.#stop);
+      this.#dispatchError(this.#stop);
       this.#region.dispatchEvent(new Event("statechange"));
     }
     return this.#stop;
@@ -481,12 +472,12 @@ export class Controller {
    * @param {(content: import("./region_print.js").Content) => boolean} isWanted
    */
   #refresh(isWanted) {
-    this.#mends.quietly(() => this.#session.view.refresh(isWanted));
+    this.#observer.unobserved(() => this.#session.view.refresh(isWanted));
   }
 
   /** Reads what the browser did that wasn't told yet. */
-  #settle() {
-    this.#mends.settle();
+  #flush() {
+    this.#observer.flush();
     this.#read();
   }
 
@@ -505,20 +496,20 @@ export class Controller {
   /** @param {Selection | null} before what was selected */
   #conclude(before) {
     const { commands, editor, selections, steps } = this.#session;
-    this.#mends.skip();
+    this.#observer.discardRecords();
     selections.show();
     const { entries, isChanged } = commands.take();
     const after = editor.selection();
     steps.note({ entries, before, after }, isChanged);
     steps.fit(editor.counts().undo);
-    this.#tell(isChanged, !isSame(before, after));
+    this.#dispatch(isChanged, !isSame(before, after));
   }
 
   /**
    * @param {boolean} isChanged
    * @param {boolean} isElsewhere
    */
-  #tell(isChanged, isElsewhere) {
+  #dispatch(isChanged, isElsewhere) {
     if (isChanged) {
       this.#region.dispatchEvent(new Event("change"));
     }
@@ -528,28 +519,14 @@ export class Controller {
     this.#region.dispatchEvent(new Event("statechange"));
   }
 
-  /**
-   * Takes a step back or forth, and selects what was selected there.
-   * @param {() => Selection | null | undefined} take
-   */
-  #turn(take) {
-    return this.act(() => {
-      const selection = take();
-      if (selection) {
-        this.#session.commands.selectAgain(selection);
-      }
-      return selection !== undefined;
-    });
-  }
-
   /** Selects what the page shows as selected, once what it changed by itself is mended. */
   #read() {
-    if (this.#mends.isComposing) {
+    if (this.#observer.isComposing) {
       return;
     }
-    this.#mends.catchUp();
+    this.#observer.flushWithinBudget();
     if (this.#session.selections.read()) {
-      this.#tell(false, true);
+      this.#dispatch(false, true);
     }
   }
 }

@@ -1,62 +1,4 @@
-/**
- * What the inputs of a browser ask for, for region.js: kinds of `beforeinput` as commands of the
- * engine.
- */
-
-/**
- * What an input asks for: a command, a text in place of what is selected or of the range that the
- * input names, or to delete that. `isAimed` says that the range of its own is meant, whatever is
- * selected, and `replace` means that too: a text that stands there is corrected. `commands` are those
- * that it comes to.
- * @typedef {{ commands: string[] } & ({ act: "command", value: string }
- *   | { act: "insert", text: string, isAimed: boolean }
- *   | { act: "replace", text: string }
- *   | { act: "delete", by: "backward" | "forward" | "range", isAimed: boolean })} Meaning
- */
-
-/** The commands of the kinds that say all by their names. */
-const COMMANDS = new Map([
-  ["insertOrderedList", "insertOrderedList"],
-  ["insertUnorderedList", "insertUnorderedList"],
-  ["insertHorizontalRule", "insertHorizontalRule"],
-  ["insertLineBreak", "insertLineBreak"],
-  ["insertParagraph", "insertParagraph"],
-  ["formatBold", "bold"],
-  ["formatItalic", "italic"],
-  ["formatUnderline", "underline"],
-  ["formatStrikeThrough", "strikethrough"],
-  ["formatSuperscript", "superscript"],
-  ["formatSubscript", "subscript"],
-  ["formatJustifyLeft", "justifyLeft"],
-  ["formatJustifyCenter", "justifyCenter"],
-  ["formatJustifyRight", "justifyRight"],
-  ["formatJustifyFull", "justifyFull"],
-  ["formatIndent", "indent"],
-  ["formatOutdent", "outdent"],
-  ["formatRemove", "removeFormat"],
-  ["historyUndo", "undo"],
-  ["historyRedo", "redo"],
-]);
-
-/** The commands of the kinds that have a value. */
-const VALUED = new Map([
-  ["insertLink", "createLink"],
-  ["formatBackColor", "backColor"],
-  ["formatFontColor", "foreColor"],
-  ["formatFontName", "fontName"],
-]);
-
-/** The kinds that put a text in: with `true`, in place of a range of their own. */
-const INSERTIONS = new Map([
-  ["insertText", false],
-  ["insertFromPaste", false],
-  ["insertFromPasteAsQuotation", false],
-  ["insertFromYank", false],
-  ["insertFromDrop", true],
-]);
-
-/** The kinds that correct what stands in a range of their own. */
-const CORRECTIONS = new Set(["insertReplacementText", "insertTranspose"]);
+/** The inputs of a browser, for region.js: which are the region's, and what texts they have. */
 
 /**
  * Whether an event is of a field in the region, which the browser edits.
@@ -77,48 +19,18 @@ export function isOfBrowser(event) {
 }
 
 /**
- * What an input asks for; null where there is no command for it.
+ * The text that an input has.
  * @param {InputEvent} event
- * @param {string | null} given its text, where that is known
- * @returns {Meaning | null}
  */
-export function meaningOf(event, given = null) {
-  const kind = event.inputType;
-  const text = given ?? event.data ?? event.dataTransfer?.getData("text/plain") ?? "";
-  const isAimed = INSERTIONS.get(kind);
-  if (isAimed !== undefined) {
-    return { act: "insert", commands: ["insertText"], text, isAimed };
-  }
-  if (CORRECTIONS.has(kind)) {
-    return { act: "replace", commands: ["insertText"], text };
-  }
-  if (kind.startsWith("delete")) {
-    const by = extentOf(kind);
-    const commands = by === "forward" ? ["forwardDelete", "delete"] : ["delete"];
-    return { act: "delete", commands, by, isAimed: kind === "deleteByDrag" };
-  }
-  const command = COMMANDS.get(kind) ?? VALUED.get(kind);
-  const value = VALUED.has(kind) ? text : "";
-  return command ? { act: "command", commands: [command], value } : null;
-}
-
-/** @param {string} kind */
-function extentOf(kind) {
-  switch (kind) {
-    case "deleteContentBackward":
-      return "backward";
-    case "deleteContentForward":
-      return "forward";
-    default:
-      return "range";
-  }
+export function textOf({ data, dataTransfer }) {
+  return data ?? dataTransfer?.getData("text/plain") ?? "";
 }
 
 /**
  * The whole characters of what is typed: of one that takes two UTF-16 units, a key of Firefox gives
  * each in an input of its own.
  */
-export class Halves {
+export class SurrogatePairs {
   #first = "";
 
   /**
@@ -131,30 +43,4 @@ export class Halves {
     this.#first = isHalf ? all.slice(-1) : "";
     return isHalf ? all.slice(0, -1) : all;
   }
-}
-
-/** The commands of keys that are pressed with Control, or with Command on Apple's machines. */
-const OF_KEYS = new Map([
-  ["z", "undo"],
-  ["b", "bold"],
-  ["i", "italic"],
-  ["u", "underline"],
-]);
-
-/**
- * The command that a key asks for, null where it asks for none: undo and redo, of which a browser says
- * nothing where it has nothing to undo itself, and the styles that Firefox has no keys for.
- * @param {KeyboardEvent} event
- */
-export function commandOfKey(event) {
-  const isApple = /^(Mac|iPhone|iPad)/.test(navigator.platform);
-  const isHeld = (isApple ? event.metaKey : event.ctrlKey) && !event.altKey && !event.isComposing;
-  if (!isHeld || event.defaultPrevented) {
-    return null;
-  }
-  // On a keyboard of another script the letter is known by its place.
-  const letter = /^[a-z]$/i.test(event.key) ? event.key : event.code.replace("Key", "");
-  const key = letter.toLowerCase();
-  const isRedo = event.shiftKey ? key === "z" : key === "y" && !isApple;
-  return isRedo ? "redo" : event.shiftKey ? null : (OF_KEYS.get(key) ?? null);
 }

@@ -1,6 +1,9 @@
 /** What a region has of one engine: an editor of its page, and all that shows and changes it. */
 import { EngineStopped } from "./hedit.js";
+import { commandOf } from "./region_command_table.js";
 import { Commands, HABITS } from "./region_commands.js";
+import { selectForward } from "./region_deletion.js";
+import { isCaret } from "./region_nodes.js";
 import { open } from "./region_open.js";
 import { Readback } from "./region_readback.js";
 import { Selections } from "./region_selection.js";
@@ -14,8 +17,6 @@ import { View } from "./region_view.js";
 /** An editor of a region's page. */
 export class Session {
   steps = new Steps();
-
-  #tags;
 
   /**
    * Opens a page in an engine, and shows it.
@@ -34,7 +35,6 @@ export class Session {
     const limits = { undoDepth, ...(labelCap === undefined ? {} : { labelCap }) };
     const { editor, root } = open(engine, tags, html, limits);
     editor.exec("defaultParagraphSeparator", separator);
-    this.#tags = tags;
     this.editor = editor;
     this.view = new View(editor, element, root, shown);
     this.commands = new Commands(editor, this.view, { ...HABITS, ...choices }, undoDepth);
@@ -48,8 +48,8 @@ export class Session {
 
   /** The markup as the engine has it. */
   html() {
-    const page = this.editor.html().slice(0, -1);
-    return this.#tags ? page.replace(/^<(?:[^">]|"[^"]*")*>/, "").replace(/<\/[^<]*$/, "") : page;
+    const labels = [...this.editor.children(this.view.root)];
+    return labels.map((label) => this.editor.nodeHtml(label)).join("");
   }
 
   /** Whether the engine has stopped, here or in another of its editors. */
@@ -63,33 +63,55 @@ export class Session {
   }
 
   /**
+   * Executes a command with the habits.
+   * @param {string} name
+   * @param {string} value
+   */
+  run(name, value) {
+    const { run } = commandOf(name);
+    return run ? run(this, value) : this.commands.run(name, value);
+  }
+
+  /**
    * Whether there is something for a command to work in.
-   * @param {string} name in lower case
+   * @param {string} name
    */
   isEnabled(name) {
-    switch (name) {
-      case "undo":
-        return this.steps.canUndo(this.editor.counts().undo);
-      case "redo":
-        return this.editor.counts().redo > 0;
-      case "forwarddelete":
-        return this.editor.enabled("delete");
-      default:
-        return this.editor.enabled(name);
+    const { isEnabled, needs = name } = commandOf(name);
+    return isEnabled ? isEnabled(this) : this.editor.enabled(needs);
+  }
+
+  /** Deletes what is selected, or at a caret what stands behind it. */
+  deleteForward() {
+    if (isCaret(this.editor.selection()) && !selectForward(this.commands)) {
+      this.selections.extendForward();
+      this.selections.read();
     }
+    return !isCaret(this.editor.selection()) && this.commands.run("delete");
   }
 
-  /** Takes a step back: what was selected before it, and undefined where there was none. */
+  /** Takes a step back, and selects what was selected before it. False where there was none. */
   undo() {
+    if (!this.steps.canUndo(this.editor.counts().undo)) {
+      return false;
+    }
     const undo = () => this.editor.undo();
-    return this.isEnabled("undo")
-      ? this.steps.undo((most) => this.commands.turn(most, undo))
-      : undefined;
+    return this.#selectAfter(this.steps.undo((most) => this.commands.turn(most, undo)));
   }
 
-  /** Takes a step forth again: what was selected after it, and undefined where there was none. */
+  /** Takes a step forth again, and selects what was selected after it. False where there was none. */
   redo() {
     const redo = () => this.editor.redo();
-    return this.steps.redo((most) => this.commands.turn(most, redo));
+    return this.#selectAfter(this.steps.redo((most) => this.commands.turn(most, redo)));
+  }
+
+  /**
+   * @param {import("./hedit.js").Selection | null | undefined} selection
+   */
+  #selectAfter(selection) {
+    if (selection) {
+      this.commands.selectAgain(selection);
+    }
+    return selection !== undefined;
   }
 }

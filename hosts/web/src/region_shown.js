@@ -16,20 +16,22 @@ import {
 /** @typedef {import("./region_print.js").Content} Content */
 
 /**
- * What a host says of what is shown. Where a call answers undefined, the tables decide. None of them
- * can show what acts: scripts, addresses that run them, forms, frames, custom elements, styles.
- * - `classes`: the words of `class` that are shown, by default none;
- * - `relative`: whether addresses may be relative to the page;
- * - `image(src)`: the address to show an image from, null for none, or a promise of these;
- * - `element(name, attributes)`: whether an element is shown;
- * - `attribute(name, attribute, value)`: whether an attribute of an element is shown, or the value
- *   that is.
- * @typedef {import("./shown.js").Allowed & {
- *   readonly image?: (src: string) => string | null | undefined | Promise<string | null | undefined>,
- *   readonly element?: (name: string, attributes: ReadonlyMap<string, string>) => boolean | undefined,
- *   readonly attribute?: (name: string, attribute: string, value: string) =>
- *     boolean | string | null | undefined,
- * }} ViewOptions
+ * @typedef {object} Answers
+ * @property {(src: string) => string | null | undefined | Promise<string | null | undefined>} [image]
+ *   The address to show an image from, null for none, or a promise of these. It is asked once for each.
+ * @property {(name: string, attributes: ReadonlyMap<string, string>) => boolean | undefined} [element]
+ *   Whether an element is shown. Others have a placeholder, a `div` or a `span`.
+ * @property {(
+ *   name: string, attribute: string, value: string,
+ * ) => boolean | string | null | undefined} [attribute] Whether an attribute of an element is shown, or
+ *   the value that is.
+ */
+
+/**
+ * What is shown of the page's HTML. Where a call answers undefined, the tables of shown.js decide. No
+ * call can show what acts: scripts, addresses that run them, forms, frames, custom elements, styles
+ * that the tables leave out.
+ * @typedef {import("./shown.js").Allowed & Answers} ViewOptions
  */
 
 /** How many styles are kept as the browser writes them. */

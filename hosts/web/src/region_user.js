@@ -1,9 +1,14 @@
 /** What the user of a region does by keys, inputs and the clipboard, for region.js. */
+import { askedByStart, autoformat } from "./region_autoformat.js";
+import { INPUTS, namesOf } from "./region_command_table.js";
+import { selectForward } from "./region_deletion.js";
+import { SurrogatePairs, isOfBrowser, textOf } from "./region_input.js";
+import { keyOf } from "./region_keymap.js";
 import { isCaret } from "./region_nodes.js";
-import { Halves, commandOfKey, isOfBrowser, meaningOf } from "./region_input.js";
 
 /** @typedef {import("./hedit.js").Selection} Selection */
-/** @typedef {import("./region_input.js").Meaning} Meaning */
+/** @typedef {import("./region_command_table.js").Asked} Asked */
+/** @typedef {import("./region_keymap.js").Keys} Keys */
 /** @typedef {import("./region_session.js").Session} Session */
 
 /**
@@ -18,13 +23,23 @@ import { Halves, commandOfKey, isOfBrowser, meaningOf } from "./region_input.js"
  *   refuse tells that something isn't done
  * @property {() => void} read selects what the page shows as selected
  * @property {() => void} reveal scrolls to where the selection is
+ * @property {(call: (region: import("./region.js").Region) => boolean) => boolean} run calls a
+ *   function of the host
  */
 
 /** The user of a region. */
 export class User {
   #acts;
 
-  #halves = new Halves();
+  #keys;
+
+  /** Whether Escape was pressed last, after which Tab goes to the browser. */
+  #isLeaving = false;
+
+  /** Whether the key that is down is turned off. */
+  #isKeyOff = false;
+
+  #pairs = new SurrogatePairs();
 
   /**
    * How many steps there were before the last input, where that took away what is dragged.
@@ -38,9 +53,13 @@ export class User {
    */
   #pasted = null;
 
-  /** @param {Acts} acts */
-  constructor(acts) {
+  /**
+   * @param {Acts} acts
+   * @param {Keys} keys
+   */
+  constructor(acts, keys) {
     this.#acts = acts;
+    this.#keys = keys;
   }
 
   get #session() {
@@ -48,12 +67,35 @@ export class User {
   }
 
   /** @param {KeyboardEvent} event */
-  key(event) {
-    const command = this.#acts.isEditable() ? commandOfKey(event) : null;
-    if (!command) {
-      return;
+  keyDown(event) {
+    const action = this.#isLeft(event) ? undefined : this.#keys.actionOf(event);
+    this.#isKeyOff = action === null;
+    if (typeof action === "string" && this.#acts.isEditable()) {
+      event.preventDefault();
+      this.#execute(action);
+    } else if (typeof action === "function" && this.#acts.run(action)) {
+      event.preventDefault();
+      this.#acts.reveal();
     }
-    event.preventDefault();
+  }
+
+  /**
+   * Whether a key is left to the browser: after Escape, Tab leaves the region anywhere.
+   * @param {KeyboardEvent} event
+   */
+  #isLeft(event) {
+    const key = keyOf(event);
+    const isLeaving = this.#isLeaving && (key === "Tab" || key === "Shift");
+    this.#isLeaving = isLeaving || key === "Escape";
+    return isLeaving;
+  }
+
+  keyUp() {
+    this.#isKeyOff = false;
+  }
+
+  /** @param {string} command */
+  #execute(command) {
     if (this.#acts.isDenied(command)) {
       this.#acts.refuse(command, "denied");
     } else {
@@ -71,16 +113,20 @@ export class User {
       return;
     }
     event.preventDefault();
+    if (this.#isKeyOff && /^(?:format|history)/.test(event.inputType)) {
+      return;
+    }
     const pasted = event.inputType.startsWith("insertFromPaste") ? this.#pasted : null;
     this.#pasted = null;
-    const meaning = meaningOf(event, pasted);
+    const text = pasted ?? textOf(event);
+    const asked = INPUTS.get(event.inputType);
     const steps = this.#session.steps.length;
-    if (!meaning) {
+    if (!asked) {
       this.#acts.refuse(event.inputType, "unknown");
-    } else if (this.#acts.isDenied(...meaning.commands)) {
-      this.#acts.refuse(meaning.commands[0], "denied", "text" in meaning ? meaning.text : "");
+    } else if (this.#acts.isDenied(...namesOf(asked.command))) {
+      this.#acts.refuse(asked.command, "denied", asked.command === "insertText" ? text : "");
     } else if (this.#acts.isEditable()) {
-      this.#do(event, meaning);
+      this.#answer(event, asked, text);
     }
     if (event.inputType === "insertFromDrop") {
       this.#session.steps.join(this.#dragged ?? steps);
@@ -91,39 +137,56 @@ export class User {
 
   /**
    * @param {InputEvent} event
-   * @param {Meaning} meaning
+   * @param {Asked} asked
+   * @param {string} text
    */
-  #do(event, meaning) {
-    switch (meaning.act) {
-      case "command":
-        this.#acts.exec(meaning.commands[0], meaning.value);
+  #answer(event, { command, answer }, text) {
+    switch (answer) {
+      case "execute":
+        this.#acts.exec(command, text);
         break;
       case "insert":
-        this.#insert(event, meaning);
+      case "insertAt":
+        this.#insert(event, text, answer === "insertAt");
         break;
       case "replace":
-        this.#acts.act(() => this.#replace(event, meaning.text));
+        this.#acts.act(() => this.#replace(event, text));
+        break;
+      case "delete":
+        this.#acts.act(() => this.#delete(event, command));
         break;
       default:
-        this.#acts.act(() => this.#delete(event, meaning));
+        this.#acts.act(() => this.#deleteRange(event, answer === "deleteFrom"));
     }
   }
 
   /**
    * @param {InputEvent} event
-   * @param {{ text: string, isAimed: boolean }} meaning
+   * @param {string} text
+   * @param {boolean} isAimed whether the input's own range is meant, whatever is selected
    */
-  #insert(event, { text, isAimed }) {
-    const whole = this.#halves.join(text);
+  #insert(event, text, isAimed) {
+    const whole = this.#pairs.join(text);
     const isDone = this.#acts.act(() => {
-      this.#aim(event, isAimed);
+      this.#selectTarget(event, isAimed);
       return whole !== "" && this.#session.commands.type(whole);
     });
-    if (!isDone && whole !== "") {
+    if (isDone && whole === " ") {
+      this.#autoformat();
+    } else if (!isDone && whole !== "") {
       this.#acts.refuse("insertText", "impossible", whole);
     } else if (text === "") {
       // As where a file is pasted.
       this.#acts.refuse(event.inputType, "unknown");
+    }
+  }
+
+  /** Makes a list or a quotation where one is typed, as a step of its own: undo gives the text back. */
+  #autoformat() {
+    const { commands } = this.#session;
+    const asked = commands.has("autoformat") ? askedByStart(commands) : null;
+    if (asked && !this.#acts.isDenied(asked.command)) {
+      this.#acts.act(() => autoformat(commands, asked));
     }
   }
 
@@ -138,18 +201,17 @@ export class User {
   }
 
   /**
+   * Deletes what is selected, or at a caret what stands beside it. The browser knows what that is
+   * behind a caret at the end of a text.
    * @param {InputEvent} event
-   * @param {{ by: "backward" | "forward" | "range", isAimed: boolean }} meaning
+   * @param {string} command
    */
-  #delete(event, { by, isAimed }) {
-    switch (by) {
-      case "backward":
-        return this.#session.commands.deleteBackward();
-      case "forward":
-        return this.deleteForward(event);
-      default:
-        return this.#deleteRange(event, isAimed);
-    }
+  #delete(event, command) {
+    const { commands } = this.#session;
+    const isForward = command === "forwardDelete";
+    return isForward && !selectForward(commands)
+      ? this.#deleteRange(event, false)
+      : commands.run("delete");
   }
 
   /**
@@ -158,27 +220,8 @@ export class User {
    * @param {boolean} isAimed
    */
   #deleteRange(event, isAimed) {
-    const isSelected = this.#aim(event, isAimed) || !isCaret(this.#session.editor.selection());
-    return isSelected && this.#session.commands.deleteSelection();
-  }
-
-  /**
-   * Deletes what is selected, or at a caret what stands behind it: the browser knows what that is at
-   * the end of a text.
-   * @param {InputEvent} [event]
-   */
-  deleteForward(event) {
-    if (this.#session.commands.selectClusterBehind()) {
-      return this.#session.commands.deleteSelection();
-    }
-    if (event) {
-      return this.#deleteRange(event, false);
-    }
-    if (isCaret(this.#session.editor.selection())) {
-      this.#session.selections.extendForward();
-      this.#acts.read();
-    }
-    return !isCaret(this.#session.editor.selection()) && this.#session.commands.deleteSelection();
+    const isSelected = this.#selectTarget(event, isAimed) || !isCaret(this.#session.editor.selection());
+    return isSelected && this.#session.commands.run("delete");
   }
 
   /**
@@ -187,7 +230,7 @@ export class User {
    * @param {InputEvent} event
    * @param {boolean} isAimed
    */
-  #aim(event, isAimed) {
+  #selectTarget(event, isAimed) {
     const isMeant = isAimed || isCaret(this.#session.editor.selection());
     const range = isMeant ? this.#target(event) : null;
     if (!range || (!isAimed && isCaret(range))) {
@@ -237,7 +280,7 @@ export class User {
     if (this.#acts.isDenied("delete")) {
       this.#acts.refuse("delete", "denied");
     } else {
-      this.#acts.act(() => this.#session.commands.deleteSelection());
+      this.#acts.act(() => this.#session.commands.run("delete"));
     }
   }
 }

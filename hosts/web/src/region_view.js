@@ -6,7 +6,7 @@
 import { EngineStopped, NodeKind, toCharacters, toUnits } from "./hedit.js";
 import { difference, isBlock, isCharacters, isElement, isInside, isText } from "./region_nodes.js";
 import { print } from "./region_print.js";
-import { isBlockName, VOIDS } from "./shown.js";
+import { VOIDS, isBlockName } from "./shown.js";
 
 /** @typedef {import("./hedit.js").Change} Change */
 /** @typedef {import("./hedit.js").Editor} Editor */
@@ -18,6 +18,9 @@ import { isBlockName, VOIDS } from "./shown.js";
 
 /** From how many changes on it is worth to have the browser look at all of them at once. */
 const MANY_CHANGES = 100;
+
+/** From how many changes on the engine isn't asked for them. */
+const MOST_CHANGES = 5_000;
 
 /** @type {Content} */
 const NO_CONTENT = { name: "", attributes: new Map() };
@@ -143,6 +146,14 @@ export class View {
       }
     }
     return null;
+  }
+
+  /**
+   * The first list in an item.
+   * @param {Element} item
+   */
+  listIn(item) {
+    return [...item.querySelectorAll("*")].find((each) => /^[uo]l$/.test(this.nameOf(each)));
   }
 
   /** The page as HTML, or what is in the element: as the page shows it, without the engine. */
@@ -272,8 +283,8 @@ export class View {
   #adoptFrom(label, node) {
     while (label !== null && node) {
       const { kind, firstChild, next } = this.#editor.node(label);
-      const isElement = kind === NodeKind.ELEMENT;
-      if (node.nodeType !== kind || (isElement && !this.#isNamed(label, node))) {
+      const hasName = kind === NodeKind.ELEMENT;
+      if (node.nodeType !== kind || (hasName && !this.#isNamed(label, node))) {
         return;
       }
       this.#keep(label, node);
@@ -304,13 +315,16 @@ export class View {
    * Does to the page what the engine's last call changed, and looks at nothing else. At first, and
    * where a call was missed or its changes can't be had, the two are compared. Says whether the
    * engine's page is another one.
+   * @param {number} edits about how many edits the call made: to be told of very many takes longer than
+   *   to compare
    */
-  follow() {
+  follow(edits = 0) {
     const [seen, now] = [this.#seen, this.#editor.revision()];
     if (now === seen) {
       return false;
     }
-    if (seen === null || now > seen + 1 || !this.#replay()) {
+    const isKnown = seen !== null && now === seen + 1 && edits < MOST_CHANGES;
+    if (!isKnown || !this.#replay()) {
       this.mend(this.#root);
     }
     this.#seen = now;
@@ -573,8 +587,8 @@ export class View {
    */
   #updateAttributes(node, content) {
     const shown = this.#shown.attributesOf(content);
-    for (const name of node.getAttributeNames().filter((name) => !shown.has(name))) {
-      node.removeAttribute(name);
+    for (const extra of node.getAttributeNames().filter((name) => !shown.has(name))) {
+      node.removeAttribute(extra);
     }
     for (const [name, value] of shown) {
       if (node.getAttribute(name) === value) {

@@ -5,9 +5,12 @@
  */
 
 /**
- * What a host allows beyond the tables: words of `class`, as a list or as an expression that a whole
- * word has to match, and addresses that are relative to its own page.
- * @typedef {{ readonly classes?: RegExp | Iterable<string>, readonly relative?: boolean }} Allowed
+ * What a host allows beyond the tables.
+ * @typedef {object} Allowed
+ * @property {RegExp | Iterable<string>} [classes] Words of `class` that are shown: a list, or an
+ *   expression that matches whole words. By default none.
+ * @property {boolean} [relative] Whether addresses that depend on the page are shown. By default they
+ *   aren't.
  */
 
 /** @param {string} text */

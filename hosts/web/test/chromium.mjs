@@ -139,17 +139,18 @@ export class Chromium {
   }
 
   /**
-   * A page of its own, with storage of its own.
+   * A page of its own, with storage of its own, or with that of the page that it is beside.
    * @param {string} address
-   * @param {{ width?: number, height?: number, mobile?: boolean, scheme?: "light" | "dark" }} screen
+   * @param {{ width?: number, height?: number, mobile?: boolean, scheme?: "light" | "dark",
+   *   beside?: ChromiumPage }} screen
    */
-  async open(address, { width = 1280, height = 800, mobile = false, scheme = "light" } = {}) {
-    const { browserContextId } = await this.send("Target.createBrowserContext");
+  async open(address, { width = 1280, height = 800, mobile = false, scheme = "light", beside } = {}) {
+    const browserContextId = beside?.context ?? (await this.#makeContext());
     const blank = { url: "about:blank", browserContextId };
     const { targetId } = await this.send("Target.createTarget", blank);
     const attach = { targetId, flatten: true };
     const { sessionId } = await this.send("Target.attachToTarget", attach);
-    const page = new ChromiumPage(this, sessionId, browserContextId);
+    const page = new ChromiumPage(this, sessionId, browserContextId, beside && targetId);
     await page.send("Runtime.enable");
     await page.send("Log.enable");
     await page.send("Page.enable");
@@ -160,6 +161,11 @@ export class Chromium {
     await page.setScheme(scheme);
     await page.send("Page.navigate", { url: address });
     return page;
+  }
+
+  async #makeContext() {
+    const { browserContextId } = await this.send("Target.createBrowserContext");
+    return browserContextId;
   }
 
   async close() {
@@ -176,13 +182,15 @@ class ChromiumPage extends Page {
 
   #session;
 
-  #context;
+  /** What closes by itself, if the storage is another page's. */
+  #target;
 
-  constructor(browser, session, context) {
+  constructor(browser, session, context, target) {
     super();
     this.#browser = browser;
     this.#session = session;
-    this.#context = context;
+    this.context = context;
+    this.#target = target;
   }
 
   /** @param {string} method */
@@ -291,15 +299,32 @@ class ChromiumPage extends Page {
     await this.settle();
   }
 
+  /** All pages of Chromium have the focus here. */
+  async front() {}
+
   async allowClipboard() {
     const permissions = ["clipboardReadWrite", "clipboardSanitizedWrite"];
-    const browserContextId = this.#context;
+    const browserContextId = this.context;
     await this.#browser.send("Browser.grantPermissions", { permissions, browserContextId });
   }
 
   async saveTo(folder) {
-    const target = { browserContextId: this.#context, behavior: "allow", downloadPath: folder };
+    const target = { browserContextId: this.context, behavior: "allow", downloadPath: folder };
     await this.#browser.send("Browser.setDownloadBehavior", target);
+  }
+
+  async choose(selector, files) {
+    const { root } = await this.send("DOM.getDocument");
+    const { nodeId } = await this.send("DOM.querySelector", { nodeId: root.nodeId, selector });
+    await this.send("DOM.setFileInputFiles", { nodeId, files });
+  }
+
+  async drop(at, files) {
+    const data = { items: [], files, dragOperationsMask: 1 };
+    for (const type of ["dragEnter", "dragOver", "drop"]) {
+      await this.send("Input.dispatchDragEvent", { type, ...at, data });
+    }
+    await this.settle();
   }
 
   /** How many milliseconds of processor the page's main thread has taken. */
@@ -325,6 +350,10 @@ class ChromiumPage extends Page {
   }
 
   async close() {
-    await this.#browser.send("Target.disposeBrowserContext", { browserContextId: this.#context });
+    if (this.#target) {
+      await this.#browser.send("Target.closeTarget", { targetId: this.#target });
+    } else {
+      await this.#browser.send("Target.disposeBrowserContext", { browserContextId: this.context });
+    }
   }
 }

@@ -29,7 +29,7 @@ export function withMorePages(pages) {
   for (;;) {
     const [length, start] = leb(BYTES, at + 1);
     if (BYTES[at] === 5) {
-      const [least, end] = leb(BYTES, start + 2);
+      const [least] = leb(BYTES, start + 2);
       const most = least + pages;
       const limits = [1, BYTES[start + 1], least, most];
       return Buffer.concat([

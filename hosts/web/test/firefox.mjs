@@ -8,7 +8,7 @@ import { writeFile } from "node:fs/promises";
 import { join } from "node:path";
 import { setTimeout as sleep } from "node:timers/promises";
 import { KEYS } from "./keys.mjs";
-import { Page, expressionOf, makeProfile, removeProfile, shifted } from "./page.mjs";
+import { CannotDo, Page, expressionOf, makeProfile, removeProfile, shifted } from "./page.mjs";
 import { Socket } from "./websocket.mjs";
 
 const PROGRAM = "firefox-esr";
@@ -190,20 +190,26 @@ export class Firefox {
   }
 
   /**
-   * A page of its own, with storage of its own.
+   * A page of its own, with storage of its own, or with that of the page that it is beside.
    * @param {string} address
-   * @param {{ width?: number, height?: number, mobile?: boolean, scheme?: "light" | "dark" }} screen
+   * @param {{ width?: number, height?: number, mobile?: boolean, scheme?: "light" | "dark",
+   *   beside?: FirefoxPage }} screen
    */
-  async open(address, { width = 1280, height = 800, mobile = false, scheme = "light" } = {}) {
-    const { userContext } = await this.send("browser.createUserContext");
+  async open(address, { width = 1280, height = 800, mobile = false, scheme = "light", beside } = {}) {
+    const userContext = beside?.user ?? (await this.#makeUser());
     const { context } = await this.send("browsingContext.create", { type: "tab", userContext });
-    const page = new FirefoxPage(this, context, userContext);
+    const page = new FirefoxPage(this, context, userContext, beside !== undefined);
     const viewport = { viewport: { width, height }, devicePixelRatio: mobile ? 2 : 1 };
     await this.send("browsingContext.setViewport", { context, ...viewport });
-    await this.send("browsingContext.activate", { context });
+    await page.front();
     await page.setScheme(scheme);
     await this.send("browsingContext.navigate", { context, url: address, wait: "none" });
     return page;
+  }
+
+  async #makeUser() {
+    const { userContext } = await this.send("browser.createUserContext");
+    return userContext;
   }
 
   async close() {
@@ -221,13 +227,15 @@ class FirefoxPage extends Page {
 
   #context;
 
-  #user;
+  /** Whether the storage is another page's. */
+  #isBeside;
 
-  constructor(browser, context, user) {
+  constructor(browser, context, user, isBeside) {
     super();
     this.#browser = browser;
     this.#context = context;
-    this.#user = user;
+    this.user = user;
+    this.#isBeside = isBeside;
   }
 
   evaluate(call, ...words) {
@@ -330,13 +338,30 @@ class FirefoxPage extends Page {
     await this.#method("correct", text, word);
   }
 
+  async front() {
+    await this.#browser.send("browsingContext.activate", { context: this.#context });
+  }
+
   /** It may: see the preferences. */
   async allowClipboard() {}
 
   async saveTo(folder) {
     const downloadBehavior = { type: "allowed", destinationFolder: folder };
-    const userContexts = [this.#user];
+    const userContexts = [this.user];
     await this.#browser.send("browser.setDownloadBehavior", { downloadBehavior, userContexts });
+  }
+
+  async choose(selector, files) {
+    const expression = `document.querySelector(${JSON.stringify(selector)})`;
+    const target = { context: this.#context };
+    const options = { expression, target, awaitPromise: false };
+    const { result } = await this.#browser.send("script.evaluate", options);
+    const element = { sharedId: result.sharedId };
+    await this.#browser.send("input.setFiles", { context: this.#context, element, files });
+  }
+
+  async drop() {
+    throw new CannotDo("Firefox's driver drops no files");
   }
 
   /** How many milliseconds of processor the page's main thread has taken. */
@@ -361,6 +386,10 @@ class FirefoxPage extends Page {
   }
 
   async close() {
-    await this.#browser.send("browser.removeUserContext", { userContext: this.#user });
+    if (this.#isBeside) {
+      await this.#browser.send("browsingContext.close", { context: this.#context });
+    } else {
+      await this.#browser.send("browser.removeUserContext", { userContext: this.user });
+    }
   }
 }

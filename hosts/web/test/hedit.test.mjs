@@ -42,32 +42,6 @@ describe("the header", async () => {
   });
 });
 
-describe("hedit.d.ts", async () => {
-  const types = await readFile(new URL("../src/hedit.d.ts", import.meta.url), "utf8");
-
-  it("has what is exported", () => {
-    const names = [...types.matchAll(/^export declare (?:const|class|function) (\w+)/gm)];
-    assert.deepEqual(names.map(([, name]) => name).sort(), Object.keys(hedit).sort());
-  });
-
-  it("has the calls of the classes", () => {
-    for (const name of ["Editor", "Engine"]) {
-      const [body] = types.split(`class ${name} {`)[1].split("\n}");
-      const calls = new Set([...body.matchAll(/^  (?:private )?(\w+)\(/gm)].map(([, call]) => call));
-      assert.deepEqual(calls, new Set(Object.getOwnPropertyNames(hedit[name].prototype)));
-    }
-  });
-
-  it("has the numbers and the words", () => {
-    for (const name of ["Status", "Question", "View", "NodeKind", "PageKind"]) {
-      const [body] = types.split(`const ${name}: Readonly<{`)[1].split("}>");
-      const members = [...body.matchAll(/(\w+): ([^;]+);?/g)];
-      const values = members.map(([, key, value]) => [key, JSON.parse(value)]);
-      assert.deepEqual(Object.fromEntries(values), { ...hedit[name] });
-    }
-  });
-});
-
 describe("an editor", () => {
   it("selects, executes, undoes and redoes", () => {
     const editor = engine.open(PAGE);
@@ -240,6 +214,33 @@ describe("denied names", () => {
   });
 });
 
+describe("a command with options", () => {
+  const open = (t) => {
+    const editor = engine.open(PAGE);
+    t.after(() => editor.close());
+    return { editor, text: editor.labelAt([0, 0]) };
+  };
+
+  it("works on a range within a step", (t) => {
+    const { editor, text } = open(t);
+    const range = { anchor: { label: text, offset: 0 }, focus: { label: text, offset: 4 } };
+    assert.equal(editor.exec("bold", "", { range }), true);
+    const rest = { anchor: { path: [0, 1], offset: 0 }, focus: { path: [0, 1], offset: 1 } };
+    assert.equal(editor.exec("italic", "", { range: rest, joined: true }), true);
+    assert.equal(editor.counts().undo, 1);
+    assert.equal(editor.undo(), true);
+    assert.equal(editor.html(), '<p contenteditable="">Call Ann</p>\n');
+  });
+
+  it("is refused where its name is denied or its range is nowhere", (t) => {
+    const { editor, text } = open(t);
+    const range = { anchor: { label: text, offset: 0 }, focus: { label: text, offset: 99 } };
+    assert.equal(editor.exec("bold", "", { range, denied: ["bold"] }), false);
+    refused(() => editor.exec("bold", "", { range }), "BadPlace", Status.BAD_PLACE);
+    assert.equal(editor.selection(), null);
+  });
+});
+
 describe("a cause has a class", () => {
   const open = (t, page, limits) => {
     const editor = engine.open(page, limits);
@@ -256,8 +257,8 @@ describe("a cause has a class", () => {
         return [error.at, error.kind, error.message];
       }
     };
-    assert.deepEqual(place("<p>x</b>"), [6, PageKind.STRAY_END, "no page: stray-end at 6"]);
-    assert.deepEqual(place("<p>é😀</b>"), [8, "stray-end", "no page: stray-end at 8"]);
+    assert.deepEqual(place("<p>x</b>"), [6, PageKind.STRAY_END, "the page is refused: stray-end at 6"]);
+    assert.deepEqual(place("<p>é😀</b>"), [8, "stray-end", "the page is refused: stray-end at 8"]);
     assert.deepEqual(place(new TextEncoder().encode("<p>é😀</b>")).slice(0, 2), [11, "stray-end"]);
     assert.deepEqual(place(new Uint8Array([120, 255])).slice(0, 2), [1, PageKind.NOT_UTF8]);
     assert.deepEqual(place("<p>").slice(1, 2), [PageKind.UNCLOSED]);

@@ -77,7 +77,7 @@ describe("the engine isn't loaded", () => {
     await refuses(address, EngineNotLoaded, address, "sent text/html");
   });
 
-  it("where nothing answers", async (t) => {
+  it("where nothing answers", async () => {
     const server = createServer();
     await new Promise((resolve) => server.listen(0, "127.0.0.1", resolve));
     const address = `http://127.0.0.1:${server.address().port}/hedit.wasm`;

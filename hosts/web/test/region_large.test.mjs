@@ -98,20 +98,15 @@ for (const { Browser, name, skip } of BROWSERS) {
         await region.shows("<p>ab</p>");
       });
 
-      it("takes a long line, and refuses one that is too long", options, async () => {
+      it("takes a long line", options, async () => {
         const copy = (count) => navigator.clipboard.writeText(`é${"é".repeat(count)}\nx`);
         await open("<p>ab</p>");
         await region.click([0, 0], 1);
-        await region.page.evaluate(copy, 4_999);
+        await region.page.evaluate(copy, 99_999);
         await region.press("Control+v");
-        await region.shows(`<p>a${"é".repeat(5_000)}</p><p>xb</p>`);
+        await region.shows(`<p>a${"é".repeat(100_000)}</p><p>xb</p>`);
         await region.press("Control+z");
         await region.shows("<p>ab</p>");
-        await region.events();
-        await region.page.evaluate(copy, 20_000);
-        await region.press("Control+v");
-        await region.shows("<p>ab</p>");
-        assert.ok((await region.events()).includes("a line has more than 20,000 characters"));
       });
     });
   });

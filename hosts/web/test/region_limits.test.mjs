@@ -1,4 +1,4 @@
-/** What a region doesn't do: what is denied, steps that the history has lost, and all where it is only read. */
+/** What a region doesn't do: what is denied, steps that the history has lost, and all if it is read-only. */
 import assert from "node:assert/strict";
 import { describe } from "node:test";
 import { BROWSERS, it } from "./browsers.mjs";

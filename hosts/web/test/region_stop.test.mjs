@@ -178,7 +178,7 @@ for (const { Browser, name, skip } of BROWSERS) {
       const PAGES = [
         ["<p>a &copy; b & c<p>d", "<p>a © b &amp; c</p><p>d</p>"],
         ["<div>a</br>b</div>", "<p>a<br>b</p>"],
-        ['<p class=MsoNormal><o:p>&nbsp;</o:p>a</p><style>p {}</style>', /^<p>.*a<\/p>$/],
+        ["<p class=MsoNormal><o:p>&nbsp;</o:p>a</p><style>p {}</style>", /^<p>.*a<\/p>$/],
         ["<b><p>a</b>b</p>", /<b>a<\/b>b/],
       ];
 

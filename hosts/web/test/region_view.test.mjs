@@ -2,23 +2,10 @@
 import assert from "node:assert/strict";
 import { readFile } from "node:fs/promises";
 import { describe } from "node:test";
-import { HABITS, Region } from "../src/region.js";
+import { HABITS } from "../src/region.js";
 import { BROWSERS, it } from "./browsers.mjs";
 import { RegionPage } from "./region_page.mjs";
 import { serve } from "./server.mjs";
-
-describe("region.d.ts", async () => {
-  const types = await readFile(new URL("../src/region.d.ts", import.meta.url), "utf8");
-
-  it("has the calls of a region, and its habits", () => {
-    const [calls] = types.split("class Region ")[1].split("\n  addEventListener");
-    const names = [...calls.matchAll(/^  (?:get )?(\w+)(?:<T>)?\(/gm)].map(([, name]) => name);
-    assert.deepEqual(new Set(names), new Set(Object.getOwnPropertyNames(Region.prototype)));
-    const [habits] = types.split("interface Habits {")[1].split("\n}");
-    const each = [...habits.matchAll(/readonly (\w+): boolean/g)].map(([, name]) => name);
-    assert.deepEqual(each.sort(), Object.keys(HABITS).sort());
-  });
-});
 
 describe("the page of docs/WEB.md", async () => {
   const documents = new URL("../../../docs/WEB.md", import.meta.url);

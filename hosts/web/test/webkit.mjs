@@ -76,7 +76,7 @@ class Session {
   }
 
   async #begin() {
-    const wanted = { pageLoadStrategy: "eager", "webkitgtk:browserOptions": OPTIONS };
+    const wanted = { pageLoadStrategy: "normal", "webkitgtk:browserOptions": OPTIONS };
     const capabilities = { alwaysMatch: wanted };
     const end = Date.now() + PATIENCE;
     for (;;) {
@@ -175,9 +175,13 @@ export class WebKit {
   /**
    * A page of its own, with storage of its own.
    * @param {string} address
-   * @param {{ width?: number, height?: number, mobile?: boolean, scheme?: "light" | "dark" }} screen
+   * @param {{ width?: number, height?: number, mobile?: boolean, scheme?: "light" | "dark",
+   *   beside?: WebKitPage }} screen
    */
-  async open(address, { width = 1280, height = 800, mobile = false, scheme = "light" } = {}) {
+  async open(address, { width = 1280, height = 800, mobile = false, scheme = "light", beside } = {}) {
+    if (beside) {
+      throw new CannotDo("WebKit's driver has no two windows with one storage");
+    }
     if (mobile) {
       throw new CannotDo("WebKit's driver has no screens of phones");
     }
@@ -342,11 +346,24 @@ class WebKitPage extends Page {
     throw new CannotDo("WebKit's driver has no spelling");
   }
 
+  /** Its window is the only one. */
+  async front() {}
+
   /** It may: see the options. */
   async allowClipboard() {}
 
   async saveTo() {
     throw new CannotDo("WebKit's driver saves nothing");
+  }
+
+  async choose(selector, files) {
+    const using = { using: "css selector", value: selector };
+    const [element] = Object.values(await this.#session.send("element", using));
+    await this.#session.send(`element/${element}/value`, { text: files.join("\n") });
+  }
+
+  async drop() {
+    throw new CannotDo("WebKit's driver drops no files");
   }
 
   async processor() {
