@@ -502,9 +502,7 @@ def key_in_chains() -> None:
         select_it = select("0/0/1" + "/0" * count + ":2")
         without = used(session_of(page, [select_it]), "run").seconds
         seconds.append(used(session_of(page, [select_it, "exec insertText x"]), "run").seconds - without)
-    print(
-        "CPU seconds of a key in three chains of b, of 48, 96 and 192:", *(f"{each:.2f}" for each in seconds)
-    )
+    print("CPU seconds of a key in three chains of b, of 48, 96 and 192:", *(f"{each:.2f}" for each in seconds))
     told("insertText in three chains of 192 b, seconds", seconds[-1], 0.02)
 
 

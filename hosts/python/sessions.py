@@ -10,7 +10,7 @@ from collections.abc import Callable, Iterable
 from pathlib import Path
 
 from follow import Tree
-from hedit import BadPlace, Editor, HeditError, PageFull, Place, TooDeep, TooManyMarks, session
+from hedit import BadPlace, Editor, HeditError, PageFull, Place, Point, TooDeep, TooManyMarks, session
 
 sys.path.append(str(Path(__file__).resolve().parents[2] / "tests"))
 import session_form
@@ -67,9 +67,17 @@ class FollowedEditor(Editor):
         self.is_followed &= self.forgotten.isdisjoint(self.own_tree.items)
         self.is_followed &= all(map(self.is_kept, self.own_tree.items))
 
-    def exec(self, name: str | bytes, value: str | bytes = "", denied: Iterable[str] = ()) -> bool:
+    def exec(
+        self,
+        name: str | bytes,
+        value: str | bytes = "",
+        denied: Iterable[str] = (),
+        *,
+        range: tuple[Place | Point, Place | Point] | None = None,
+        joined: bool = False,
+    ) -> bool:
         try:
-            return super().exec(name, value, denied)
+            return super().exec(name, value, denied, range=range, joined=joined)
         finally:
             self._follow()
 
