@@ -6,11 +6,12 @@ has to answer as a session of these lines alone. Beside it a tree follows what e
 has to come to the same HTML after each."""
 import re
 import sys
-from collections.abc import Callable, Iterable
+from collections.abc import Callable
 from pathlib import Path
+from typing import Any
 
 from follow import Tree
-from hedit import BadPlace, Editor, HeditError, PageFull, Place, Point, TooDeep, TooManyMarks, session
+from hedit import BadPlace, Editor, HeditError, PageFull, Place, TooDeep, TooManyMarks, session
 
 sys.path.append(str(Path(__file__).resolve().parents[2] / "tests"))
 import session_form
@@ -67,17 +68,9 @@ class FollowedEditor(Editor):
         self.is_followed &= self.forgotten.isdisjoint(self.own_tree.items)
         self.is_followed &= all(map(self.is_kept, self.own_tree.items))
 
-    def exec(
-        self,
-        name: str | bytes,
-        value: str | bytes = "",
-        denied: Iterable[str] = (),
-        *,
-        range: tuple[Place | Point, Place | Point] | None = None,
-        joined: bool = False,
-    ) -> bool:
+    def exec(self, *words: Any, **options: Any) -> bool:
         try:
-            return super().exec(name, value, denied, range=range, joined=joined)
+            return super().exec(*words, **options)
         finally:
             self._follow()
 

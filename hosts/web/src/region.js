@@ -36,9 +36,13 @@ export { HABITS, KEYMAP };
 
 /** @typedef {import("./clean.js").CleanOptions} CleanOptions */
 /** @typedef {import("./hedit.js").Engine} Engine */
+/** @typedef {import("./hedit.js").Mark} Mark */
 /** @typedef {import("./hedit.js").Limits} Limits */
 /** @typedef {import("./hedit.js").Point} Point */
+/** @typedef {import("./hedit.js").Selection} Selection */
 /** @typedef {import("./region_commands.js").Habits} Habits */
+/** @typedef {import("./region_defined.js").RegionCommand} RegionCommand */
+/** @typedef {import("./region_find.js").FindOptions} FindOptions */
 /** @typedef {import("./region_keymap.js").KeyAction} KeyAction */
 /** @typedef {import("./region_keymap.js").Keymap} Keymap */
 /** @typedef {import("./region_shown.js").ViewOptions} ViewOptions */
@@ -56,12 +60,24 @@ export { HABITS, KEYMAP };
  *   meant, by whatever way, and not for what a command or a habit does inside itself.
  * @property {ViewOptions} [view] What is shown of the page.
  * @property {boolean} [readOnly] Whether nothing can be edited: by default it can.
+ * @property {string} [placeholder] What is shown while there is nothing else.
+ * @property {number} [typingPause] After so many milliseconds without typing, what is typed is a step of its
+ *   own: by default 1,000. Infinity for none.
  * @property {Keymap} [keymap] What keys do beside those of `KEYMAP`, or in their place.
  * @property {() => Promise<Engine>} [reload] Gives another engine where this one has stopped.
  * @property {boolean} [debug] After each event the region checks itself, and throws what differs.
  */
 
 /** @typedef {RegionChoices & Partial<Habits> & Limits} Choices */
+
+/**
+ * What a toolbar shows of a command.
+ * @typedef {object} ToolbarState
+ * @property {boolean} enabled Whether there is something for it to work in.
+ * @property {boolean} state Whether the selection has it.
+ * @property {boolean} mixed Whether a part of the selection has it.
+ * @property {string} value Its value: a font, a colour, the name of a block.
+ */
 
 /**
  * What the user did, and what isn't done. A console is told, unless it is prevented. `command` is the
@@ -86,6 +102,8 @@ export { HABITS, KEYMAP };
  * @property {ErrorEvent} error The engine refused what the user did, or stopped, and `error` says why.
  *   What the methods do throws it. A console is told, unless it is prevented.
  * @property {RefusedEvent} refused What the user did isn't done.
+ * @property {Event} reset Another page is shown, by `setHtml` or `recover`, or by undo or redo of `setHtml`:
+ *   `editor` and all labels are others, and the marks are those of that page. `change` comes after it.
  * @property {Event} recovered The region goes on after the engine stopped.
  */
 
@@ -160,6 +178,18 @@ export class Region extends /** @type {new () => RegionTarget} */ (EventTarget) 
   }
 
   /**
+   * What is shown while there is nothing else: while the region has at most one empty line, outside lists
+   * and quotations. An empty text shows nothing.
+   */
+  get placeholder() {
+    return this.#controller.placeholder;
+  }
+
+  set placeholder(text) {
+    this.#controller.placeholder = text;
+  }
+
+  /**
    * Closes the editor. The element's children stay as they are.
    */
   close() {
@@ -190,10 +220,120 @@ export class Region extends /** @type {new () => RegionTarget} */ (EventTarget) 
    * @param {Point} focus
    */
   select(anchor, focus = anchor) {
-    this.#controller.act(() => {
-      this.#controller.session.commands.select({ anchor, focus });
-      return true;
-    });
+    this.#controller.select({ anchor, focus });
+  }
+
+  /** Selects all in the editing host that is selected in, or else in the first one. */
+  selectAll() {
+    const all = this.#controller.session.selections.all();
+    if (all) {
+      this.select(all.anchor, all.focus);
+    }
+  }
+
+  /**
+   * What is selected; null where nothing is.
+   * @returns {Selection | null}
+   */
+  selection() {
+    return this.#controller.ask(() => this.editor.selection(), null);
+  }
+
+  /**
+   * The point of a place in the DOM; null where that isn't in the region. Offsets in texts are UTF-16
+   * units there, and characters here.
+   * @param {globalThis.Node} node
+   * @param {number} offset
+   * @returns {Point | null}
+   */
+  pointAt(node, offset) {
+    return this.#controller.session.view.point(node, offset);
+  }
+
+  /**
+   * The place in the DOM of a point. Throws BadPlace where the document has no such node.
+   * @param {Point} point
+   * @returns {{ node: globalThis.Node, offset: number }}
+   */
+  placeOf(point) {
+    return this.#controller.placeOf(point);
+  }
+
+  /**
+   * Where a selection is in the window: rectangles, one at least, as `Range.getClientRects` gives them.
+   * @param {Selection} selection
+   * @returns {DOMRect[]}
+   */
+  rects({ anchor, focus }) {
+    this.placeOf(anchor);
+    this.placeOf(focus);
+    return this.#controller.session.selections.rects({ anchor, focus });
+  }
+
+  /**
+   * Gives a name to a part of the page, by default what is selected. The mark goes along with the text,
+   * and another one of its name gives way. There are up to 16.
+   * @param {string} name
+   * @param {Selection | null} selection
+   */
+  mark(name, selection = this.selection()) {
+    this.#controller.mark(name, selection);
+  }
+
+  /**
+   * Takes the mark of a name out. False where there is none.
+   * @param {string} name
+   */
+  unmark(name) {
+    return this.#controller.session.commands.unmark(name);
+  }
+
+  /**
+   * The marks, in the order in which they were made.
+   * @returns {Mark[]}
+   */
+  marks() {
+    return this.#controller.ask(() => this.editor.marks(), []);
+  }
+
+  /**
+   * Where a text occurs, in the order of the page. The places don't overlap, and each is in one line.
+   * @param {string} text
+   * @param {FindOptions} options
+   * @returns {Selection[]}
+   */
+  find(text, options = {}) {
+    return this.#controller.find(text, options);
+  }
+
+  /**
+   * Puts a text in place of a part of the page, as one step of undo. False where that isn't possible.
+   * @param {Selection} selection
+   * @param {string} text
+   */
+  replace(selection, text) {
+    return this.#controller.replace([selection], text) === 1;
+  }
+
+  /**
+   * Puts a text in place of another wherever that occurs, as one step of undo, and says how often.
+   * @param {string} old
+   * @param {string} text
+   * @param {FindOptions} options
+   */
+  replaceAll(old, text, options = {}) {
+    return this.#controller.replace(this.find(old, options), text);
+  }
+
+  /**
+   * Adds a command, which `exec`, keys and queries know by its name. What is given takes it out again.
+   * Throws BadArgument where there is a command of that name.
+   * @param {string} name
+   * @param {RegionCommand} command
+   * @returns {() => void}
+   */
+  define(name, command) {
+    return this.#controller.defined.add(name, command);
   }
 
   /**
@@ -216,6 +356,16 @@ export class Region extends /** @type {new () => RegionTarget} */ (EventTarget) 
     return this.#controller.exec("redo");
   }
 
+  /** Whether there is a step to take back. */
+  get canUndo() {
+    return this.enabled("undo");
+  }
+
+  /** Whether there is a step to take forth again. */
+  get canRedo() {
+    return this.enabled("redo");
+  }
+
   /**
    * Whether there is something for the command to work in.
    * @param {string} command
@@ -229,7 +379,10 @@ export class Region extends /** @type {new () => RegionTarget} */ (EventTarget) 
    * @param {string} command
    */
   state(command) {
-    return this.#controller.ask(() => this.editor.state(command), false);
+    const { defined } = this.#controller;
+    return defined.has(command)
+      ? defined.state(command)
+      : this.#controller.ask(() => this.editor.state(command), false);
   }
 
   /**
@@ -245,7 +398,29 @@ export class Region extends /** @type {new () => RegionTarget} */ (EventTarget) 
    * @param {string} command
    */
   value(command) {
-    return this.#controller.ask(() => this.editor.value(command), "");
+    const { defined } = this.#controller;
+    return defined.has(command)
+      ? defined.value(command)
+      : this.#controller.ask(() => this.editor.value(command), "");
+  }
+
+  /**
+   * What a toolbar shows of several commands, by their names.
+   * @template {string} Name
+   * @param {readonly Name[]} names
+   * @returns {Record<Name, ToolbarState>}
+   */
+  toolbar(names) {
+    const states = names.map((name) => [
+      name,
+      {
+        enabled: this.enabled(name),
+        state: this.state(name),
+        mixed: this.indeterm(name),
+        value: this.value(name),
+      },
+    ]);
+    return Object.fromEntries(states);
   }
 
   /**
@@ -255,6 +430,22 @@ export class Region extends /** @type {new () => RegionTarget} */ (EventTarget) 
    */
   html(options = {}) {
     return this.#controller.html(options);
+  }
+
+  /**
+   * Shows another page, cleaned as the first one was. As a step, the page before stays with its history, and
+   * undo goes back to it: up to eight of these are kept. After a reset there is no history. Labels and marks
+   * are new. What the engine refuses throws, and nothing has changed.
+   * @param {string} html
+   * @param {{ history?: "step" | "reset" }} options `step` by default
+   */
+  setHtml(html, options = {}) {
+    this.#controller.setHtml(html, options);
+  }
+
+  /** Whether there is nothing to see but empty lines and blanks. */
+  isEmpty() {
+    return this.#controller.isEmpty();
   }
 
   /** Puts the focus into the region, where the engine's selection is. */
@@ -268,4 +459,10 @@ export class Region extends /** @type {new () => RegionTarget} */ (EventTarget) 
   check() {
     return this.#controller.check();
   }
+}
+
+// Some browsers that run a region have no `using` yet.
+const { dispose } = /** @type {any} */ (Symbol);
+if (dispose) {
+  Object.defineProperty(Region.prototype, dispose, { value: Region.prototype.close });
 }

@@ -113,12 +113,12 @@ const COMMANDS = {
   },
   undo: {
     inputs: { execute: ["historyUndo"] },
-    isEnabled: ({ editor, steps }) => steps.canUndo(editor.counts().undo),
+    isEnabled: (session) => session.canUndo(),
     run: (session) => session.undo(),
   },
   redo: {
     inputs: { execute: ["historyRedo"] },
-    isEnabled: ({ editor }) => editor.counts().redo > 0,
+    isEnabled: (session) => session.canRedo(),
     run: (session) => session.redo(),
   },
   formatBlock: { habits: { quoteByIndent, keepAlignment } },
@@ -145,6 +145,14 @@ const COMMANDS = {
 };
 
 const BY_NAME = new Map(Object.entries(COMMANDS).map(([name, row]) => [name.toLowerCase(), row]));
+
+/**
+ * Whether a region has more to say of a command than the engine.
+ * @param {string} name in any case
+ */
+export function isCommand(name) {
+  return BY_NAME.has(name.toLowerCase());
+}
 
 /** A command that is the engine's, and that no input asks for. */
 const OTHER = Object.freeze({});

@@ -81,8 +81,13 @@ export class Commands {
 
   #undoDepth;
 
+  #typingPause;
+
   /** Whether the next `insertText` goes on with the last entry of the history. */
   #isTyping = false;
+
+  /** When the last text was typed. */
+  #typedAt = 0;
 
   /** What came of the commands. */
   #done = { entries: 0, isChanged: false };
@@ -98,12 +103,14 @@ export class Commands {
    * @param {View} view
    * @param {Habits} habits
    * @param {number} undoDepth
+   * @param {number} typingPause
    */
-  constructor(editor, view, habits, undoDepth) {
+  constructor(editor, view, habits, undoDepth, typingPause) {
     this.editor = editor;
     this.view = view;
     this.#habits = habits;
     this.#undoDepth = undoDepth;
+    this.#typingPause = typingPause;
   }
 
   /**
@@ -139,6 +146,7 @@ export class Commands {
    * @param {string} text
    */
   #exchange({ anchor, focus }, text) {
+    this.#pause();
     const call = () => this.editor.replace(anchor, focus, plain(text));
     return this.#do("insertText", call, text.length);
   }
@@ -178,6 +186,11 @@ export class Commands {
     this.#isTyping = isInsertion && (this.#isTyping || isChanged);
   }
 
+  /** Notes that something else than a command changed what is shown. */
+  noteChange() {
+    this.#done.isChanged = true;
+  }
+
   /** Whether the last command typed a text, and nothing was selected since. */
   get isTyping() {
     return this.#isTyping;
@@ -186,8 +199,50 @@ export class Commands {
   /** @param {Selection} selection */
   select({ anchor, focus }) {
     this.editor.select(anchor, focus);
+    this.#endStep();
+  }
+
+  /** Has what comes begin a step of its own. */
+  #endStep() {
     this.#isTyping = false;
     this.#isJoinable = false;
+  }
+
+  /** Has what is typed begin a step of its own. */
+  endTyping() {
+    const selection = this.#isTyping ? this.editor.selection() : null;
+    if (selection) {
+      this.select(selection);
+    }
+  }
+
+  /** Has what is typed after a pause begin a step of its own. */
+  #pause() {
+    const now = performance.now();
+    if (!this.isInStep && now - this.#typedAt > this.#typingPause) {
+      this.endTyping();
+    }
+    this.#typedAt = now;
+  }
+
+  /**
+   * Gives a name to what is selected, or to what is between other points.
+   * @param {string} name
+   * @param {Selection} selection
+   */
+  mark(name, { anchor, focus }) {
+    this.editor.mark(name, anchor, focus);
+    this.#endStep();
+  }
+
+  /**
+   * Takes a mark out. False where there is none of that name.
+   * @param {string} name
+   */
+  unmark(name) {
+    const isDone = this.editor.unmark(name);
+    this.#endStep();
+    return isDone;
   }
 
   /**
@@ -213,8 +268,7 @@ export class Commands {
    * @param {() => boolean} call
    */
   turn(most, call) {
-    this.#isTyping = false;
-    this.#isJoinable = false;
+    this.#endStep();
     let turned = 0;
     let { edits } = this.editor.counts();
     while (turned < most && call()) {
@@ -242,6 +296,9 @@ export class Commands {
    */
   run(name, value = "") {
     const { prepare, habits = {} } = commandOf(name);
+    if (name.toLowerCase() === "inserttext") {
+      this.#pause();
+    }
     prepare?.(this);
     let call = () => this.exec(name, value);
     for (const [habit, around] of Object.entries(habits).reverse()) {

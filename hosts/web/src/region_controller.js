@@ -2,7 +2,9 @@
  * What connects the engine's editor to an element of a page, for region.js: it answers what the page
  * tells of, does what the host asks for, and says what came of it.
  */
-import { BadArgument, EditorClosed, EngineStopped, HeditError } from "./hedit.js";
+import { BadArgument, BadPlace, EditorClosed, EngineStopped, HeditError } from "./hedit.js";
+import { Defined } from "./region_defined.js";
+import { find } from "./region_find.js";
 import { namesOf } from "./region_command_table.js";
 import { isOfField } from "./region_input.js";
 import { Keys } from "./region_keymap.js";
@@ -11,6 +13,8 @@ import { DOMObserver } from "./region_observer.js";
 import { isElement, isSame } from "./region_nodes.js";
 import { isHost, pageOf, tagsOf } from "./region_open.js";
 import { disown, own } from "./region_owner.js";
+import { Pages } from "./region_pages.js";
+import { Placeholder, isBlank } from "./region_placeholder.js";
 import { Scroll } from "./region_scroll.js";
 import { Session } from "./region_session.js";
 import { MARK, adoptSheet } from "./region_sheet.js";
@@ -19,6 +23,7 @@ import { User } from "./region_user.js";
 
 /** @typedef {import("./hedit.js").Editor} Editor */
 /** @typedef {import("./hedit.js").Engine} Engine */
+/** @typedef {import("./hedit.js").Point} Point */
 /** @typedef {import("./hedit.js").Selection} Selection */
 /** @typedef {import("./region.js").Choices} Choices */
 /** @typedef {import("./region.js").Region} Region */
@@ -60,6 +65,15 @@ export class Controller {
   /** @type {Session} */
   #session;
 
+  #engine;
+
+  #pages = new Pages((session) => this.#turnTo(session));
+
+  /** Whether labels and marks are others than before. */
+  #isReset = false;
+
+  #placeholder;
+
   /** Ends what listens to the page. */
   #ends = new AbortController();
 
@@ -79,8 +93,14 @@ export class Controller {
    */
   constructor(region, engine, element, choices) {
     this.#region = region;
+    if (!((choices.typingPause ?? 0) >= 0)) {
+      throw new BadArgument("a pause in typing is a number of milliseconds");
+    }
     this.element = element;
+    this.#engine = engine;
     this.#choices = choices;
+    this.defined = new Defined(region);
+    this.#placeholder = new Placeholder(element);
     this.#denied = deniedNames(choices.denied ?? []);
     this.#tags = isHost(element) ? tagsOf(element) : null;
     const refresh = (/** @type {string} */ src) => this.#refreshImages(src);
@@ -101,6 +121,7 @@ export class Controller {
     element.setAttribute(MARK, "");
     this.#listen();
     this.isReadOnly = choices.readOnly ?? false;
+    this.placeholder = choices.placeholder ?? "";
     this.#read();
   }
 
@@ -109,9 +130,14 @@ export class Controller {
    * @param {Engine} engine
    */
   #open(engine) {
-    const { html, clean = this.#tags !== null, view = {} } = this.#choices;
-    const page = pageOf(html ?? this.element.innerHTML, clean, view);
-    return this.#begin(engine, page, html === undefined);
+    const { html } = this.#choices;
+    return this.#begin(engine, this.#clean(html ?? this.element.innerHTML), html === undefined);
+  }
+
+  /** @param {string} html */
+  #clean(html) {
+    const { clean = this.#tags !== null, view = {} } = this.#choices;
+    return pageOf(html, clean, view);
   }
 
   /**
@@ -121,7 +147,8 @@ export class Controller {
    */
   #begin(engine, html, isThere) {
     const [element, tags, shown, choices] = [this.element, this.#tags, this.#shown, this.#choices];
-    return new Session(engine, html, { element, tags, shown, choices }, isThere);
+    const region = { element, tags, shown, choices, pages: this.#pages };
+    return new Session(engine, html, region, isThere);
   }
 
   /**
@@ -141,7 +168,7 @@ export class Controller {
       run: (call) => call(this.#region),
       handle: (call) => this.handle(call),
       finish: (call) => this.#finish(call),
-      dispatch: (kind) => this.#region.dispatchEvent(new Event(kind)),
+      dispatch: (kind) => this.#dispatchEvent(kind),
     };
   }
 
@@ -170,7 +197,15 @@ export class Controller {
     }
     this.#isReadOnly = isReadOnly;
     this.#lockUp();
-    this.#region.dispatchEvent(new Event("statechange"));
+    this.#dispatchEvent("statechange");
+  }
+
+  get placeholder() {
+    return this.#placeholder.text;
+  }
+
+  set placeholder(text) {
+    this.#placeholder.set(text, this.#session.view);
   }
 
   /** Whether the user, or the host, can change something. */
@@ -185,9 +220,51 @@ export class Controller {
     this.#ends.abort();
     this.#observer.end();
     this.#lock.lift();
+    this.#placeholder.remove();
     this.element.removeAttribute(MARK);
     disown(this.element);
+    this.#pages.clear();
     this.#session.editor.close();
+  }
+
+  /**
+   * Shows another page. Undo goes back to the one before, unless there is no history any more.
+   * @param {string} html
+   * @param {{ history?: "step" | "reset" }} options
+   */
+  setHtml(html, { history = "step" } = {}) {
+    if (this.status === "closed") {
+      throw new EditorClosed();
+    }
+    if (this.#stop) {
+      throw this.#stop;
+    }
+    const before = this.#session;
+    this.guard(() => {
+      this.#flush();
+      this.#session = this.#begin(this.#engine, this.#clean(html), false);
+    });
+    if (history === "step") {
+      this.#pages.keep(before);
+    } else {
+      this.#pages.clear();
+      before.editor.close();
+    }
+    this.#observer.discardRecords();
+    this.#isReset = true;
+    this.#session.selections.read();
+    this.#dispatch(true, true);
+  }
+
+  /**
+   * Shows a page again.
+   * @param {Session} session
+   */
+  #turnTo(session) {
+    this.#session = session;
+    this.#isReset = true;
+    session.view.mend(session.view.root);
+    session.commands.noteChange();
   }
 
   async recover() {
@@ -204,11 +281,14 @@ export class Controller {
     const engine = await reload();
     if (this.status === "stopped") {
       this.#session = this.#begin(engine, this.#session.view.html(), true);
+      this.#engine = engine;
+      this.#pages.clear();
+      this.#isReset = true;
       this.#stop = null;
       this.#lockUp();
       this.#observer.watch();
       this.#read();
-      this.#region.dispatchEvent(new Event("recovered"));
+      this.#dispatchEvent("recovered");
       this.#dispatch(false, true);
     }
   }
@@ -218,8 +298,12 @@ export class Controller {
    * @param {string} value
    */
   exec(command, value = "") {
-    const isAllowed = !this.isDenied(...namesOf(command));
-    return isAllowed && this.act(() => this.#session.run(command, value));
+    if (this.isDenied(...namesOf(command))) {
+      return false;
+    }
+    return this.defined.has(command)
+      ? this.isEditable && this.step(() => this.defined.run(command, value))
+      : this.act(() => this.#session.run(command, value));
   }
 
   /**
@@ -246,7 +330,79 @@ export class Controller {
   /** @param {string} command */
   enabled(command) {
     const isOpen = this.isEditable && !this.isDenied(...namesOf(command));
-    return isOpen && this.ask(() => this.#session.isEnabled(command), false);
+    if (!isOpen || this.defined.has(command)) {
+      return isOpen && this.defined.isEnabled(command);
+    }
+    return this.ask(() => this.#session.isEnabled(command), false);
+  }
+
+  /** @param {Selection} selection */
+  select(selection) {
+    if (!this.#stop && this.status !== "closed") {
+      this.guard(() => {
+        this.#flush();
+        this.#finish(() => {
+          this.#session.commands.select(selection);
+          return true;
+        });
+      });
+    }
+  }
+
+  /** @param {Point} point */
+  placeOf(point) {
+    const { view } = this.#session;
+    if (!view.node(point.label)) {
+      throw new BadPlace();
+    }
+    return view.place(point);
+  }
+
+  isEmpty() {
+    return isBlank(this.#session.view);
+  }
+
+  /**
+   * @param {string} name
+   * @param {Selection | null} selection
+   */
+  mark(name, selection) {
+    if (!selection) {
+      throw new BadPlace("nothing is selected");
+    }
+    this.guard(() => this.#session.commands.mark(name, selection));
+  }
+
+  /**
+   * @param {string} text
+   * @param {import("./region_find.js").FindOptions} options
+   */
+  find(text, options) {
+    this.handle(() => this.#observer.flushWithinBudget());
+    return find(this.#session.view, text, options);
+  }
+
+  /**
+   * Puts a text in place of what stands at several places, as one step of undo, and says how often it
+   * could.
+   * @param {readonly Selection[]} places in the order of the page
+   * @param {string} text
+   */
+  replace(places, text) {
+    let count = 0;
+    if (places.length > 0 && !this.isDenied("insertText")) {
+      this.act(() => {
+        const { commands, selections } = this.#session;
+        commands.endTyping();
+        const restore = places.length > 1 ? selections.keep() : null;
+        for (const place of [...places].reverse()) {
+          count += Number(commands.replace(place, text));
+        }
+        restore?.();
+        return count > 0;
+      });
+    }
+    return count;
   }
 
   /** @param {{ composing?: "with" | "without" }} options */
@@ -438,7 +594,7 @@ export class Controller {
       this.#observer.end();
       this.#lockUp();
       this.#dispatchError(this.#stop);
-      this.#region.dispatchEvent(new Event("statechange"));
+      this.#dispatchEvent("statechange");
     }
     return this.#stop;
   }
@@ -502,6 +658,9 @@ export class Controller {
     const after = editor.selection();
     steps.note({ entries, before, after }, isChanged);
     steps.fit(editor.counts().undo);
+    if (entries > 0) {
+      this.#session.branch();
+    }
     this.#dispatch(isChanged, !isSame(before, after));
   }
 
@@ -510,13 +669,25 @@ export class Controller {
    * @param {boolean} isElsewhere
    */
   #dispatch(isChanged, isElsewhere) {
+    if (this.#isReset) {
+      this.#isReset = false;
+      this.#dispatchEvent("reset");
+    }
     if (isChanged) {
-      this.#region.dispatchEvent(new Event("change"));
+      this.#dispatchEvent("change");
     }
     if (isElsewhere) {
-      this.#region.dispatchEvent(new Event("selectionchange"));
+      this.#dispatchEvent("selectionchange");
     }
-    this.#region.dispatchEvent(new Event("statechange"));
+    this.#dispatchEvent("statechange");
+  }
+
+  /** @param {string} kind */
+  #dispatchEvent(kind) {
+    if (kind === "change" || kind === "input") {
+      this.#placeholder.update(this.#session.view);
+    }
+    this.#region.dispatchEvent(new Event(kind));
   }
 
   /** Selects what the page shows as selected, once what it changed by itself is mended. */

@@ -68,6 +68,18 @@ export function isCollapsing(text) {
 }
 
 /**
+ * The first node of all below a node, or it itself.
+ * @param {Node} node
+ */
+export function firstLeaf(node) {
+  let at = node;
+  while (at.firstChild) {
+    at = at.firstChild;
+  }
+  return at;
+}
+
+/**
  * The last node of all below a node, or it itself.
  * @param {Node} node
  */

@@ -30,7 +30,7 @@ function scrollTo(element, top, bottom) {
  * @param {Node} node
  * @param {number} offset
  */
-function rectAt(node, offset) {
+export function rectAt(node, offset) {
   const range = /** @type {Document} */ (node.ownerDocument).createRange();
   range.setStart(node, offset);
   const child = node.childNodes[offset] ?? node;

@@ -2,8 +2,9 @@
  * What a page and an engine have selected, for region.js: each is shown to the other. In a shadow tree
  * a document tells of its selection only to those who name the tree.
  */
-import { lockedPart } from "./region_places.js";
+import { elementOf, firstLeaf, lastLeaf, lockedPart } from "./region_places.js";
 import { isCaret, isElement, isSame, isText } from "./region_nodes.js";
+import { rectAt } from "./region_scroll.js";
 
 /** @typedef {import("./hedit.js").Editor} Editor */
 /** @typedef {import("./hedit.js").Selection} Selection */
@@ -195,6 +196,74 @@ export class Selections {
     if (!always && isElement(active) && active !== this.active) {
       active.focus({ preventScroll: true });
     }
+  }
+
+  /**
+   * Where a selection is in the window: a rectangle for each line of it.
+   * @param {Selection} selection
+   */
+  rects({ anchor, focus }) {
+    const [from, to] = [this.#view.place(anchor), this.#view.place(focus)];
+    const range = this.#element.ownerDocument.createRange();
+    range.setStart(from.node, from.offset);
+    if (range.comparePoint(to.node, to.offset) < 0) {
+      range.setStart(to.node, to.offset);
+      range.setEnd(from.node, from.offset);
+    } else {
+      range.setEnd(to.node, to.offset);
+    }
+    const rects = [...range.getClientRects()];
+    return rects.length > 0 ? rects : [rectAt(range.startContainer, range.startOffset)];
+  }
+
+  /**
+   * What is in the editing host that is selected in, and else in the first one; null where there is
+   * none.
+   * @returns {Selection | null}
+   */
+  all() {
+    const hosts = '[contenteditable=""], [contenteditable="true"]';
+    const node = this.ends()?.focus.node;
+    const near = node && this.#element.contains(node) ? elementOf(node).closest(hosts) : null;
+    const isWithin = near !== null && this.#element.contains(near);
+    const host = isWithin ? near : (this.#element.querySelector(hosts) ?? this.#element);
+    const [first, last] = [firstLeaf(host), lastLeaf(host)];
+    const anchor = this.#view.point(first, 0);
+    const focus = this.#view.point(last, isText(last) ? last.length : last.childNodes.length);
+    return anchor && focus ? { anchor, focus } : null;
+  }
+
+  /**
+   * Keeps where the engine's selection is in the page while that is changed: what is given selects there
+   * again.
+   */
+  keep() {
+    const selection = this.#editor.selection();
+    const { anchor, focus } = selection ?? {};
+    const [from, to] = [anchor, focus].map((point) => this.#rangeAt(point));
+    return () => {
+      const ends = [from, to].map((range) =>
+        range ? this.#view.point(range.startContainer, range.startOffset) : null,
+      );
+      if (ends[0] && ends[1]) {
+        this.#commands.selectAgain({ anchor: ends[0], focus: ends[1] });
+      }
+    };
+  }
+
+  /**
+   * A range of the page that is a point, and goes along with what is there.
+   * @param {import("./hedit.js").Point | undefined} point
+   */
+  #rangeAt(point) {
+    if (!point) {
+      return null;
+    }
+    const { node, offset } = this.#view.place(point);
+    const range = this.#element.ownerDocument.createRange();
+    range.setStart(node, offset);
+    range.collapse(true);
+    return range;
   }
 
   /** The first difference between the two; null where there is none. */

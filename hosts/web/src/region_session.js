@@ -12,11 +12,17 @@ import { View } from "./region_view.js";
 
 /** @typedef {import("./hedit.js").Engine} Engine */
 /** @typedef {import("./region.js").Choices} Choices */
+/** @typedef {import("./region_pages.js").Pages} Pages */
 /** @typedef {import("./region_shown.js").Shown} Shown */
 
 /** An editor of a region's page. */
 export class Session {
   steps = new Steps();
+
+  #pages;
+
+  /** How many steps to do again belong to what was undone before another page came. */
+  #lostRedo = 0;
 
   /**
    * Opens a page in an engine, and shows it.
@@ -28,16 +34,18 @@ export class Session {
    *   host
    * @param {Shown} region.shown
    * @param {Choices} region.choices
+   * @param {Pages} region.pages
    * @param {boolean} isThere whether the element's nodes show the page already
    */
-  constructor(engine, html, { element, tags, shown, choices }, isThere) {
-    const { undoDepth = 100, labelCap, separator = "p" } = choices;
+  constructor(engine, html, { element, tags, shown, choices, pages }, isThere) {
+    const { undoDepth = 100, labelCap, separator = "p", typingPause = 1000 } = choices;
     const limits = { undoDepth, ...(labelCap === undefined ? {} : { labelCap }) };
     const { editor, root } = open(engine, tags, html, limits);
     editor.exec("defaultParagraphSeparator", separator);
+    this.#pages = pages;
     this.editor = editor;
     this.view = new View(editor, element, root, shown);
-    this.commands = new Commands(editor, this.view, { ...HABITS, ...choices }, undoDepth);
+    this.commands = new Commands(editor, this.view, { ...HABITS, ...choices }, undoDepth, typingPause);
     this.selections = new Selections(editor, this.view, this.commands);
     this.readback = new Readback(editor, this.view, this.commands, this.selections);
     if (isThere) {
@@ -90,10 +98,33 @@ export class Session {
     return !isCaret(this.editor.selection()) && this.commands.run("delete");
   }
 
+  /** Notes that another page takes this one's place: what was undone here isn't done again. */
+  leave() {
+    this.#lostRedo = this.editor.counts().redo;
+  }
+
+  /** Whether there is a step to undo, here or of what put this page here. */
+  canUndo() {
+    return this.#canUndoHere() || this.#pages.hasBefore;
+  }
+
+  #canUndoHere() {
+    return this.steps.canUndo(this.editor.counts().undo);
+  }
+
+  /** Whether there is a step to do again, here or of what put another page here. */
+  canRedo() {
+    return this.#canRedoHere() || this.#pages.hasAfter;
+  }
+
+  #canRedoHere() {
+    return this.editor.counts().redo > this.#lostRedo;
+  }
+
   /** Takes a step back, and selects what was selected before it. False where there was none. */
   undo() {
-    if (!this.steps.canUndo(this.editor.counts().undo)) {
-      return false;
+    if (!this.#canUndoHere()) {
+      return this.#pages.goBack(this);
     }
     const undo = () => this.editor.undo();
     return this.#selectAfter(this.steps.undo((most) => this.commands.turn(most, undo)));
@@ -101,8 +132,17 @@ export class Session {
 
   /** Takes a step forth again, and selects what was selected after it. False where there was none. */
   redo() {
+    if (!this.#canRedoHere()) {
+      return this.#pages.goOn(this);
+    }
     const redo = () => this.editor.redo();
     return this.#selectAfter(this.steps.redo((most) => this.commands.turn(most, redo)));
+  }
+
+  /** Forgets what comes after, as something new is done. */
+  branch() {
+    this.#lostRedo = 0;
+    this.#pages.dropAfter();
   }
 
   /**

@@ -1,5 +1,6 @@
 /** The style sheet of regions, for region.js: a second wall around what a page shows. */
 import { windowOf } from "./region_nodes.js";
+import { PLACEHOLDER_RULES } from "./region_placeholder.js";
 
 /** What says that an element has a region. */
 export const MARK = "data-hedit-region";
@@ -11,6 +12,7 @@ const RULES = `
   [${MARK}] [data-hedit-image] {
     display: inline-block; min-width: 1em; min-height: 1em; outline: 1px dashed; outline-offset: -1px;
   }
+  ${PLACEHOLDER_RULES}
 `;
 
 /** @type {WeakMap<Node, CSSStyleSheet>} */

@@ -1,6 +1,7 @@
 /** What a region does around typing and Enter, for region_command_table.js. */
 import {
   elementOf,
+  firstLeaf,
   indexOf,
   isCollapsing,
   isEnd,
@@ -192,10 +193,7 @@ export function keepSpaces(commands, next) {
   const selection = /** @type {Selection} */ (editor.selection());
   const block = view.blockOf(view.place(selection.focus).node);
   const last = leafBefore(block, view.element);
-  let first = block;
-  while (first.firstChild) {
-    first = first.firstChild;
-  }
+  const first = firstLeaf(block);
   const isKept = [
     isText(first) && first.data.startsWith(" ") && keepSpace(commands, first, 0),
     isText(last) && last.data.endsWith(" ") && keepSpace(commands, last, last.length - 1),

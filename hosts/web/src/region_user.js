@@ -85,9 +85,10 @@ export class User {
    */
   #isLeft(event) {
     const key = keyOf(event);
-    const isLeaving = this.#isLeaving && (key === "Tab" || key === "Shift");
-    this.#isLeaving = isLeaving || key === "Escape";
-    return isLeaving;
+    const isEscape = key === "Escape" && !event.isComposing && !event.defaultPrevented;
+    const isLeft = this.#isLeaving && key === "Tab";
+    this.#isLeaving = isEscape || (this.#isLeaving && key === "Shift");
+    return isLeft;
   }
 
   keyUp() {

@@ -18,8 +18,8 @@ for (const { Browser, name, skip } of BROWSERS) {
         (places) => {
           const nodeAt = (steps) =>
             steps.reduce((above, step) => above.childNodes[step], window.region.element);
-          const [from, to] = places.map(([steps, offset]) => [nodeAt(steps), offset]);
-          document.getSelection().setBaseAndExtent(...from, ...to);
+          const [[from, start], [to, end]] = places;
+          document.getSelection().setBaseAndExtent(nodeAt(from), start, nodeAt(to), end);
         },
         ends,
       );
@@ -71,18 +71,20 @@ for (const { Browser, name, skip } of BROWSERS) {
         await region.open(html);
         await region.click([0, 1, 0], 1);
         await region.press("Escape");
-        await region.press("Tab");
+        await region.press("Shift+Tab");
         assert.equal(await hasFocus(), false);
         await region.click([0, 1, 0], 1);
         await region.press("Escape");
-        await region.press("Shift+Tab");
+        await region.press("Tab");
         assert.equal(await hasFocus(), false);
         await region.shows(html);
         await region.click([0, 1, 0], 1);
-        await region.press("Escape");
-        await region.press("ArrowLeft");
         await region.press("Tab");
         await region.shows("<ul><li>a</li><ul><li>b</li></ul></ul>");
+        await region.press("Escape");
+        await region.press("ArrowLeft");
+        await region.press("Shift+Tab");
+        await region.shows(html);
       });
 
       it("leaves it where the command is denied, the region is only read or the host says so", async () => {

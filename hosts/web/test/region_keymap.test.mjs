@@ -14,7 +14,8 @@ function setPlatform(platform) {
 /** A key as a browser tells of it: `flags` has the first letters of the modifiers. */
 function pressed(flags, key, code = "", others = {}) {
   const [ctrlKey, altKey, shiftKey, metaKey] = [..."casm"].map((flag) => flags.includes(flag));
-  return { key, code, ctrlKey, altKey, shiftKey, metaKey, defaultPrevented: false, ...others };
+  const flagged = { key, code, ctrlKey, altKey, shiftKey, metaKey, defaultPrevented: false, ...others };
+  return /** @type {any} */ (flagged);
 }
 
 describe("keys", () => {
@@ -22,6 +23,7 @@ describe("keys", () => {
   const NAMES = [...SIGNS, "F2", "Shift+Enter", "Alt+Tab"];
   const keymap = Object.fromEntries(NAMES.map((name) => [name.replace("alt", "Alt"), name]));
 
+  /** @type {any[][]} */
   const ROWS = [
     ["Linux x86_64", "bold", ["c", "b", "KeyB"]],
     ["Linux x86_64", "bold", ["c", "B", "KeyB"]],
@@ -139,7 +141,7 @@ for (const { Browser, name, skip } of BROWSERS) {
       await open('{ "Mod+M": "indent", "Escape": () => { window.calls.push("Escape"); return true; } }');
       await region.page.evaluate(() => {
         window.region.readOnly = true;
-        document.querySelector("#host").focus();
+        window.region.element.focus();
       });
       await region.page.press("Control+m");
       await region.page.press("Escape");

@@ -4,7 +4,10 @@ import { describe } from "node:test";
 import { BROWSERS, it } from "./browsers.mjs";
 import { RegionPage } from "./region_page.mjs";
 
-/** What is denied and yet might be done: a page, a place in it, and how it is asked for. */
+/**
+ * What is denied and yet might be done: a page, a place in it, and how it is asked for.
+ * @type {any[][]}
+ */
 const DENIED = [
   [["backColor"], "<p>a</p>", [0, 0], 1, "exec", "backColor", "yellow"],
   [["formatBlock"], "<p>a</p>", [0, 0], 1, "exec", "formatBlock", "blockquote"],
