@@ -43,6 +43,13 @@ import { NO_FORMATS, chosen, formatsIn, styleOf } from "./paste_formats.js";
  *   | "dir" | "lang" | "title" | "locked" | "denied" | "other"} Lost
  */
 
+/**
+ * How rich text is pasted and dropped.
+ * @typedef {object} PasteOptions
+ * @property {(lost: ReadonlySet<Lost>) => "rich" | "plain" | "refuse"} [lossy] Says what is done where
+ *   commands can't make all: by default what they can make is pasted.
+ */
+
 /** @typedef {{ lines: Line[], lost: Set<Lost> }} Fragment */
 
 /** The blocks that `formatBlock` makes. */

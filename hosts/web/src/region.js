@@ -45,7 +45,7 @@ export { HABITS, KEYMAP };
 /** @typedef {import("./region_find.js").FindOptions} FindOptions */
 /** @typedef {import("./region_keymap.js").KeyAction} KeyAction */
 /** @typedef {import("./region_keymap.js").Keymap} Keymap */
-/** @typedef {import("./region_paste.js").PasteOptions} PasteOptions */
+/** @typedef {import("./paste_lines.js").PasteOptions} PasteOptions */
 /** @typedef {import("./region_shown.js").ViewOptions} ViewOptions */
 
 /**

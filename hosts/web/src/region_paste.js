@@ -12,13 +12,8 @@ import { linesOfText, readLines, textOfLines } from "./paste_lines.js";
 /** @typedef {import("./paste_lines.js").Fragment} Fragment */
 /** @typedef {import("./paste_lines.js").Line} Line */
 /** @typedef {import("./paste_lines.js").Lost} Lost */
+/** @typedef {import("./paste_lines.js").PasteOptions} PasteOptions */
 /** @typedef {import("./region_session.js").Session} Session */
-
-/**
- * How a region pastes. Where commands can't make all of a fragment, `lossy` is told what is lost, and
- * answers what is done.
- * @typedef {{ readonly lossy?: (lost: ReadonlySet<Lost>) => "rich" | "plain" | "refuse" }} PasteOptions
- */
 
 /**
  * What is pasted: HTML, where there is some, and its text. `isOwn` says that it was copied within a

@@ -1,6 +1,6 @@
 /** What is dragged into a region, out of it and within it, and files that are dropped and pasted. */
 import assert from "node:assert/strict";
-import { writeFile } from "node:fs/promises";
+import { readFile, writeFile } from "node:fs/promises";
 import { tmpdir } from "node:os";
 import { join } from "node:path";
 import { describe } from "node:test";
@@ -155,31 +155,31 @@ for (const { Browser, name, skip } of IN_CHROMIUM) {
         await navigator.clipboard.write([new ClipboardItem({ "image/png": picture })]);
       });
 
-    it("that are pasted are offered to the host, which may show them meanwhile", async () => {
-      await region.openAt("<p>a|b</p>");
+    it("that are pasted are shown while they are uploaded, as docs/WEB.md has it", async () => {
+      const page = await readFile(new URL("../../../docs/WEB.md", import.meta.url), "utf8");
+      const [, code] = /^```js\n(const paste.*?)^```$/ms.exec(page);
+      await region.openAt("<p>|</p>");
       await copyPicture();
-      await region.page.evaluate(() => {
-        const shown = new Map();
-        const html = "<p>ab</p>";
-        window.start(html, { view: { image: (src) => shown.get(src) } });
-        const { region: made } = window;
-        const label = made.editor.labelAt([0, 0, 0]);
-        made.select({ label, offset: 1 });
-        made.addEventListener("files", (event) => {
-          event.preventDefault();
-          for (const file of event.files) {
-            const address = `https://x.invalid/${file.name}`;
-            shown.set(address, URL.createObjectURL(file));
-            window.said = [event.source, file.type];
-            made.exec("insertImage", address);
-          }
-        });
-        made.focus();
-      });
+      await region.page.evaluate(async (text) => {
+        window.region.close();
+        const modules = ["/hedit.js", "/region.js"];
+        const [{ load }, { Region }] = await Promise.all(modules.map((path) => import(path)));
+        const element = document.querySelector("#host");
+        element.innerHTML = "<p><br></p>";
+        const upload = (file, address) => {
+          window.uploaded = [file.type, address];
+        };
+        const names = ["Region", "engine", "element", "upload"];
+        const run = new Function(...names, `${text}\nreturn region;`);
+        window.region = run(Region, await load(), element, upload);
+        window.region.selectAll();
+        window.region.focus();
+      }, code);
+      assert.equal(await region.agrees(), "<p>Call <b>Ann</b></p>");
       await region.page.press("Control+v");
-      await region.page.until(() => window.said);
-      assert.match(await region.agrees(), /^<p>a<img src="https:\/\/x\.invalid\/[^"]*">b<\/p>$/);
-      assert.deepEqual(await region.page.evaluate(() => window.said), ["paste", "image/png"]);
+      const [type, address] = await region.page.until(() => window.uploaded);
+      assert.equal(type, "image/png");
+      assert.ok((await region.agrees()).startsWith(`<p><img src="${address}">`));
       const src = await region.page.evaluate(() => document.querySelector("#host img").src);
       assert.match(src, /^blob:/);
     });
