@@ -94,7 +94,7 @@ export { HABITS, KEYMAP };
  */
 
 /**
- * Files that the user pastes or drops, and the point where. They are refused, unless it is prevented.
+ * Files that the user pastes or drops, and where. They are refused, unless it is prevented.
  * @typedef {Event & {
  *   readonly files: readonly File[],
  *   readonly at: Point | null,
@@ -229,8 +229,7 @@ export class Region extends /** @type {new () => RegionTarget} */ (EventTarget) 
   }
 
   /**
-   * Pastes HTML at the selection, or a text where there is none, as its user would: cleaned, and as one
-   * step of undo. False where it isn't possible.
+   * Pastes HTML at the selection, or else a text, as its user would. False where it isn't possible.
    * @param {string} html
    * @param {string} text
    */

@@ -142,5 +142,67 @@ for (const { Browser, name, skip } of BROWSERS) {
         await region.shows("<p>a<b>b</b>c</p>");
       });
     });
+
+    describe("a long paste", () => {
+      const LONG = Array.from({ length: 120 }, (_, index) => `<p>one <b>two</b> <i>${index}</i></p>`).join("");
+      const start = (choices = {}) =>
+        region.page.evaluate(
+          (html, given) => {
+            window.start("<p>ab</p>", { debug: false, ...given });
+            const label = window.region.editor.labelAt([0, 0, 0]);
+            window.region.select({ label, offset: 1 });
+            window.region.focus();
+            window.errors = [];
+            window.region.addEventListener("error", (event) => {
+              event.preventDefault();
+              window.errors.push(event.error.constructor.name);
+            });
+            // The clock runs ahead, so that the paste goes on later.
+            const now = performance.now.bind(performance);
+            performance.now = () => now() * 1000;
+            try {
+              window.isDone = window.region.paste(html);
+            } catch (error) {
+              window.isDone = error.constructor.name;
+            }
+            performance.now = now;
+            return [window.isDone, window.region.status];
+          },
+          LONG,
+          choices,
+        );
+
+      it("goes on while the page does other things, and what is typed waits", async () => {
+        assert.deepEqual(await start(), [true, "busy"]);
+        await region.page.type("xy");
+        const html = await region.agrees();
+        assert.match(html, /^<p>aone <b>two<\/b> <i>0<\/i><\/p>.*<i>119<\/i>xyb<\/p>$|119xy<\/i>b<\/p>$/);
+        await region.press("Control+z", 2);
+        await region.shows("<p>ab</p>");
+      });
+
+      it("is done at once where the host calls", async () => {
+        assert.deepEqual(await start(), [true, "busy"]);
+        assert.equal(await region.ask("undo"), true);
+        await region.shows("<p>ab</p>");
+        await region.ask("redo");
+        assert.match(await region.agrees(), /<i>119<\/i>b<\/p>$/);
+      });
+
+      it("is taken back where the engine refuses the rest", async () => {
+        const [isDone] = await start({ labelCap: 400 });
+        await region.shows("<p>ab</p>");
+        const errors = await region.page.evaluate(() => window.errors);
+        assert.ok(isDone === "PageFull" || errors[0] === "PageFull");
+      });
+
+      it("is left where the region is closed", async () => {
+        await start();
+        await region.ask("close");
+        await region.page.settle();
+        assert.equal(await region.page.evaluate(() => window.region.status), "closed");
+        await region.open("<p>one</p>");
+      });
+    });
   });
 }
