@@ -132,7 +132,8 @@ for (const { Browser, name: browserName, skip } of BROWSERS) {
     before(async () => {
       server = await serve();
       root = `http://127.0.0.1:${server.address().port}/`;
-      browser = await Browser.launch();
+      // WebKit's driver runs a script that comes between a page's text and its load a minute later.
+      browser = await Browser.launch({ loading: "normal" });
     });
 
     after(async () => {
