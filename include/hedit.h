@@ -229,8 +229,8 @@ HEDIT_API
 uint32_t hedit_unselect(hedit_editor *editor);
 
 /* Sets the marker of a name from an anchor to a focus. A marker is a named range that follows the
- * edits. If the name has a marker, it moves. The name is any bytes; letters and digits keep the
- * lines of hedit_view readable. HEDIT_DONE, HEDIT_BAD_PLACE, HEDIT_TOO_MANY_MARKS, HEDIT_MEMORY,
+ * edits. If there is a marker of that name, it is moved. The name is any bytes; letters and digits
+ * keep the lines of hedit_view readable. HEDIT_DONE, HEDIT_BAD_PLACE, HEDIT_TOO_MANY_MARKS, HEDIT_MEMORY,
  * HEDIT_CLOSED. */
 HEDIT_API
 uint32_t hedit_mark(hedit_editor *editor, const uint8_t *name, size_t name_length,

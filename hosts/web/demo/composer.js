@@ -7,6 +7,7 @@ import { Region } from "../src/region.js";
 import { Count } from "./composer_count.js";
 import { Drafts } from "./composer_drafts.js";
 import { Fields } from "./composer_fields.js";
+import { FindBar } from "./composer_find.js";
 import { Formatting } from "./composer_formatting.js";
 import { Keeper } from "./composer_keeper.js";
 import { startLinks } from "./composer_link.js";
@@ -63,6 +64,8 @@ export class Composer {
 
   #count = new Count();
 
+  #findBar = new FindBar(this);
+
   #keeper;
 
   #fallSilentSoon = rested(() => {
@@ -109,7 +112,8 @@ export class Composer {
    * @param {Draft} draft
    * @returns {Region}
    */
-  #start({ html, time, ...head }) {
+  #start(draft) {
+    const { html } = draft;
     try {
       this.#region = new Region(this.engine, part("message"), { ...this.choices, html });
     } catch (error) {
@@ -120,9 +124,10 @@ export class Composer {
       return this.#start(NEW_DRAFT);
     }
     this.#listen(this.#region);
-    this.fields.head = head;
+    this.fields.head = draft;
     this.#keeper.begin();
     this.#count.show();
+    this.#findBar.refresh();
     this.#formatting.refresh();
     this.#source.show();
     return this.#region;
@@ -153,6 +158,7 @@ export class Composer {
     this.#keeper.keepSoon();
     this.#source.showSoon();
     this.#count.refresh();
+    this.#findBar.refreshSoon();
   }
 
   /** @param {Region} region */
@@ -212,7 +218,7 @@ export class Composer {
   #startKeys() {
     const shortcuts = new Shortcuts(
       (control, target) =>
-        control.closest(".bar") !== null || target.closest("#message, #toolbar") !== null,
+        control.closest(".bar") !== null || target.closest("#message, #toolbar, #find") !== null,
     );
     const sheet = part("shortcuts");
     part("help").addEventListener("click", () => sheet.showModal());

@@ -43,10 +43,9 @@ export class Fields {
 
   /** @param {Head} head */
   set head(head) {
-    for (const [name, value] of Object.entries(head)) {
-      part(name).value = value;
-    }
-    for (const name of RECIPIENTS) {
+    part("subject").value = head.subject;
+    for (const name of /** @type {const} */ (["to", "cc", "bcc"])) {
+      part(name).value = head[name];
       setFault(part(name), faultOf(part(name).value));
     }
     part("fields").classList.toggle("has-copies", head.cc + head.bcc !== "");

@@ -1,4 +1,4 @@
-/** What is around the composer's message: fields, keyboard, screen readers, themes, screens, the saved mail. */
+/** What is around the composer's message: fields, keyboard, screen readers, themes, screens. */
 import assert from "node:assert/strict";
 import { describe } from "node:test";
 import { it } from "./browsers.mjs";
@@ -30,7 +30,7 @@ for (const { Browser, name: browserName, skip } of TRIED) {
       await page.press("Home");
       assert.equal(await composer.focused(), "Undo");
       await page.press("ArrowLeft");
-      assert.equal(await composer.focused(), "Clear formatting");
+      assert.equal(await composer.focused(), "Find and replace");
       await page.press("Shift+Tab");
       assert.equal(await composer.focused(), "subject");
     });

@@ -16,12 +16,15 @@ for (const { Browser, name: browserName, skip } of TRIED) {
 
     /** Waits until the note is some HTML, as it is saved. */
     async function saves(html) {
-      const isSaved = (wanted) => Object.values(localStorage).some((note) => JSON.parse(note).html === wanted);
+      const isSaved = (wanted) =>
+        Object.values(localStorage).some((note) => JSON.parse(note).html === wanted);
       await notes.page.until(isSaved, html);
     }
 
     const names = () =>
-      notes.page.evaluate(() => [...document.querySelectorAll("#list strong")].map((name) => name.textContent));
+      notes.page.evaluate(() =>
+        [...document.querySelectorAll("#list strong")].map(({ textContent }) => textContent),
+      );
 
     const command = (name) => `#toolbar [data-command="${name}"]`;
 
