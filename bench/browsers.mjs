@@ -17,7 +17,7 @@
  *   same characters as before, in the same blocks.
  *
  * `--list` prints each fault. It needs hosts/web/dist/hedit.wasm, and takes the browsers that are there. WebKit doesn't
- * tell its version.
+ * report its version.
  */
 import { argv, exit } from "node:process";
 import { parseArgs } from "node:util";

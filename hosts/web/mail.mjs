@@ -16,7 +16,7 @@ const BUTTONS = ["bold", "justifyCenter", "insertUnorderedList"];
 const engine = await load(await readFile(argv[2]));
 const editor = engine.open(MAIL);
 
-/** Executes a command, as a step of its own or with the last, and says what an application shows its user of it. */
+/** Executes a command, as a step of its own or with the last, and writes what a user sees of it. */
 function tell(name, joined) {
   try {
     const done = joined ? editor.execJoined(name) : editor.exec(name);
