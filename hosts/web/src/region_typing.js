@@ -45,13 +45,11 @@ export function enterBlock(commands) {
  * @type {Habit}
  */
 export function forgetStyles(commands, next) {
-  const { editor, view } = commands;
+  const { view } = commands;
   const ends = commands.isCaret() ? null : commands.ends();
   const blocks = ends?.map(({ node }) => view.blockOf(node).nodeName);
   if (blocks && blocks[0] !== blocks[1] && commands.exec("delete")) {
-    const selection = /** @type {Selection} */ (editor.selection());
-    editor.unselect();
-    commands.select(selection);
+    commands.forgetStyle();
   }
   return next();
 }
