@@ -188,7 +188,7 @@ impl Editor {
             self.promises_as_is();
             return Ok(Answer::No);
         }
-        self.exec(alloc, name, value)
+        self.exec_at(alloc, None, false, Command::named(name), value)
     }
 
     /// Executes the command that a name names, in any case, unless a gate denies the name: at the
