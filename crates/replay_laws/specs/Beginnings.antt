@@ -1,4 +1,4 @@
--- What the log of a session begins with, and what its entries make and change.
+-- What a log begins with, after any calls, and what its entries make and change.
 use Rattle.std.specs.Prelude.{◌≡◌, ℕ, true, false}
 use Rattle.edit_model.specs.DomModel.declared.Content.{Content}
 use Rattle.edit_model.specs.DomModel.ArenaState.{ArenaState as Arena}

@@ -1,4 +1,4 @@
--- The steps of the log of a session, replayed on the nodes of its page.
+-- The steps of a log, after any calls, replayed on the nodes of the page.
 use Rattle.std.specs.Prelude.{◌≡◌, ℕ, ◌≤◌, false, Ok}
 use Rattle.edit_model.specs.DomModel.ArenaState.{ArenaState as Arena}
 use Rattle.inline_value.specs.ForestChanges.Named.{Each}
@@ -26,8 +26,8 @@ pub record StepsReplay (page : Arena) (cap : ℕ) (e : Editing) : Type 0 where
   pub document : document_of result.trees ≡ e.state.trees
   pub bounded : result.next ≤ e.state.next
 
--- so it is at the end of every session that dropped no entry as the oldest, and whose document was
--- never deeper than 1,000, whatever cap the replay has that isn't below the session's
+-- so it is after all calls that dropped no entry as the oldest, and with which the document was
+-- never deeper than 1,000, whatever cap the replay has that isn't below the page's
 abbrev pub CallsReplay : Arena → Editing → Type 0
 CallsReplay page e = (cap : ℕ) → page.cap ≤ cap → IsOfCalls page e
     → e.history.dropped ≡ false → StaysShallow e → StepsReplay page cap e

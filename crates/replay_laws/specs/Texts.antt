@@ -1,4 +1,4 @@
--- The text of the log of a session after its page block, as `replay` answers it.
+-- The text of a log after a page block, as `replay` answers it.
 use Rattle.std.specs.Prelude.{◌≡◌, ℕ, suc, ◌≤◌, false, List, [], ◌∷◌, ◌++◌, length, codes}
 use Rattle.edit_model.specs.DomModel.ArenaState.{ArenaState as Arena}
 use Rattle.step_text.specs.PageGrammar.Nodes.{document_of}
@@ -32,8 +32,8 @@ pub record TextReplays (front : List ℕ) (e : Editing) : Type 0 where
       ≡ transcript_of Done
       (replayed_text (tallied_all (log_steps e.history) none_yet) e.state.trees next)
 
--- So it is at the end of a session as `CallsReplay` has it, which began with a text that is a page
--- block and a line feed, where with the log after that it isn't too long.
+-- So it is after calls as `CallsReplay` has them, from the page of a text that is a page block and a
+-- line feed, where with the log after that it isn't too long.
 abbrev pub CallsTextReplays : Arena → Editing → Type 0
 CallsTextReplays page e =
     (front bytes : List ℕ) → block_of (front ++ 10 ∷ []) ≡ Whole bytes [] → IsReadAs bytes page
