@@ -334,7 +334,7 @@ export class Controller {
 
   /** @param {Selection} selection */
   select(selection) {
-    if (!this.#stop && this.status !== "closed") {
+    if (!this.#stop) {
       this.guard(() => {
         this.#flush();
         this.#finish(() => {
@@ -367,6 +367,11 @@ export class Controller {
       throw new BadPlace("nothing is selected");
     }
     this.guard(() => this.#session.commands.mark(name, selection));
+  }
+
+  /** @param {string} name */
+  unmark(name) {
+    return this.guard(() => this.#session.commands.unmark(name));
   }
 
   /**
