@@ -305,7 +305,7 @@ export class Region extends /** @type {new () => RegionTarget} */ (EventTarget) 
    * @param {string} name
    */
   unmark(name) {
-    return this.#controller.session.commands.unmark(name);
+    return this.#controller.unmark(name);
   }
 
   /**

@@ -410,7 +410,7 @@ export class Controller {
 
   /** @param {Selection} selection */
   select(selection) {
-    if (!this.#stop && this.status !== "closed") {
+    if (!this.#stop) {
       this.guard(() => {
         this.#flush();
         this.#finish(() => {
@@ -443,6 +443,11 @@ export class Controller {
       throw new BadPlace("nothing is selected");
     }
     this.guard(() => this.#session.commands.mark(name, selection));
+  }
+
+  /** @param {string} name */
+  unmark(name) {
+    return this.guard(() => this.#session.commands.unmark(name));
   }
 
   /**

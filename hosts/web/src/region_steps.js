@@ -1,6 +1,6 @@
 /**
- * The steps of a region's undo, for region.js. What a user does may take several commands, and the
- * engine's history has an entry for each.
+ * The steps of a region's undo, for region.js, with what was selected before and after each. A step has
+ * an entry of the engine's history, and several if something was marked between its commands.
  */
 
 /** @typedef {import("./hedit.js").Selection} Selection */

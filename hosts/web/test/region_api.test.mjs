@@ -132,6 +132,25 @@ for (const { Browser, name, skip } of BROWSERS) {
       });
     });
 
+    it("ends a region by `using`, and by `close`", async () => {
+      await region.open("<p>one</p>", { placeholder: "Write" });
+      await region.ask("setHtml", "<p>two</p>");
+      const seen = await evaluate(() => {
+        const { region: it } = window;
+        const { element } = it;
+        it[Symbol.dispose ?? "close"]();
+        window.start("<p>three</p>");
+        return [it.status, element.getAttribute("aria-placeholder"), window.region.canUndo];
+      });
+      assert.deepEqual(seen, ["closed", null, false]);
+      const late = () => {
+        const { region: it } = window;
+        it.close();
+        it.select({ label: 1, offset: 0 });
+      };
+      assert.equal(await thrown(late), "EditorClosed");
+    });
+
     describe("what is selected", () => {
       it("is all, and has places and rectangles", async () => {
         await region.open("<p>a😀b</p><p>cd</p>");
