@@ -34,9 +34,10 @@ export class PicturePanel {
       panel.hidePopover();
       this.insert([...file.files]);
     });
-    const message = part("message");
-    message.addEventListener("paste", (/** @type {ClipboardEvent} */ event) => this.#paste(event));
-    message.addEventListener("drop", (/** @type {DragEvent} */ event) => this.#drop(event));
+    // Before the region is asked.
+    const paper = part("paper");
+    paper.addEventListener("paste", (/** @type {ClipboardEvent} */ event) => this.#paste(event), true);
+    paper.addEventListener("drop", (/** @type {DragEvent} */ event) => this.#drop(event), true);
     this.#startDrops();
   }
 
@@ -96,6 +97,7 @@ export class PicturePanel {
     const html = event.clipboardData?.getData("text/html") ?? "";
     if (files.length > 0 && plainText(html) === "") {
       event.preventDefault();
+      event.stopPropagation();
       this.insert(files);
     }
   }
@@ -103,14 +105,26 @@ export class PicturePanel {
   /** @param {DragEvent} event */
   #drop(event) {
     const files = [...(event.dataTransfer?.files ?? [])];
-    if (files.length > 0) {
+    if (files.length > 0 && part("message").contains(/** @type {Node} */ (event.target))) {
       event.preventDefault();
-      const page = /** @type {any} */ (document);
-      const at = page.caretPositionFromPoint?.(event.clientX, event.clientY);
-      if (at) {
-        document.getSelection()?.collapse(at.offsetNode, at.offset);
-      }
+      event.stopPropagation();
+      part("paper").classList.remove("is-target");
+      this.#selectAt(event);
       this.insert(files);
+    }
+  }
+
+  /**
+   * Puts the caret where the mouse is, if the browser says which place that is.
+   * @param {MouseEvent} event
+   */
+  #selectAt({ clientX, clientY }) {
+    const { region } = this.#composer;
+    const page = /** @type {any} */ (document);
+    const place = page.caretPositionFromPoint?.(clientX, clientY);
+    const point = place && region.pointAt(place.offsetNode, place.offset);
+    if (point) {
+      region.select(point);
     }
   }
 
