@@ -1,7 +1,7 @@
 #!/usr/bin/env python3
 """Tries the wrong bodies of bench/bugs, which were written by hand: bench/bugs.py [--list] [CRATE | CRATE/BODY ..]
 
-Without names it tries all. Each is a must-fail edit that the gate doesn't try. In a copy of the crates they take the place of the edits of
+Without names it tries all. Each is a must-fail edit that CI doesn't try. In a copy of the crates they take the place of the edits of
 their crate, and `rt must-fail` tries them there. It prints a line for each, which begins with what came of it:
 
     refused      the prover refuses it, as it should
@@ -14,7 +14,7 @@ The status is 1 where one is let through, bad or not tried. bench/mutants.tsv sa
 of the crates, and up to a minute for each body.
 
 With `--list` it tries none, and prints them, each with the public call that it makes wrong where its first line names one. The status is 1
-where one can't be applied, since a line that it changes doesn't stand once in its file.
+where one can't be applied, since a line that it changes isn't in its file exactly once.
 """
 import argparse
 import re
@@ -70,7 +70,7 @@ def call_of(file: Path) -> str:
 
 
 def applies(file: Path) -> bool:
-    """Whether each line that a body changes stands once in its file, as the changes before it leave that."""
+    """Whether each line that a body changes is in its file exactly once, after the changes before it."""
     text = ""
     for line in file.read_text(encoding="utf-8").splitlines():
         word, _, rest = line.partition(": ")

@@ -7,34 +7,34 @@ It needs valgrind and GNU time. PROGRAM is crates/hedit/out/hedit unless given. 
 or those alone that the options name. The parts:
 
   shapes    each command and each question over N, 2N and 4N paragraphs, items, lines and so on, and the commands of one
-            place at a caret amid them
+            place at a caret between them
   pages     whether the size of the page shows at one place
   siblings  what each sibling before the place costs
   depth     each command and each question below 10 elements and below 160, and a key in three deep chains side by side
-  nothing   a key amid empty spans, blank spans, inputs and hidden spans
-  styles    each command and each question on an element whose style has 10,000 declarations, in seconds of processor
+  nothing   a key between empty spans, spans of whitespace, inputs and hidden spans
+  styles    each command and each question on an element whose style has 10,000 declarations, in CPU seconds
   stack     all commands and questions on the deepest pages, in a stack of 128 kB
   typing    many characters that are typed into one text, with their memory, and a key before a long text
-  log       the act `log`, and `replay` of what it prints
+  log       the line `log`, and `replay` of what it prints
   moves     a line of `replay` that moves a tree, or takes it out and puts it back
   bulk      `bulk 5000`, and its memory
-  long      what a key amid 16,000 lines or words takes, in seconds of processor
+  long      what a key between 16,000 lines or words takes, in CPU seconds
 
 A figure is what callgrind counts from one reply of a session to the next, or the difference of two sessions, so reading the
-page is no part of it. Each command's undo and redo have figures of their own.
+page doesn't count. Each command's undo and redo have figures of their own.
 
 What a command may take over a shape follows from what it has to do: it makes its edits, and looks at each of the N parts.
 So from 2N to 4N its instructions may grow as edits + N do, and by an eighth more:
 
   (edits at 4N + 4N) / (edits at 2N + 2N) * 1.125
 
-The edits are those of the entry that the command leaves in the history, as `stat` tells them. The algorithms ask for them,
-so no program with the same log makes fewer. Where they grow with N, the command may take 2.25 times as many instructions,
-and where they grow with the square of N, 4.5 times. The eighth leaves room for what isn't quite even, such as a list that
-makes room for more than it needs. A cost that has a part with the square of N in it, which the edits haven't, is found once
+The edits are those of the undo step that the command leaves, as `stat` reports them. The algorithms ask for them, so no
+program with the same log makes fewer. If they grow with N, the command may take 2.25 times as many instructions, and if they
+grow with the square of N, 4.5 times. The eighth is a margin for what isn't quite even, such as a list that has more capacity
+than it needs. A cost that has a part with the square of N in it, which the edits haven't, is found once
 this part is 7 percent of the rest at 2N.
 
-It ends with status 1 where a figure is above its aim, and names these figures at the end.
+It ends with status 1 if a figure misses its target, and names these figures at the end.
 """
 import argparse
 import re
@@ -49,7 +49,7 @@ from typing import NamedTuple
 ROOT = Path(__file__).resolve().parent.parent
 
 # The commands: each with its value, what is executed before it so that it has work, and a plain engine's instructions for
-# each paragraph, where they are known. A plain engine has the same algorithms and no proofs; the aim is 1.3 times as many.
+# each paragraph, if they are known. A plain engine has the same algorithms and no proofs; the target is 1.3 times as many.
 Row = tuple[str, str | None, int | None]
 COMMANDS: list[Row] = [
     ("bold", None, 15900),
@@ -144,7 +144,7 @@ def counted(text: str, *words: str) -> tuple[str, int]:
 
 
 class Use(NamedTuple):
-    """The seconds of processor and the kilobytes of memory that a run took, and what it wrote."""
+    """The CPU seconds and the kilobytes of memory that a run took, and what it wrote."""
 
     seconds: float
     kilobytes: int
@@ -172,7 +172,7 @@ class Trial(NamedTuple):
 
 
 class Cost(NamedTuple):
-    """The instructions of an act; those of its undo and redo, where it left an entry in the history; its edits."""
+    """The instructions of a line; those of its undo and redo, if it left an undo step; its edits."""
 
     done: int
     undone: int | None
@@ -260,7 +260,7 @@ def table(
 ) -> dict[str, str]:
     """Prints a row for each name, of its costs in order, and gives each row's figure as Markdown.
 
-    Of what a command takes, of its undo and of its redo there is a figure each, made of the counts in order.
+    A command, its undo and its redo have a figure each, made of the counts in order.
     """
     print(f"{place}, {words}:")
     print(
@@ -297,7 +297,7 @@ def in_rows(columns: list[dict[str, Cost]]) -> dict[str, list[Cost]]:
 
 
 class Shape(NamedTuple):
-    """A page of so many parts; the acts that select all of it, a place amid it, and the start of a part."""
+    """A page of so many parts; the lines that select all of it, a place inside it, and the start of a part."""
 
     page: Callable[[int], str]
     whole: Callable[[int], str]
@@ -315,7 +315,7 @@ def select(from_: str, to: str | None = None) -> str:
 
 
 def beside(part: str, path: Callable[[int], str], opened: str = "", closed: str = "", between: str = "") -> Shape:
-    """A shape of parts side by side. A part has a text, for which {} stands in `part`, at `path` of its index."""
+    """A shape of parts side by side. A part has a text in place of {} in `part`, at `path` of its index."""
 
     def word(index: int) -> str:
         return f"item {index}"
@@ -367,7 +367,7 @@ SHAPES = {
 
 
 def trials_over(shape: Shape, count: int) -> Iterator[Trial]:
-    """The trials of a shape: all of it selected, and commands of one place amid it."""
+    """The trials of a shape: all of it selected, and commands of one place inside it."""
     yield from every_trial(shape.whole(count))
     yield from trials_of(OF_PLACE, shape.amid(count), ", caret amid")
     yield from trials_of(OF_PLACE, shape.start(count), ", caret at a start")
@@ -438,7 +438,7 @@ def pages() -> None:
     )
 
 
-# ---- one place beside many siblings
+# ---- one place next to many siblings
 
 
 def siblings() -> None:
@@ -495,20 +495,18 @@ def depth() -> None:
 
 
 def key_in_chains() -> None:
-    """A key in the middle one of three chains of b, which stand side by side."""
+    """A key in the middle one of three chains of b, which are side by side."""
     seconds = []
     for count in (48, 96, 192):
         page = host("<p>" + ("<b>" * count + "foo" + "</b>" * count) * 3 + "</p>")
         select_it = select("0/0/1" + "/0" * count + ":2")
         without = used(session_of(page, [select_it]), "run").seconds
         seconds.append(used(session_of(page, [select_it, "exec insertText x"]), "run").seconds - without)
-    print(
-        "seconds of processor of a key in three chains of b, of 48, 96 and 192:", *(f"{each:.2f}" for each in seconds)
-    )
+    print("CPU seconds of a key in three chains of b, of 48, 96 and 192:", *(f"{each:.2f}" for each in seconds))
     told("insertText in three chains of 192 b, seconds", seconds[-1], 0.02)
 
 
-# ---- one place amid nodes that show nothing
+# ---- one place between nodes that show nothing
 
 NOTHING = {
     "empty spans": "<span></span>",
@@ -591,7 +589,7 @@ def typing() -> None:
     nothing, few, many = (counted(session(count, TYPED[0]), "run")[1] for count in (0, 2500, 10000))
     print(f"typing in one text: {few - nothing:,} instructions for 2,500 characters, {many - nothing:,} for 10,000")
     told("typing: growth at four times as many characters", (many - nothing) / (few - nothing), 4.2)
-    # A session is read whole before its acts, and so beside one of as many questions.
+    # A session is read before its lines are answered. The comparison with as many queries leaves that out.
     asked, typed = (used(session(10000, act), "run").kilobytes for act in ("query state bold", TYPED[0]))
     print(f"  peak of memory: {asked:,} kB with 10,000 questions, {typed:,} kB with 10,000 characters")
     told("typing: bytes for each of 10,000 characters", (typed - asked) * 1024 / 10000, 100)

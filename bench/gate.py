@@ -1,7 +1,7 @@
 #!/usr/bin/env python3
-"""Prints what the gate costs: bench/gate.py [WORD..]
+"""Prints what the proofs of CI cost: bench/gate.py [WORD..]
 
-Runs `rt ci` with a check on each processor, as `.ci/run` does, and prints for each crate the seconds of processor that its
+Runs `rt ci` with a check on each processor, as `.ci/run` does, and prints for each crate the CPU seconds that its
 proofs, its tests and its must-fail edits took, the most memory that one of its checks held, and the sums; then the longest
 chain of proofs wall-clock, and the minutes from the start to the end. The words are handed on to `rt ci`.
 
@@ -75,7 +75,7 @@ def read_memory(number: int) -> int:
 
 
 def read_provers(gate: int, checks: dict[int, Check], now: float) -> None:
-    """Notes what each process of the prover that the gate has started took so far, with what runs below it."""
+    """Notes what each process of the prover took so far, with its children."""
     running = read_processes()
     children = defaultdict(list)
     for number, (parent, _) in running.items():
@@ -110,7 +110,7 @@ def print_table(checks: Iterable[Check]) -> None:
 
 
 def read_crates() -> dict[str, list[str]]:
-    """What crates.txt says: for each crate those that it stands on."""
+    """What crates.txt says: for each crate those that it depends on."""
     rows = (line.partition("#")[0].partition(":") for line in (ROOT / "crates.txt").read_text().splitlines())
     return {name.split()[0]: below.split() for name, colon, below in rows if colon}
 

@@ -6,12 +6,11 @@
  *     node bench/keys.mjs [PARAGRAPHS] [ROUNDS]
  *
  * The two are measured in turn, in one run of each browser. A key's time goes from its event to the end
- * of the frame that shows what it did, with frames that wait for no screen; beside it stands what the
- * page's main thread took of the processor, which doesn't tell of what else the machine does. Of each
- * there is the median and the middle half, and how often the browser's own goes into the region's; what
- * else the machine does is told by its load before and after. It ends with status 1 where an aim is
- * missed: a key takes no longer than the browser's own, and no more of the processor, and a load at
- * most 100 ms more.
+ * of the frame that shows what it did, with frames that wait for no screen. Next to it is the CPU time of
+ * the page's main thread, which doesn't depend on what else the machine does. Each has the median and the
+ * middle half, and the ratio of the region's to the browser's own. The load of the machine before and
+ * after is printed too. It ends with status 1 if a target is missed: a key takes no longer than the
+ * browser's own, and no more CPU time, and a load at most 100 ms more.
  */
 import { loadavg } from "node:os";
 import { argv, exit } from "node:process";
@@ -103,7 +102,7 @@ async function measureAll({ Browser }, address) {
   return found;
 }
 
-/** The quartiles of what was taken of something, by the clock and of the processor. */
+/** The quartiles of what something took, wall-clock and in CPU time. */
 function quartilesOf(found, what) {
   const taken = found.filter((each) => each.what === what);
   const of = (name) => [0.25, 0.5, 0.75].map((part) => quantile(taken.map((each) => each[name]), part));

@@ -291,7 +291,7 @@ def inserts_only(program: str, session: Session, steps: list[Step]) -> Iterator[
 
 
 def selection_stays(program: str, session: Session, steps: list[Step]) -> Iterator[bool]:
-    """No command but those that set flags loses the selection, and both points stand at or below the editable element."""
+    """No command but those that set flags loses the selection, and both points are in the editable element."""
     for before, step, name, _ in commands(steps):
         if before.points.startswith("none") or name in FLAGS:
             continue

@@ -2,7 +2,7 @@
 """Whether names can be chosen that make a page dear: instructions by callgrind, over pages with names that a stranger would choose.
 
 Usage: bench/names.py [--million N ..] [--seconds N] [--clock] [--part PART ..] [PROGRAM]   (PROGRAM is crates/hedit/out/hedit unless given)
-Valgrind is needed, or with --clock, which takes seconds of processor in place of instructions, nothing else.
+Valgrind is needed, or with --clock, which measures CPU seconds instead of instructions, nothing else.
 
 Three parts: one tag with as many attributes as fit, under `check`; one style with as many declarations, under `run` with a command
 that sets a property of that style; and as many marks, of which a session sets one and takes it out after the other. Each at 1 MB and at
@@ -13,7 +13,7 @@ that sets a property of that style; and as many marks, of which a session sets o
   power of two of groups with twelve places, a name begins at the group that the lowest bits of its hash say, and where a group is
   full it goes on to the next, so these names walk over all of the sixteenth;
 - sorted, reversed: names in their order, and from the last to the first;
-- prefix: names that begin alike and differ in the last characters alone, short ones and long ones.
+- prefix: names with a common prefix that differ in the last characters only, short ones and long ones.
 
 A form may take 1.5 times as many instructions as the plain page of the same lengths. The status is 1 where one takes more, or
 more seconds than are given.
@@ -104,7 +104,7 @@ def counted(count: int, length: int, fill: str = "a") -> list[str]:
 
 
 def forms(rng: random.Random, size: int, extra: int, width: int) -> Iterator[tuple[str, int, list[str], int]]:
-    """Each form with its names, after the length of its names. `extra` is what stands between two names."""
+    """Each form with its names, after the length of its names. `extra` is what separates two names."""
     short, long = 8, 200
     count, few = size // (short + extra), size // (long + extra)
     yield "hash", short, colliding(rng, count, short, width), count
@@ -139,7 +139,7 @@ def marks(names: Iterable[str]) -> str:
 
 
 def measured(command: list[str | Path], text: str, seconds: int, work: Path) -> float | None:
-    """The seconds of processor that a command takes with this input, or None where it takes longer than is given."""
+    """The CPU seconds that a command takes with this input, or None where it takes longer than is given."""
     (work / "input").write_text(text)
     before = resource.getrusage(resource.RUSAGE_CHILDREN)
     with open(work / "input", "rb") as given, open(work / "output", "wb") as output, open(work / "told", "wb") as told:

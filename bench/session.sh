@@ -2,7 +2,7 @@
 # What the acts of an editing session cost, by callgrind's instructions, and whether the page's size shows in it.
 # Usage: bench/session.sh [PROGRAM]   (valgrind is needed; PROGRAM is crates/hedit/out/hedit unless given)
 # A figure is the difference of two sessions over one page of which the second has the acts twice as often, so that reading
-# the page and beginning the session are no part of it. It ends with status 1 where an aim is missed.
+# the page and beginning the session don't count. It ends with status 1 if a target is missed.
 set -euo pipefail
 cd "$(dirname "$0")/.."
 program=$(realpath "${1:-crates/hedit/out/hedit}")
@@ -11,8 +11,8 @@ trap 'rm -rf "$work"' EXIT
 missed=0
 source bench/measure.sh
 
-# A page of so many paragraphs of two nodes each, with one more in their middle that stands in so many elements. In that one
-# a link, with further attributes, stands between so many elements on either side.
+# A page of so many paragraphs of two nodes each, with one more in their middle that is in so many elements. In that one
+# a link, with further attributes, is between so many elements on either side.
 linked_page() { # PARAGRAPHS DEPTH BESIDE ATTRIBUTES
   awk -v n="$1" -v d="$2" -v s="$3" -v a="$4" '
     function repeat(text, times,  k) { for (k = 0; k < times; k++) printf "%s", text }
@@ -86,7 +86,7 @@ growth "undo 1 and redo 1 of it" '' '\nexec unlink' 1000 'undo 1' 'redo 1'
 growth "exec styleWithCSS" '' '' 1000 'exec styleWithCSS true'
 growth "stat" '' '' 1000 stat
 
-# What a command costs below so many ancestors, and beside so many siblings.
+# What a command costs below so many ancestors, and next to so many siblings.
 unlinking() { # DEPTH BESIDE
   linked_page 20 "$1" "$2" '' > "$work/page"
   round "$work/page" "$(caret 20 "$1" "$2")" 200 'exec unlink' 'undo 1'

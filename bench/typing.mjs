@@ -30,7 +30,7 @@ const MIB = 2 ** 20;
 
 // ---- hedit
 
-/** A session that types so many characters amid a text, and then does other acts. */
+/** A session that types so many characters inside a text, and then has other lines. */
 function session(keys, acts = []) {
   const page = `page <<END\n<div contenteditable="true"><p>${TEXT}</p></div>\nEND\nselect 0/0/0:2 0/0/0:2\n`;
   return page + "exec insertText x\n".repeat(keys) + acts.map((act) => `${act}\n`).join("");

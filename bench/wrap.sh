@@ -2,8 +2,8 @@
 # What splitting and wrapping cost, by callgrind's instructions, and whether the number of siblings shows in it.
 # Usage: bench/wrap.sh [PROGRAM]   (valgrind is needed; PROGRAM is crates/edit_bench/out/edit_bench unless given)
 # A round is one command: it begins, splits or wraps, is committed, and is undone. A figure is the difference of two runs over
-# one page of which the second has twice as many rounds, so that reading the page is no part of it. It ends with status 1 where
-# an aim is missed.
+# one page of which the second has twice as many rounds, so that reading the page doesn't count. It ends with status 1 if a
+# target is missed.
 set -euo pipefail
 cd "$(dirname "$0")/.."
 program=$(realpath "${1:-crates/edit_bench/out/edit_bench}")

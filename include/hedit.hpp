@@ -5,8 +5,8 @@
  *     editor.exec("bold");
  *     std::cout << editor.html();
  *
- * A call that is refused throws a hedit::Error, with a class of its own for each cause, or
- * std::bad_alloc, and leaves the editor as it was. hedit.h says what each call does.
+ * A refused call throws a hedit::Error, with a class of its own for each cause, or std::bad_alloc.
+ * It leaves the editor as it was. hedit.h says what each call does.
  */
 #ifndef HEDIT_HPP
 #define HEDIT_HPP
@@ -26,21 +26,21 @@
 
 namespace hedit {
 
-/* The version of the library that is linked; HEDIT_VERSION is that of the header. */
+/* Returns the version of the linked library. HEDIT_VERSION is that of the header. */
 inline std::string version() {
     std::uint32_t number = hedit_version();
     return std::to_string(number >> 16) + '.' + std::to_string(number >> 8 & 255) + '.' +
            std::to_string(number & 255);
 }
 
-/* A path, the index of a child in each node on the way from the document down, and an offset:
- * characters (code points) in a text, and children in an element. */
+/* A path and an offset. The path has the index of a child in each node, from the document down. The
+ * offset counts characters (code points) in a text node, and children in an element. */
 struct Place {
     std::vector<std::uint32_t> path;
     std::uint32_t offset = 0;
 };
 
-/* The number of a node, which it keeps for as long as the editor is open. The document's is 0. */
+/* The number of a node, which the node keeps as long as the editor is open. The document has 0. */
 using Label = std::uint32_t;
 
 /* The label of a node, and an offset in it. */
@@ -60,15 +60,22 @@ struct Selection {
     Point focus;
 };
 
-/* A name for what is between two points. The name is any bytes. */
+/* How a command is executed. */
+struct ExecOptions {
+    std::optional<Selection> range; /* what it selects first and works on */
+    bool joined = false;            /* whether its edits are added to the previous undo step */
+    std::string_view denied;        /* names that are denied, as "bold,insertImage" */
+};
+
+/* A named range, which follows the edits. The name is any bytes. */
 struct Mark {
     std::string name;
     Point anchor;
     Point focus;
 };
 
-/* What a node is: its kind, the count of its characters or of its children, and the labels of the
- * nodes beside it, where they are there. */
+/* A node: its kind, the count of its characters or of its children, and the labels of the nodes next
+ * to it, if there are any. */
 struct Node {
     hedit_node_kind kind;
     std::uint32_t length;
@@ -84,8 +91,8 @@ struct Attribute {
     std::string value;
 };
 
-/* A node of a tree that comes into the page, and its level below the root of the tree. An element
- * has a name and attributes, a text and a comment have a value. */
+/* A node of an inserted tree, with its level below the root of the tree. An element has a name and
+ * attributes, a text node and a comment have a value. */
 struct TreeNode {
     std::uint32_t level;
     Label label;
@@ -95,26 +102,26 @@ struct TreeNode {
     std::string value;
 };
 
-/* A node went, with its tree. */
+/* A node is removed, with its tree. */
 struct Removed {
     Label label;
 };
 
-/* A tree came, told by its nodes in tree order, before a child of the parent, or at its end. */
+/* A tree is inserted before a child of the parent, or at its end. Its nodes are in tree order. */
 struct Inserted {
     std::vector<TreeNode> tree;
     Label parent;
     std::optional<Label> before;
 };
 
-/* A node went to another place, with its tree. */
+/* A node is moved, with its tree. */
 struct Moved {
     Label label;
     Label parent;
     std::optional<Label> before;
 };
 
-/* Of the characters of a text or a comment, `taken` from the offset `at` on gave way to others. */
+/* In a text node or a comment, `put` replaces `taken` characters from the offset `at` on. */
 struct Replaced {
     Label label;
     std::uint32_t at;
@@ -122,13 +129,13 @@ struct Replaced {
     std::string put;
 };
 
-/* An element was given another list of attributes. */
+/* An element has another list of attributes. */
 struct AttributesSet {
     Label label;
     std::vector<Attribute> attributes;
 };
 
-/* What a call changed: an edit of the page. */
+/* A change of the document by a call. */
 using Change = std::variant<Removed, Inserted, Moved, Replaced, AttributesSet>;
 
 /* A call was refused. */
@@ -142,11 +149,11 @@ class Error : public std::runtime_error {
     hedit_status status_;
 };
 
-/* The bytes are no page: the first at() of them begin one, and kind() says why no more do. */
+/* The bytes aren't a page: the first at() of them begin one, and kind() says why no more do. */
 class PageRefused : public Error {
   public:
     PageRefused(std::size_t at, hedit_page_kind kind)
-        : Error(HEDIT_PAGE_REFUSED, "the bytes are no page"), at_(at), kind_(kind) {}
+        : Error(HEDIT_PAGE_REFUSED, "the bytes aren't a page"), at_(at), kind_(kind) {}
 
     std::size_t at() const noexcept { return at_; }
     hedit_page_kind kind() const noexcept { return kind_; }
@@ -156,48 +163,48 @@ class PageRefused : public Error {
     hedit_page_kind kind_;
 };
 
-/* The command would have made a node whose number reaches the cap. */
+/* A node that the command makes would have the label label_cap. */
 class PageFull : public Error {
   public:
-    PageFull() : Error(HEDIT_FULL, "the page is full") {}
+    PageFull() : Error(HEDIT_FULL, "no label is left below label_cap") {}
 };
 
 /* The document is too deep for commands. */
 class TooDeep : public Error {
   public:
-    TooDeep() : Error(HEDIT_DEEP, "the page is too deep") {}
+    TooDeep() : Error(HEDIT_DEEP, "the document is too deep") {}
 };
 
 /* A path or a label names no node, or an offset is past its length. */
 class BadPlace : public Error {
   public:
-    BadPlace() : Error(HEDIT_BAD_PLACE, "no such place") {}
+    BadPlace() : Error(HEDIT_BAD_PLACE, "the document has no such place") {}
 };
 
-/* 16 marks of other names are there. */
+/* There are 16 markers of other names. */
 class TooManyMarks : public Error {
   public:
-    TooManyMarks() : Error(HEDIT_TOO_MANY_MARKS, "too many marks") {}
+    TooManyMarks() : Error(HEDIT_TOO_MANY_MARKS, "there are 16 markers of other names already") {}
 };
 
-/* A text isn't UTF-8, a list of names is none, or a limit is 0. */
+/* A text isn't UTF-8, a list of names is malformed, or a limit is 0. */
 class BadArgument : public Error {
   public:
-    BadArgument() : Error(HEDIT_BAD_ARGUMENT, "an argument means nothing") {}
+    BadArgument() : Error(HEDIT_BAD_ARGUMENT, "an argument is invalid") {}
 };
 
-/* The editor was moved from. */
+/* The editor is closed, since it was moved from. */
 class Closed : public Error {
   public:
     Closed() : Error(HEDIT_CLOSED, "the editor is closed") {}
 };
 
-/* Reads changes as hedit.h says that they are packed. */
+/* Reads packed changes, as hedit.h describes them. */
 class ChangeReader {
   public:
     explicit ChangeReader(std::string_view packed) : rest_(packed) {}
 
-    /* All of them, in their order. */
+    /* Returns all changes, in their order. */
     std::vector<Change> changes() {
         std::vector<Change> all;
         while (!rest_.empty()) {
@@ -266,7 +273,7 @@ class ChangeReader {
         return change;
     }
 
-    /* What stands in braces is read in its order. */
+    /* The values in braces are read in their order. */
     Change change() {
         switch (number()) {
         case HEDIT_REMOVED: return Removed{small()};
@@ -280,11 +287,11 @@ class ChangeReader {
     std::string_view rest_;
 };
 
-/* An editor of a page, which it closes when it ends. It can be moved, and not copied. Its calls
- * come from one thread. */
+/* An editor of a page. Its destructor closes it. It can be moved, but not copied. Call it from one
+ * thread only. */
 class Editor {
   public:
-    /* No node gets a number from label_cap on, and undo_depth commands can be undone. */
+    /* Opens a page. No node gets a label from label_cap on, and undo_depth commands can be undone. */
     explicit Editor(std::string_view page, std::uint32_t label_cap = 2000000,
                     std::size_t undo_depth = 100) {
         hedit_refusal refusal = {0, 0};
@@ -310,119 +317,130 @@ class Editor {
 
     ~Editor() { hedit_close(&handle_); }
 
-    /* Executes a command by its name, in any case. False where it isn't possible here, or refuses
-     * the value. */
+    /* Executes a command by its name, in any case. Returns false if it isn't enabled or refuses the
+     * value. */
     bool exec(std::string_view name, std::string_view value = "") {
         return answer(hedit_exec(&handle_, bytes(name), name.size(), bytes(value), value.size()));
     }
 
-    /* The same past a gate: also false where the name is denied, which stands in a list with a
-     * comma between, as "bold,insertImage". */
+    /* Executes a command like exec, unless its name is denied: then it returns false. Denied names are
+     * separated by commas, as "bold,insertImage". */
     bool exec_gated(std::string_view denied, std::string_view name, std::string_view value = "") {
         return answer(hedit_exec_gated(&handle_, bytes(denied), denied.size(), bytes(name),
                                        name.size(), bytes(value), value.size()));
     }
 
-    /* The same as one step of undo with the last one, where a command made that step and nothing
-     * has come between. */
+    /* Executes a command like exec, but adds its edits to the previous undo step, if a command made
+     * that step and nothing has intervened. */
     bool exec_joined(std::string_view name, std::string_view value = "") {
         return answer(
             hedit_exec_joined(&handle_, bytes(name), name.size(), bytes(value), value.size()));
     }
 
-    /* Puts a text in place of what stands between two points: selects it and inserts the text, as
-     * one command, which goes on with a run of typing. False where there is no editing host. */
+    /* Executes a command with options: on a range, as part of the previous undo step, or unless it
+     * is denied. The selection is left where the command leaves it. */
+    bool exec(std::string_view name, std::string_view value, const ExecOptions &options) {
+        Selection range = options.range.value_or(Selection{});
+        hedit_exec_options told = {options.joined,     options.range.has_value(),
+                                   range.anchor.label, range.anchor.offset,
+                                   range.focus.label,  range.focus.offset};
+        return answer(hedit_exec_with(&handle_, &told, bytes(options.denied), options.denied.size(),
+                                      bytes(name), name.size(), bytes(value), value.size()));
+    }
+
+    /* Replaces the range between two points by a text, as one command, which continues a run of
+     * typing. Returns false if the points aren't in an editing host. */
     bool replace(Point anchor, Point focus, std::string_view text) {
         return answer(hedit_replace(&handle_, anchor.label, anchor.offset, focus.label,
                                     focus.offset, bytes(text), text.size()));
     }
 
-    /* Takes one step back, or forth again. False where there is none. */
+    /* Undo or redo one step. They return false if there is none. */
     bool undo() { return answer(hedit_undo(&handle_)); }
     bool redo() { return answer(hedit_redo(&handle_)); }
 
-    /* Selects from an anchor to a focus, or puts the caret at one place. */
+    /* Selects from an anchor to a focus, or sets the caret. */
     void select(const Place &anchor, const Place &focus) {
         answer(hedit_select(&handle_, path(anchor), anchor.path.size(), anchor.offset, path(focus),
                             focus.path.size(), focus.offset));
     }
     void select(const Place &caret) { select(caret, caret); }
 
-    /* The same from one point to another. Its cost doesn't grow with the page. */
+    /* Selects from one point to another. The cost doesn't grow with the page. */
     void select_points(const Point &anchor, const Point &focus) {
         answer(
             hedit_select_points(&handle_, anchor.label, anchor.offset, focus.label, focus.offset));
     }
     void select_points(const Point &caret) { select_points(caret, caret); }
 
-    /* Gives the selection up. */
+    /* Removes the selection. */
     void unselect() { answer(hedit_unselect(&handle_)); }
 
-    /* Gives a name to what is between two places. */
+    /* Sets the marker of a name from an anchor to a focus. */
     void mark(std::string_view name, const Place &anchor, const Place &focus) {
         answer(hedit_mark(&handle_, bytes(name), name.size(), path(anchor), anchor.path.size(),
                           anchor.offset, path(focus), focus.path.size(), focus.offset));
     }
 
-    /* The same between two points. */
+    /* Sets the marker of a name from one point to another. */
     void mark_points(std::string_view name, const Point &anchor, const Point &focus) {
         answer(hedit_mark_points(&handle_, bytes(name), name.size(), anchor.label, anchor.offset,
                                  focus.label, focus.offset));
     }
 
-    /* Takes the mark of a name out. False where there is none. */
+    /* Removes the marker of a name. Returns false if there is none. */
     bool unmark(std::string_view name) {
         return answer(hedit_unmark(&handle_, bytes(name), name.size()));
     }
 
-    /* Whether there is such a command. */
+    /* Returns whether there is such a command. */
     bool supported(std::string_view name) { return ask(HEDIT_SUPPORTED, name).first; }
 
-    /* Whether there is something for the command to work in. */
+    /* Returns whether the command has an editing host to work in. */
     bool enabled(std::string_view name) { return ask(HEDIT_ENABLED, name).first; }
 
-    /* Whether the command's state is so for a part of the selection only. */
+    /* Returns whether only a part of the selection has it. */
     bool indeterm(std::string_view name) { return ask(HEDIT_INDETERM, name).first; }
 
-    /* Whether the selection has it, as a toolbar's button shows it. */
+    /* Returns whether the selection has it, for a button of a toolbar. */
     bool state(std::string_view name) { return ask(HEDIT_STATE, name).first; }
 
-    /* The command's value: a font, a colour, the name of a block. */
+    /* Returns the command's value: a font, a colour, the name of a block. */
     std::string value(std::string_view name) { return ask(HEDIT_VALUE, name).second; }
 
-    /* The page as HTML, with a line feed at the end. */
+    /* Returns the document as HTML, with a line feed at the end. */
     std::string html() {
-        /* Room for what commands have made of it since, so that it is printed once. */
+        /* Enough capacity for what commands have added since, so that it is printed once. */
         std::string text = view(HEDIT_HTML, 4096 + html_length_ + html_length_ / 4);
         html_length_ = text.size();
         return text;
     }
 
-    /* A line for each node. */
+    /* Returns a line for each node. */
     std::string tree() { return view(HEDIT_TREE, 4096); }
 
-    /* The selection and the marks. */
+    /* Returns the selection and the markers, as lines. */
     std::string points() { return view(HEDIT_POINTS, 4096); }
 
-    /* The numbers of the page and of the history. */
+    /* Returns the counts of the document and of its history, as a line. */
     std::string numbers() { return view(HEDIT_NUMBERS, 4096); }
 
-    /* These numbers one by one. */
+    /* Returns the counts of the document and of its history. */
     hedit_number_facts counts() {
         hedit_number_facts facts = {};
         answer(hedit_numbers(&handle_, &facts));
         return facts;
     }
 
-    /* How many calls have changed the page. */
+    /* Returns how many calls have changed the document. */
     std::uint64_t revision() {
         std::uint64_t number = 0;
         answer(hedit_revision(&handle_, &number));
         return number;
     }
 
-    /* What the last call that changed something changed, from the first edit to the last. A tree
-     * that was the page before that call, and follows them, is the page. */
+    /* Returns the changes of the last call that changed something, from the first to the last. A copy
+     * of the document before that call that applies them equals the document. */
     std::vector<Change> changes() {
         std::optional<std::string> packed = read_text(
             [&](std::uint8_t *buffer, std::size_t capacity, std::size_t *length) {
@@ -432,11 +450,11 @@ class Editor {
         return ChangeReader(packed.value()).changes();
     }
 
-    /* Whether the node of a label is in the page, or may come back by undo or redo. A node that went
-     * and isn't kept never comes back, so what is held of it can be forgotten. */
+    /* Returns whether the node of a label is in the document, or may be restored by undo or redo. A
+     * removed node that isn't kept is never restored, so you can forget it. */
     bool is_kept(Label label) { return answer(hedit_is_kept(&handle_, label)); }
 
-    /* The points of the selection; none where nothing is selected. */
+    /* Returns the points of the selection, if something is selected. */
     std::optional<Selection> selection() {
         hedit_selection_facts facts = {};
         if (!answer(hedit_selection(&handle_, &facts))) {
@@ -445,7 +463,7 @@ class Editor {
         return selection_of(facts);
     }
 
-    /* The marks: a new one goes last, and one that is set anew keeps its place. */
+    /* Returns the markers. A new one is last, and one that is set again keeps its index. */
     std::vector<Mark> marks() {
         std::vector<Mark> all;
         hedit_selection_facts facts = {};
@@ -456,7 +474,7 @@ class Editor {
         return all;
     }
 
-    /* The HTML and the plain text of what is selected; none where nothing is. */
+    /* Return the HTML and the plain text of the selection, if something is selected. */
     std::optional<std::string> selection_html() {
         return read_text(
             [&](std::uint8_t *buffer, std::size_t capacity, std::size_t *length) {
@@ -472,14 +490,14 @@ class Editor {
             4096);
     }
 
-    /* The label of the node at a path. */
+    /* Returns the label of the node at a path. */
     Label label_at(const std::vector<std::uint32_t> &path) {
         Label label = 0;
         answer(hedit_label_at(&handle_, steps(path), path.size(), &label));
         return label;
     }
 
-    /* The path of the node of a label. */
+    /* Returns the path of the node of a label. */
     std::vector<std::uint32_t> path_of(Label label) {
         return read_items<std::uint32_t>(
             [&](std::uint32_t *path, std::size_t capacity, std::size_t *length) {
@@ -488,7 +506,7 @@ class Editor {
             32);
     }
 
-    /* What the node of a label is. */
+    /* Returns the node of a label. */
     Node node(Label label) {
         hedit_node_facts facts = {};
         answer(hedit_node(&handle_, label, &facts));
@@ -501,7 +519,7 @@ class Editor {
                 there(facts.next)};
     }
 
-    /* The labels of a node's children, from the first to the last. */
+    /* Returns the labels of a node's children, in order. */
     std::vector<Label> children(Label label) {
         std::vector<Label> labels;
         std::optional<Label> child = node(label).first_child;
@@ -512,7 +530,7 @@ class Editor {
         return labels;
     }
 
-    /* The name of an element, and an empty text for another node. */
+    /* Returns the name of an element, and an empty text for another node. */
     std::string node_name(Label label) {
         return read_text(
                    [&](std::uint8_t *buffer, std::size_t capacity, std::size_t *length) {
@@ -522,7 +540,7 @@ class Editor {
             .value();
     }
 
-    /* The characters of a text or a comment, and an empty text for another node. */
+    /* Returns the characters of a text node or a comment, and an empty text for another node. */
     std::string node_value(Label label) {
         return read_text(
                    [&](std::uint8_t *buffer, std::size_t capacity, std::size_t *length) {
@@ -532,8 +550,7 @@ class Editor {
             .value();
     }
 
-    /* The HTML of a node with all that stands below it; that of the document is the HTML of its
-     * children. */
+    /* Returns the HTML of a node with its descendants; for the document, that of its children. */
     std::string node_html(Label label) {
         return read_text(
                    [&](std::uint8_t *buffer, std::size_t capacity, std::size_t *length) {
@@ -543,7 +560,7 @@ class Editor {
             .value();
     }
 
-    /* The plain text of a node with all that stands below it. */
+    /* Returns the plain text of a node with its descendants. */
     std::string node_text(Label label) {
         return read_text(
                    [&](std::uint8_t *buffer, std::size_t capacity, std::size_t *length) {
@@ -553,8 +570,8 @@ class Editor {
             .value();
     }
 
-    /* The points at which a text occurs in the texts of a node and of all that stands below it, in
-     * tree order, none overlapping. */
+    /* Returns the points at which a text occurs in a node and its descendants, in tree order, without
+     * overlap. */
     std::vector<Point> find(std::string_view text, Label label = 0) {
         std::vector<hedit_point> found = read_items<hedit_point>(
             [&](hedit_point *points, std::size_t capacity, std::size_t *count) {
@@ -570,7 +587,7 @@ class Editor {
         return points;
     }
 
-    /* The attributes of a node, in their order. */
+    /* Returns the attributes of a node, in their order. */
     std::vector<Attribute> attributes(Label label) {
         std::vector<Attribute> all;
         while (std::optional<std::string> name =
@@ -582,7 +599,7 @@ class Editor {
     }
 
   private:
-    /* hedit.h takes no null pointer, also where the count is 0. */
+    /* hedit.h takes no null pointer, not even if the count is 0. */
     static const std::uint8_t *bytes(std::string_view text) {
         return reinterpret_cast<const std::uint8_t *>(text.empty() ? "" : text.data());
     }
@@ -594,7 +611,7 @@ class Editor {
 
     static const std::uint32_t *path(const Place &place) { return steps(place.path); }
 
-    /* A label, where a node is there. */
+    /* Returns a label, if there is a node. */
     static std::optional<Label> there(Label label) {
         return label == HEDIT_NO_NODE ? std::nullopt : std::optional<Label>(label);
     }
@@ -603,7 +620,7 @@ class Editor {
         return {{facts.anchor, facts.anchor_offset}, {facts.focus, facts.focus_offset}};
     }
 
-    /* Whether a call was done; where it was refused, this throws why. */
+    /* Returns whether a call was done. Throws an exception if it was refused. */
     static bool answer(std::uint32_t status) {
         switch (status) {
         case HEDIT_MEMORY: throw std::bad_alloc();
@@ -617,8 +634,8 @@ class Editor {
         }
     }
 
-    /* The text of a call that takes a buffer: it is called again where the text is longer than the
-     * capacity. None where the answer is false. */
+    /* Returns the text of a call that takes a buffer, unless the answer is false. If the text is longer
+     * than the capacity, it calls again. */
     template <typename Call>
     static std::optional<std::string> read_text(Call call, std::size_t capacity) {
         for (;;) {
@@ -637,7 +654,7 @@ class Editor {
         }
     }
 
-    /* The items of a call that takes a buffer for so many. */
+    /* Returns the items of a call that takes a buffer for a number of them. */
     template <typename Item, typename Call>
     static std::vector<Item> read_items(Call call, std::size_t capacity) {
         for (;;) {
@@ -673,7 +690,7 @@ class Editor {
             .value();
     }
 
-    /* The name of the mark at a place of the list of marks. */
+    /* Returns the name of a marker by its index in the list of markers. */
     std::string mark_name(std::size_t place) {
         return read_text(
                    [&](std::uint8_t *buffer, std::size_t capacity, std::size_t *length) {
@@ -683,7 +700,7 @@ class Editor {
             .value();
     }
 
-    /* A text of the attribute at a place of a node's list. */
+    /* Returns the name or the value of an attribute by its index in a node's list. */
     template <typename Call>
     std::optional<std::string> attribute(Call call, Label label, std::size_t place) {
         return read_text(
@@ -695,7 +712,7 @@ class Editor {
 
     hedit_editor handle_ = HEDIT_CLOSED_EDITOR;
 
-    /* How long the page was when it was last printed. */
+    /* The length of the page when it was last printed. */
     std::size_t html_length_ = 0;
 };
 

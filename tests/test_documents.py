@@ -161,16 +161,6 @@ class Documents(SmallRepository):
         )
         self.assertEqual(["low/specs/Counting has no count_down", "there is no low/src/none"], self.faults(page))
 
-    def test_finds_hard_phrases_but_not_in_code(self) -> None:
-        page = self.write(
-            "docs/A.md",
-            "Nodes stand here.\nIt is no list, `is no list`. Of these. No longer is no longer hard.\n\n```\nstands\n```\n",
-        )
-        self.assertEqual(
-            [(1, "stand"), (2, "is no list"), (2, "Of t")],
-            [(line, fault.split('"')[1]) for line, fault in self.documents.faults_of_style(page)],
-        )
-
     def test_counts_words(self) -> None:
         page = self.write("docs/A.md", "one two three\n")
         other = self.write("docs/B.md", "one\n")
@@ -179,6 +169,10 @@ class Documents(SmallRepository):
             ["docs/A.md: 3 words, and may have 2", "docs/B.md has no budget"],
             list(self.documents.faults_of_words([page, other], False)),
         )
+
+    def test_counts_neither_numbers_of_items_nor_places_in_sources(self) -> None:
+        page = self.write("docs/A.md", "`low/specs/Counting: count_up`; `low`.\n\n1. One\n   - a. two\n- a three 4.\n")
+        self.assertEqual(6, self.documents.count([page]))
 
     def test_finds_long_decisions(self) -> None:
         page = self.write("docs/DECISIONS.md", f"# Decisions\n\n### Short\n\nYes.\n\n### Long\n\n{'word ' * 81}\n")

@@ -12,7 +12,7 @@
 
 static uint8_t page[1 << 22];
 
-/* The first text from a node on that begins with no blank; NULL where none does. */
+/* Returns the first text node from a node on that doesn't begin with whitespace, or NULL. */
 static const struct node *first_text(const struct node *node) {
     const struct text *value = &node->value;
     if (node->kind == HEDIT_TEXT && value->length > 0 && !strchr(" \t\r\n", value->bytes[0]))

@@ -28,7 +28,7 @@ static void want(uint32_t status, const char *call) {
     }
 }
 
-/* What a host tells its user of a command. */
+/* Returns what an application says to its user about a command. */
 static const char *told(uint32_t status) {
     switch (status) {
     case HEDIT_DONE: return "done";
@@ -65,7 +65,7 @@ static char *html(hedit_editor *editor, size_t *length) {
     return (char *)text;
 }
 
-/* Writes the mail and the toolbar, where the buttons that are on stand in brackets. */
+/* Writes the mail and the toolbar, with the buttons that are on in brackets. */
 static void show(hedit_editor *editor) {
     size_t length;
     char *page = html(editor, &length);

@@ -1,5 +1,5 @@
-/* Tests of hedit.h: each call once, on a page of one paragraph, with room for its answer and
- * without, and with each status that it gives for a mistake of the caller. */
+/* Tests of hedit.h: each call once, on a page of one paragraph, with a buffer that is large
+ * enough for its answer and with a smaller one, and with each status for a mistake of the caller. */
 #include <hedit.h>
 
 #include <stdio.h>
@@ -212,7 +212,7 @@ static void points(void) {
     hedit_close(&editor);
 }
 
-/* What is selected, in just as much room as its HTML needs. */
+/* The selection, in a buffer of exactly the size of its HTML. */
 static void selected(void) {
     static const char html[] = "<i>\xc3\xa9</i>b";
     hedit_editor editor = opened(NODES);
@@ -256,8 +256,8 @@ static uint32_t text_of(hedit_editor *editor, enum text text, uint32_t label, si
     }
 }
 
-/* Whether a node has a text: it comes whole where there is just room for it, and not at all where
- * there is room for less. */
+/* Whether a node has a text. The text is complete if the buffer is exactly large enough, and nothing
+ * is written if it is smaller. */
 static int has(hedit_editor *editor, enum text text, uint32_t label, size_t place,
                const char *wanted) {
     uint8_t buffer[20];
@@ -340,7 +340,7 @@ static int is_node(hedit_editor *editor, uint32_t label, uint32_t kind, uint32_t
            facts.length == length;
 }
 
-/* The paths of nodes, in just as much room as they need, and in less. */
+/* The paths of nodes, in buffers of exactly their size, and in smaller ones. */
 static void paths(hedit_editor *editor) {
     uint32_t path[3] = {7, 7, 7};
     size_t length = 7;
@@ -495,8 +495,8 @@ static size_t pack(const char *words, uint8_t *bytes) {
     return length;
 }
 
-/* Whether the page was changed so often, and these are the last changes, as often as one asks: they
- * come whole where there is just room for them, and not at all where there is room for less. */
+/* Whether the page was changed so often, and each query returns these changes: complete if the buffer
+ * is exactly large enough, and none if it is smaller. */
 static int tells(hedit_editor *editor, uint64_t wanted_revision, const char *words) {
     uint8_t wanted[400], buffer[401];
     size_t room = pack(words, wanted), length = 7;
@@ -521,7 +521,7 @@ static uint32_t exec(hedit_editor *editor, const char *name, const char *value) 
                       strlen(value));
 }
 
-/* What changes nothing tells the changes before it. */
+/* A call that changes nothing reports the changes before it. */
 static void revisions(void) {
     static const char came[] = "2 1 2 1 0 3 1 'b' 0 3 2 3 -", went[] = "3 2 1 - 1 3";
     hedit_editor editor = opened(PAGE);
@@ -636,6 +636,42 @@ static void steps(void) {
     CHECK(joined(&editor, "bold", "") == HEDIT_CLOSED);
 }
 
+static uint32_t with(hedit_editor *editor, hedit_exec_options options, const char *denied,
+                     const char *name, const char *value) {
+    return hedit_exec_with(editor, &options, (const uint8_t *)denied, strlen(denied),
+                           (const uint8_t *)name, strlen(name), (const uint8_t *)value,
+                           strlen(value));
+}
+
+static void options(void) {
+    hedit_editor editor = opened(PAGE);
+    uint32_t text = label_at(&editor, 0, 0, 9);
+    hedit_exec_options range = {0, 1, text, 0, text, 1};
+    hedit_exec_options joined_range = {1, 1, text, 1, text, 2};
+    hedit_exec_options past_the_end = {0, 1, text, 0, text, 3};
+    hedit_exec_options none = {0, 0, 98, 9, 98, 9};
+    hedit_selection_facts facts;
+    CHECK(with(&editor, none, "", "bold", "") == HEDIT_NO);
+    CHECK(with(&editor, past_the_end, "", "bold", "") == HEDIT_BAD_PLACE);
+    CHECK(with(&editor, past_the_end, "", "nonsense", "") == HEDIT_BAD_PLACE);
+    CHECK(with(&editor, past_the_end, "bold", "bold", "") == HEDIT_NO);
+    CHECK(with(&editor, range, "italic,Bold", "bold", "") == HEDIT_NO);
+    CHECK(with(&editor, range, ",", "bold", "") == HEDIT_BAD_ARGUMENT);
+    CHECK(with(&editor, range, "", "\xff", "") == HEDIT_BAD_ARGUMENT);
+    CHECK(with(&editor, range, "", "nonsense", "") == HEDIT_NO);
+    CHECK(hedit_selection(&editor, &facts) == HEDIT_NO && undo_steps(&editor) == 0);
+    CHECK(with(&editor, range, "italic", "bold", "") == HEDIT_DONE && undo_steps(&editor) == 1);
+    CHECK(hedit_selection(&editor, &facts) == HEDIT_DONE);
+    text = label_at(&editor, 0, 1, 9);
+    joined_range.anchor = joined_range.focus = text;
+    joined_range.anchor_offset = 0;
+    joined_range.focus_offset = 1;
+    CHECK(with(&editor, joined_range, "", "italic", "") == HEDIT_DONE && undo_steps(&editor) == 1);
+    CHECK(hedit_undo(&editor) == HEDIT_DONE && counts(&editor, 3, 0, 0, 1));
+    hedit_close(&editor);
+    CHECK(with(&editor, range, "", "bold", "") == HEDIT_CLOSED);
+}
+
 static void replacements(void) {
     hedit_editor editor = opened(PAGE);
     uint32_t text = label_at(&editor, 0, 0, 9);
@@ -668,6 +704,7 @@ int main(void) {
     mistakes();
     gates();
     steps();
+    options();
     replacements();
     points();
     selected();

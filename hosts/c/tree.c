@@ -4,8 +4,8 @@
 #include <stdlib.h>
 #include <string.h>
 
-/* What calls give is put here. For larger pages a host makes room where the status is
- * HEDIT_TOO_SMALL. */
+/* The buffer for what calls return. For larger pages an application needs a larger one if the status
+ * is HEDIT_TOO_SMALL. */
 static uint8_t buffer[1 << 23];
 
 void want(uint32_t status) {
@@ -73,7 +73,7 @@ static struct node *new_node(uint32_t label, uint32_t kind) {
     return node;
 }
 
-/* The node of a label, a new one where none is held. It stands nowhere yet, and has no texts. */
+/* Returns the node of a label, or a new one. It has no parent and no texts yet. */
 static struct node *come(struct tree *tree, uint32_t label, uint32_t kind) {
     for (; label >= tree->room; tree->room++) {
         size_t length = (tree->room + 1) * sizeof tree->nodes[0];
@@ -109,7 +109,7 @@ static void list_gone(struct tree *tree, struct node *node) {
     node->is_listed = 1;
 }
 
-/* A node went, with its tree: each node of it stands alone. */
+/* A node is removed, with its tree: no node of the tree has a parent any more. */
 static void leave(struct tree *tree, struct node *node) {
     for (struct node *child = node->first_child, *next; child; child = next) {
         next = child->next;

@@ -13,7 +13,7 @@ struct text {
     size_t length;
 };
 
-/* A node. Of its attributes it has the HTML. One that went stands alone. */
+/* A node. It has its attributes as HTML. A removed node has no parent. */
 struct node {
     uint32_t label, kind;
     int has_gone, is_listed;
@@ -21,9 +21,9 @@ struct node {
     struct node *parent, *first_child, *last_child, *previous, *next;
 };
 
-/* The nodes by their labels, NULL where none is held, and how many labels have room. The labels of
- * those that went, maybe of some that came back since, and how many of them there were when the tree
- * last asked whether they are kept. */
+/* The nodes by their labels, or NULL, and the capacity for labels. The labels of removed nodes, of
+ * which some may have been restored since, and how many there were when the tree last asked whether
+ * they are kept. */
 struct tree {
     struct node **nodes;
     size_t room;

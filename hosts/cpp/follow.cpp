@@ -164,7 +164,7 @@ class Tree {
     std::unordered_map<hedit::Label, Item> items_;
 };
 
-/* The first text from a node on that begins with no blank. */
+/* Returns the first text node from a node on that doesn't begin with whitespace. */
 static std::optional<hedit::Label> first_text(hedit::Editor &editor, hedit::Label label) {
     std::string text = editor.node(label).kind == HEDIT_TEXT ? editor.node_value(label) : "";
     if (!text.empty() && std::string(" \t\r\n").find(text[0]) == std::string::npos) {

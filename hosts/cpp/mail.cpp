@@ -10,8 +10,8 @@ static const char MAIL[] =
 
 static const char *const BUTTONS[] = {"bold", "justifyCenter", "insertUnorderedList"};
 
-/* Executes a command, as a step of its own or as one with the last, and says what a host tells its
- * user of it. */
+/* Executes a command, as a step of its own or joined to the previous one, and writes what an
+ * application says to its user about it. */
 static std::string told(hedit::Editor &editor, std::string_view name, bool joined) {
     try {
         bool done = joined ? editor.exec_joined(name) : editor.exec(name);
@@ -21,7 +21,7 @@ static std::string told(hedit::Editor &editor, std::string_view name, bool joine
     }
 }
 
-/* Writes the mail and the toolbar, where the buttons that are on stand in brackets. */
+/* Writes the mail and the toolbar, with the buttons that are on in brackets. */
 static void show(hedit::Editor &editor) {
     std::cout << editor.html() << "toolbar:";
     for (std::string button : BUTTONS) {

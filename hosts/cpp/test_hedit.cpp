@@ -98,6 +98,26 @@ static void steps() {
     refused<hedit::BadArgument>([&] { editor.exec_joined("\xff"); }, "a name that isn't UTF-8");
 }
 
+static void options() {
+    hedit::Editor editor(PAGE);
+    hedit::Label text = editor.label_at({0, 0});
+    hedit::ExecOptions first;
+    first.range = hedit::Selection{{text, 0}, {text, 1}};
+    check(editor.exec("bold", "", first), "a command works on a range");
+    hedit::ExecOptions second;
+    hedit::Label rest = editor.label_at({0, 1});
+    second.range = hedit::Selection{{rest, 0}, {rest, 1}};
+    second.joined = true;
+    second.denied = "bold";
+    check(!editor.exec("bold", "", second), "a denied command does nothing");
+    check(editor.exec("italic", "", second), "another one joins the step");
+    check(editor.html() == "<p contenteditable=\"\"><b>a</b><i>b</i></p>\n",
+          "both ranges are formatted");
+    check(editor.counts().undo == 1, "both are one step");
+    second.range = hedit::Selection{{rest, 0}, {rest, 9}};
+    refused<hedit::BadPlace>([&] { editor.exec("italic", "", second); }, "a range past the end");
+}
+
 /* A line for each node below one: its kind, its name or its characters, and its attributes. */
 static std::string told(hedit::Editor &editor, hedit::Label label) {
     hedit::Node node = editor.node(label);
@@ -302,6 +322,7 @@ int main() {
     texts();
     gates();
     steps();
+    options();
     labels();
     marks();
     changes();

@@ -140,7 +140,7 @@ def html_of(item: Item) -> str:
 
 
 def first_text(editor: Editor, label: int = 0) -> int | None:
-    """The first text from a node on that has characters other than blanks."""
+    """Returns the first text node from a node on that has characters other than whitespace."""
     node = editor.node(label)
     if node.kind is NodeKind.TEXT and editor.node_value(label).strip():
         return label

@@ -9,8 +9,8 @@ BUTTONS = ("bold", "justifyCenter", "insertUnorderedList")
 
 
 def told(editor: Editor, name: str, joined: bool) -> str:
-    """Executes a command, as a step of its own or as one with the last, and says what a host tells
-    its user of it."""
+    """Executes a command, as a step of its own or joined to the previous one, and writes what an
+    application says to its user about it."""
     try:
         done = editor.exec_joined(name) if joined else editor.exec(name)
         return "done" if done else "not possible here"
@@ -19,7 +19,7 @@ def told(editor: Editor, name: str, joined: bool) -> str:
 
 
 def show(editor: Editor) -> None:
-    """Writes the mail and the toolbar, where the buttons that are on stand in brackets."""
+    """Writes the mail and the toolbar, with the buttons that are on in brackets."""
     print(editor.html(), end="")
     print("toolbar:", *(f"[{button}]" if editor.state(button) else button for button in BUTTONS))
 

@@ -6,8 +6,9 @@ has to answer as a session of these lines alone. Beside it a tree follows what e
 has to come to the same HTML after each."""
 import re
 import sys
-from collections.abc import Callable, Iterable
+from collections.abc import Callable
 from pathlib import Path
+from typing import Any
 
 from follow import Tree
 from hedit import BadPlace, Editor, HeditError, PageFull, Place, TooDeep, TooManyMarks, session
@@ -44,7 +45,7 @@ LINE = re.compile(
 
 
 class FollowedEditor(Editor):
-    """An editor beside which a tree follows what each call changed."""
+    """An editor with a tree that follows what each call changed."""
 
     def __init__(self, page: str, **options: int) -> None:
         super().__init__(page, **options)
@@ -67,9 +68,9 @@ class FollowedEditor(Editor):
         self.is_followed &= self.forgotten.isdisjoint(self.own_tree.items)
         self.is_followed &= all(map(self.is_kept, self.own_tree.items))
 
-    def exec(self, name: str | bytes, value: str | bytes = "", denied: Iterable[str] = ()) -> bool:
+    def exec(self, *words: Any, **options: Any) -> bool:
         try:
-            return super().exec(name, value, denied)
+            return super().exec(*words, **options)
         finally:
             self._follow()
 

@@ -259,6 +259,16 @@ class Steps(unittest.TestCase):
         self.editor.exec_joined("italic")
         self.assertEqual(self.editor.counts().undo, 2)
 
+    def test_a_range_is_formatted_within_a_step(self) -> None:
+        self.assertTrue(self.editor.exec("bold", range=(Point(self.text, 0), Point(self.text, 4))))
+        self.assertTrue(self.editor.exec("italic", range=(((0, 1), 0), ((0, 1), 1)), joined=True))
+        self.assertEqual(self.editor.counts().undo, 1)
+        self.assertFalse(self.editor.exec("bold", denied=["bold"], range=(((0,), 0), ((0,), 1))))
+        with self.assertRaises(hedit.BadPlace):
+            self.editor.exec("bold", range=(Point(self.text, 0), Point(self.text, 99)))
+        self.assertTrue(self.editor.undo())
+        self.assertEqual(self.editor.html(), '<p contenteditable="">Call Ann</p>\n')
+
     def test_a_replacement_goes_on_with_what_is_typed(self) -> None:
         self.editor.select(Point(self.text, 8))
         self.editor.exec("insertText", " teh")
@@ -283,7 +293,7 @@ class Steps(unittest.TestCase):
 
 
 def parts_of(editor: Editor, label: int) -> Iterator[tuple[int, str]]:
-    """The texts of a node and its line breaks, in tree order: their labels and their characters."""
+    """Yields the text nodes and line breaks of a node, in tree order: their labels and characters."""
     is_break = editor.node_name(label) == "br"
     if is_break or editor.node(label).kind is NodeKind.TEXT:
         yield label, "\n" if is_break else editor.node_value(label)
@@ -292,7 +302,7 @@ def parts_of(editor: Editor, label: int) -> Iterator[tuple[int, str]]:
 
 
 def find_across(editor: Editor, wanted: str, block: int) -> list[tuple[Point, Point]]:
-    """Where a text of one line occurs in a block, from point to point, none overlapping."""
+    """Returns the ranges of a text of one line in a block, without overlap."""
     parts = list(parts_of(editor, block))
     starts = list(accumulate((len(part) for _, part in parts), initial=0))
 
@@ -578,7 +588,7 @@ class Changes(unittest.TestCase):
         self.addCleanup(self.editor.close)
 
     def assert_tells(self, revision: int, changes: list[Change]) -> None:
-        """The page was changed so often, and this is told of the last time, as often as one asks."""
+        """The page was changed so often, and each query of the last change returns this."""
         self.assertEqual(self.editor.revision(), revision)
         self.assertEqual(self.editor.changes(), changes)
         self.assertEqual(self.editor.changes(), changes)
@@ -703,7 +713,7 @@ class Causes(unittest.TestCase):
             Editor("<p>x</b>")
         error = caught.exception
         self.assertEqual((error.at, error.kind), (6, hedit.PageKind.STRAY_END))
-        self.assertEqual(str(error), "no page: stray-end at 6")
+        self.assertEqual(str(error), "the page is refused: stray-end at 6")
         self.assertEqual(str(pickle.loads(pickle.dumps(error))), str(error))
 
     def test_each_cause_has_a_class_below_one(self) -> None:

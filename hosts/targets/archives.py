@@ -38,7 +38,7 @@ def write_tar(target: Path, folder: str, files: Files) -> None:
 
 
 def write_zip(target: Path, folder: str, files: Files) -> None:
-    """Writes a zip file of files below one folder, in which there are no links."""
+    """Writes a zip file of files below one folder, which contains no links."""
     with zipfile.ZipFile(target, "w", zipfile.ZIP_DEFLATED) as archive:
         for name, content in sorted(files.items()):
             assert isinstance(content, bytes)

@@ -21,7 +21,7 @@ typedef struct text {
     size_t capacity;
 } text;
 
-/* Makes room for so many bytes; zero where there is no memory for them. */
+/* Gives a text the capacity for a number of bytes. Returns zero if memory ran out. */
 static int make_room(text *it, size_t capacity) {
     if (capacity <= it->capacity)
         return 1;
@@ -61,7 +61,7 @@ static uint32_t read_input(text *input) {
     return HEDIT_DONE;
 }
 
-/* Answers a session, in as much room as the answer takes. */
+/* Answers a session, in a buffer of the size of the answer. */
 static uint32_t answer(const text *words, const text *input, text *output) {
     if (!make_room(output, 65536 + 4 * input->length))
         return HEDIT_MEMORY;

@@ -38,7 +38,7 @@ static int is_answered(size_t wanted) {
                                                length[INPUT], part[GOT], ROOM, &length[GOT]);
     if (status != wanted)
         return 0;
-    /* Words that are no words are refused without a reply. */
+    /* Invalid arguments are refused without a reply. */
     size_t written = status == HEDIT_USAGE ? 0 : length[GOT];
     return written == length[REPLY] && memcmp(part[GOT], part[REPLY], written) == 0;
 }

@@ -150,7 +150,7 @@ class Workshop:
         return made
 
     def mac_archive(self, target: Target) -> bytes:
-        """A static library for macOS. There are no tools here that would hide names in it."""
+        """A static library for macOS. No tool here can hide names in it."""
         made = self.folder / target.name / "libhedit.a"
         run(self.tools / "llvm-ar", "--format=darwin", "rcD", made, *self.objects(target))
         return made.read_bytes()

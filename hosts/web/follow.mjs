@@ -168,7 +168,7 @@ export class Tree {
   }
 }
 
-/** The label of the first text from a node on that begins with no blank; undefined where none does. */
+/** Returns the label of the first text node from a node on that doesn't begin with whitespace. */
 function firstText(editor, label = 0) {
   if (editor.node(label).kind === NodeKind.TEXT && /^[^ \t\r\n]/.test(editor.nodeValue(label))) {
     return label;

@@ -16,7 +16,7 @@ const BUTTONS = ["bold", "justifyCenter", "insertUnorderedList"];
 const engine = await load(await readFile(argv[2]));
 const editor = engine.open(MAIL);
 
-/** Executes a command, as a step of its own or with the last, and says what a host tells its user of it. */
+/** Executes a command, as a step of its own or with the last, and writes what a user sees of it. */
 function tell(name, joined) {
   try {
     const done = joined ? editor.execJoined(name) : editor.exec(name);
@@ -29,7 +29,7 @@ function tell(name, joined) {
   }
 }
 
-/** Writes the mail and the toolbar, where the buttons that are on stand in brackets. */
+/** Writes the mail and the toolbar, with the buttons that are on in brackets. */
 function show() {
   const buttons = BUTTONS.map((button) => (editor.state(button) ? `[${button}]` : button));
   stdout.write(`${editor.html()}toolbar: ${buttons.join(" ")}\n`);

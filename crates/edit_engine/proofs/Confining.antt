@@ -3,7 +3,7 @@ use Rattle.std.proofs.Common.{◌≡◌, ◌⊎◌, ℕ, zero, suc, ◌<◌, Boo
 use Rattle.std.specs.Prelude.{nat_lt}
 use Rattle.std.specs.List.{AllZip}
 use Rattle.std.proofs.lemmas.Bool.{ne_eqb}
-use Rattle.edit_model.specs.HtmlNames.Commands.{command_named}
+use Rattle.std.proofs.lemmas.Bool.Decides.{nat_tests}
 use Rattle.edit_model.specs.HtmlNames.declared.commands.Command.{Command}
 use Rattle.edit_model.specs.DomModel.Change.{Remove}
 use Rattle.edit_model.specs.DomModel.Document.{page_depth}
@@ -55,6 +55,7 @@ use Rattle.edit_engine.proofs.Fitness.{fit_at}
 use Rattle.edit_engine.proofs.HtmlParts.{html_around}
 use Rattle.edit_engine.proofs.HostFitness.{kept_by, stays_action}
 use Rattle.edit_engine.proofs.Outcomes.{shown}
+use Rattle.edit_engine.proofs.Still.{stays_alone}
 use Rattle.edit_engine.proofs.Tameness.{tame_at}
 
 -- ---- what an answer tells
@@ -115,13 +116,13 @@ same_labels e = (
 )
 
 -- where nothing changed, the characters are there
-pub same_characters : (e : Editing) (name : List ℕ) → KeepsCharacters (host_at None e.state) name e e
-same_characters e name d h named keeps is = keeps_refl (below e.state.trees h)
+pub same_characters : (host : Option ℕ) (o : Option Command) (e : Editing) → KeepsCharacters host o e e
+same_characters host o e d h named keeps is = keeps_refl (below e.state.trees h)
 
 -- where nothing changed, undo gives back what it would have given back
 pub same_back : (joining : Bool) (old new : Editing) → new ≡ old → GivesBack joining old new
-same_back false old new same = inl (ap (λ (e : Editing). e.history) same)
-same_back true old new same = inl (ap (λ (e : Editing). e.history) same)
+same_back false old new same = inl (record { document = ap (λ (e : Editing). e.state.trees) same; history = ap (λ (e : Editing). e.history) same })
+same_back true old new same = inl (record { document = ap (λ (e : Editing). e.state.trees) same; history = ap (λ (e : Editing). e.history) same })
 
 some_pair : (P : Pair → Type 0) (o : Option Pair) → IsSome o → IfSome o P → (q : Pair) × (o ≡ Some q) × P q
 some_pair P None some h = absurd (let some' = some in cc)
@@ -356,11 +357,11 @@ module _ (old new : Editing) (at : Option Pair) (joining : Bool) (c : Command) (
   unfolding begun
   kept_along h keeping preserves = preserves.keeps (begun (Some h) k old.state) (record { valid = valid_begun (Some h) k old.state law; keeping = keeping })
 
-  pub characters_kept : (name : List ℕ) → command_named name ≡ Some c → (new ≡ old) ⊎ IsRun old new at joining c v → KeepsCharacters host name old new
-  characters_kept name own (inl same) d h named keeps is =
+  pub characters_kept : (new ≡ old) ⊎ IsRun old new at joining c v → KeepsCharacters host (Some c) old new
+  characters_kept (inl same) d h named keeps is =
       subst (λ (e : Editing). KeepsLeaves (below old.state.trees h) (below e.state.trees h)) (sym same) (keeps_refl (below old.state.trees h))
-  characters_kept name own (inr run) d h named keeps is =
-      let same : c ≡ d = (let both : Some c ≡ Some d = sym own ∙ named in cc) in
+  characters_kept (inr run) d h named keeps is =
+      let same : c ≡ d = (let both : Some c ≡ Some d = named in cc) in
       let keeping : k ≡ true = ap (λ x. (row_of x).keeping) same ∙ keeps in
       let b = begun (Some h) k old.state in
       let at_host : after_run old joining c (final m b) ≡ new = ap (λ o. after_run old joining c (final m (begun o k old.state))) (sym is) ∙ run.is in
@@ -369,19 +370,29 @@ module _ (old new : Editing) (at : Option Pair) (joining : Bool) (c : Command) (
 
   -- ---- undo
 
+  no_edit : (ended : State) → eqb (length ended.edits) 0 ≡ true → length ended.edits ≡ 0
+  no_edit ended none = grind (arith, nat_tests, none)
+
+  -- a run without an edit leaves the document
+  document_stays : length t.edits ≡ 0 → (rested t).trees ≡ old.state.trees
+  unfolding rested
+  document_stays none =
+      let some : 0 < old.state.next = (let first = law.forest.below 0 law.forest.document in omega (arith, first)) in
+      stays_alone old.state t host k some (reaches m (begun host k old.state)) none ∙ whole
+
   undone_at : (h : History) (s : State) (e : Entry) (rest : List Entry) → h.undo ≡ e ∷ rest → undone_state h s ≡ at_view e.before s
   unfolding undone_state
   undone_at h s e rest is = ap (λ (es : List Entry). undone_state_by es s) is
 
   -- of an entry of its own
-  given_by_own : (ended : State) → joining ≡ false → GivesBack false old (after_run old joining c ended)
+  given_by_own : (ended : State) → (length ended.edits ≡ 0 → (rested ended).trees ≡ old.state.trees) → joining ≡ false → GivesBack false old (after_run old joining c ended)
   unfolding recorded with_entry at_view view_of
-  given_by_own ended is = by_edits (eqb (length ended.edits) 0) refl
+  given_by_own ended stays is = by_edits (eqb (length ended.edits) 0) refl
     where
       by_edits : (b : Bool) → eqb (length ended.edits) 0 ≡ b → GivesBack false old (after_run old joining c ended)
       by_edits true none =
           let same : recorded false old.state ended old.history ≡ old.history = rw none refl in
-          inl (ap (λ j. recorded j old.state ended old.history) is ∙ same)
+          inl (record { document = stays (no_edit ended none); history = ap (λ j. recorded j old.state ended old.history) is ∙ same })
       by_edits false some =
           let own = entry_there old.history.depth (entry_of old.state ended) old.history.undo stands.depth in
           let plain : (recorded false old.state ended old.history).undo ≡ entry_of old.state ended ∷ own.0 = rw some own.1 in
@@ -394,14 +405,14 @@ module _ (old new : Editing) (at : Option Pair) (joining : Bool) (c : Command) (
           })
 
   -- of the last entry
-  given_by_last : (ended : State) → joining ≡ true → GivesBack true old (after_run old joining c ended)
+  given_by_last : (ended : State) → (length ended.edits ≡ 0 → (rested ended).trees ≡ old.state.trees) → joining ≡ true → GivesBack true old (after_run old joining c ended)
   unfolding recorded joined at_view
-  given_by_last ended is = by_edits (eqb (length ended.edits) 0) refl
+  given_by_last ended stays is = by_edits (eqb (length ended.edits) 0) refl
     where
       by_edits : (b : Bool) → eqb (length ended.edits) 0 ≡ b → GivesBack true old (after_run old joining c ended)
       by_edits true none =
           let same : recorded true old.state ended old.history ≡ old.history = rw none refl in
-          inl (ap (λ j. recorded j old.state ended old.history) is ∙ same)
+          inl (record { document = stays (no_edit ended none); history = ap (λ j. recorded j old.state ended old.history) is ∙ same })
       by_edits false some =
           let there = last_there old.history.undo (stands.joinable (joins is)).some in
           let e = there.0 in
@@ -423,5 +434,5 @@ module _ (old new : Editing) (at : Option Pair) (joining : Bool) (c : Command) (
   given_back (inr run) = by_joining joining refl
     where
       by_joining : (j : Bool) → joining ≡ j → GivesBack j old new
-      by_joining false is = subst (λ (e : Editing). GivesBack false old e) run.is (given_by_own t is)
-      by_joining true is = subst (λ (e : Editing). GivesBack true old e) run.is (given_by_last t is)
+      by_joining false is = subst (λ (e : Editing). GivesBack false old e) run.is (given_by_own t document_stays is)
+      by_joining true is = subst (λ (e : Editing). GivesBack true old e) run.is (given_by_last t document_stays is)

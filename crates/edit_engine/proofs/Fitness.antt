@@ -5,7 +5,7 @@ use Rattle.edit_model.specs.HtmlNames.declared.commands.Command.{Command}
 use Rattle.edit_model.specs.HtmlNames.declared.commands.Command.TheVariants as command
 use Rattle.edit_model.specs.LiveRange.declared.places.Pair.{Pair}
 use Rattle.edit_model.specs.Action.{Flag, Select}
-use Rattle.edit_model.specs.Run.{Run, ◌>>=◌, ◌>>◌, answer, done, given, select, set_flags}
+use Rattle.edit_model.specs.Run.{Run, ◌>>=◌, answer, done, given, select, set_flags}
 use Rattle.edit_model.specs.declared.settings.Flags.{Flags}
 use Rattle.edit_laws.specs.Steady.{Steady}
 use Rattle.edit_laws.specs.OrderPreserving.{OrderPreserving}

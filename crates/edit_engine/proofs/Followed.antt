@@ -1,22 +1,23 @@
 -- What a host is told of a call leads from the document before it to the document after it.
-use Rattle.std.proofs.Common.{◌≡◌, ℕ, ◌<◌, ◌≤◌, Bool, true, false, true≢false, List, [], ◌∷◌, length, Some, Ok, refl, sym, ap, subst, ◌∙◌, inl, inr, arith}
+use Rattle.std.proofs.Common.{◌≡◌, ℕ, ◌<◌, Bool, true, false, cond, true≢false, List, [], ◌∷◌, length, Some, Ok, refl, sym, ap, subst, ◌∙◌, inl, inr, arith}
 use Rattle.std.specs.Prelude.{◌↔◌, IsTrue}
 use Rattle.edit_model.specs.DomModel.declared.Content.{Content}
 use Rattle.edit_model.specs.DomModel.Forest.{Forest}
 use Rattle.inline_value.specs.UndoLog.declared.log.Committed.{Committed}
 use Rattle.inline_value.specs.UndoLog.declared.log.Committed.TheVariants as committed
 use Rattle.edit_model.specs.State.{State}
-use Rattle.edit_model.specs.History.{Entry, History, document_of, rested, undone_state, undone_history, redone_state, redone_history, undone_state_by, undone_history_by, redone_state_by, redone_history_by, at_view}
+use Rattle.edit_model.specs.History.{Entry, document_of, rested, undone_state, undone_history, redone_state, redone_history, undone_state_by, undone_history_by, redone_state_by, redone_history_by, at_view}
 use Rattle.inline_value.specs.ForestChanges.Change.{Change}
 use Rattle.inline_value.specs.EditDoc.Changes.{Lead, changes_past, changes_undone, resumed_at, ChangesLead, UndoneLead}
 use Rattle.inline_value.specs.EditDoc.Kept.{HoldsOnlyNeeded, LeadAllBack, LeadAllForth}
 use Rattle.inline_value.specs.EditDoc.Whole.{Whole, IsDoc, IsClosed}
 use Rattle.edit_engine.specs.declared.following.Following.{Following}
 use Rattle.edit_engine.specs.declared.going.Going.{Going}
-use Rattle.edit_engine.specs.Following.{after_commit, after_undo, after_redo}
-use Rattle.edit_engine.specs.Editing.{EditorValue, value_of}
+use Rattle.edit_engine.specs.declared.following.LastChange.TheVariants.{Made}
+use Rattle.edit_engine.specs.Following.{changed_by, after_commit, after_undo, after_redo}
+use Rattle.edit_engine.specs.Editing.{value_of}
 use Rattle.edit_engine.specs.Changes.{CanFollow}
-use Rattle.edit_engine.specs.Running.{TellsChange}
+use Rattle.edit_engine.specs.Running.{has_entry, TellsChange}
 
 -- a document that rests stands alone
 pub resting_trees : (d : Whole) → IsDoc d → IsClosed d → document_of d.state.trees ≡ d.state.trees
@@ -30,6 +31,11 @@ run_followed old new going after w joining kept committed.Entry law closed told 
     inr (refl, subst (λ (k : ℕ). Lead (changes_past k new.history.undo) old.state.trees new.state.trees) (sym is) here)
 run_followed old new going after w joining kept committed.Nothing law closed told is =
     inl (refl, told ∙ resting_trees old law closed)
+
+-- a commit tells what its run tells
+pub told_commit : (c : Committed) (kept n : ℕ) (edited : Bool) (w : Following) → has_entry c ≡ edited → kept ≡ n → after_commit c kept w ≡ cond edited (changed_by (Made n) w) w
+told_commit committed.Entry kept n edited w is same = rw (sym is, same) refl
+told_commit committed.Nothing kept n edited w is same = rw (sym is) refl
 
 -- a call that leaves the state
 pub kept_followed : (old new : Whole) (going after : Going) (w : Following) → new.state ≡ old.state → CanFollow (value_of old going w) (value_of new after w)

@@ -1,5 +1,5 @@
 -- Which nodes an editor holds.
-use Rattle.std.proofs.Common.{◌≡◌, Bool, Option, subst}
+use Rattle.std.proofs.Common.{◌≡◌, Option, subst}
 use Rattle.inline_value.specs.EditDoc.Kept.{HoldsOnlyNeeded}
 use Rattle.inline_value.specs.EditDoc.Whole.{Began, Whole, IsClosed}
 use Rattle.edit_engine.specs.Editing.{EditorValue, value_of, document}

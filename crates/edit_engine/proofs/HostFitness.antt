@@ -1,12 +1,12 @@
 -- The certificates of the actions of commands that leave the selection in the host, a line for each command.
-use Rattle.std.proofs.Common.{ℕ, Bool, true, false, List, Option, Some, None}
+use Rattle.std.proofs.Common.{ℕ, Bool, true, false, List}
 use Rattle.std.specs.Prelude.{not, codes, if◌then◌else◌}
 use Rattle.edit_model.specs.DomModel.declared.Content.{Content}
 use Rattle.edit_model.specs.DomModel.Forest.{Forest}
 use Rattle.edit_model.specs.HtmlNames.declared.commands.Command.{Command}
 use Rattle.edit_model.specs.HtmlNames.declared.commands.Command.TheVariants as command
 use Rattle.edit_model.specs.Action.{Flag}
-use Rattle.edit_model.specs.Run.{Run, ◌>>=◌, ◌>>◌, answer, done, given, set_flags}
+use Rattle.edit_model.specs.Run.{Run, ◌>>=◌, answer, done, set_flags}
 use Rattle.edit_model.specs.declared.settings.Flags.{Flags}
 use Rattle.edit_laws.specs.InHost.{StaysInHost}
 use Rattle.edit_laws.proofs.HostRuns.{Stays, stays_answer, stays_bind, stays_look_at, stays_if, stays_given, stays_perform, stays_calm, in_host}

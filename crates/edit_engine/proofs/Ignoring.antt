@@ -8,7 +8,7 @@ use Rattle.edit_model.specs.DomModel.Document.{page_depth}
 use Rattle.edit_model.specs.State.{State}
 use Rattle.edit_engine.specs.Commands.{row_of, action_of, is_enabled_in}
 use Rattle.edit_engine.specs.Editing.{Editing}
-use Rattle.edit_engine.specs.Execution.{Outcome, Refused, Deep, Full, Acted, depth_limit, host_at, run_at, ran, answered, after_run, run_outcome, command_outcome, outcome_by}
+use Rattle.edit_engine.specs.Execution.{Refused, Deep, Full, Acted, depth_limit, host_at, run_at, ran, answered, after_run, run_outcome, command_outcome, outcome_by}
 use Rattle.edit_engine.specs.Going.{joins_by}
 use Rattle.edit_engine.specs.Independence.{AreAlike, HistoryIsIgnored}
 

@@ -14,7 +14,9 @@ pub mod Fitness
 pub mod HostFitness
 pub mod Tameness
 pub mod HtmlParts
+pub mod Still
 pub mod Confining
+pub mod Promising
 pub mod HistoryKinds
 pub mod GoneLabels
 pub mod ThereAndBack

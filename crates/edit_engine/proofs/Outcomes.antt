@@ -1,6 +1,6 @@
 -- What a run comes to, told of an editor's document, and which of the outcomes comes first.
-use Rattle.std.proofs.Common.{◌≡◌, ℕ, Bool, true, false, List, length, Option, Some, None, Result, Ok, Err, refl, arith}
-use Rattle.std.specs.Prelude.{nat_lt}
+use Rattle.std.proofs.Common.{◌≡◌, ℕ, Bool, true, false, List, length, Option, Some, None, Result, Ok, Err, refl, sym, ap, inl, arith}
+use Rattle.std.specs.Prelude.{nat_lt, MatchOption}
 use Rattle.std.proofs.lemmas.Bool.Decides.{nat_tests}
 use Rattle.command_gate.specs.Denied.{is_denied}
 use Rattle.edit_model.specs.LiveRange.declared.places.Pair.{Pair}
@@ -16,15 +16,16 @@ use Rattle.edit_model.specs.Run.{Run}
 use Rattle.edit_model.proofs.Steps.{final_cap}
 use Rattle.inline_value.specs.EditDoc.Whole.{Whole}
 use Rattle.edit_engine.specs.Commands.{row_of, action_of, is_enabled_in}
-use Rattle.edit_engine.specs.Editing.{Editing}
-use Rattle.edit_engine.specs.Execution.{Outcome, Refused, Deep, Acted, host_at, run_at, ran, run_outcome, command_outcome, outcome_by, outcome, gated_outcome, Tells, TellsReplaced}
-use Rattle.edit_engine.specs.Going.{joins_by, going_after}
+use Rattle.edit_engine.specs.Editing.{Editing, EditorValue}
+use Rattle.edit_engine.specs.Execution.{Outcome, Refused, Deep, Acted, host_at, run_at, ran, run_outcome, command_outcome, outcome_at, outcome, outcome_with, gated_outcome, misplaced, Tells, TellsOnRange}
+use Rattle.edit_engine.specs.Going.{going_after}
 use Rattle.edit_engine.specs.declared.going.Going.{Going}
 use Rattle.edit_engine.specs.declared.answers.Answer.{Answer}
+use Rattle.edit_engine.specs.declared.answers.Answer.TheVariants.{No}
 use Rattle.edit_engine.specs.declared.answers.ExecFault.{ExecFault}
 use Rattle.edit_engine.specs.declared.answers.ExecFault.TheVariants as exec
-use Rattle.edit_engine.specs.declared.answers.ReplaceFault.{ReplaceFault}
-use Rattle.edit_engine.specs.Faults.{exec_fault, replace_fault}
+use Rattle.edit_engine.specs.declared.answers.RangeFault.{RangeFault}
+use Rattle.edit_engine.specs.Faults.{exec_fault, range_fault}
 use Rattle.edit_engine.specs.Running.{IsMade, IsTakenBack, IsRefused}
 
 -- the editor of a document
@@ -82,26 +83,18 @@ module _ (e : Editing) (at : Option Pair) (joining : Bool) (v : List ℕ) (c : C
   unfolding command_outcome
   runs_outcome on shallow = rw (on, shallow) refl
 
-pub named_outcome : (joined : Bool) (e : Editing) (name v : List ℕ) (c : Command) → command_named name ≡ Some c → outcome_by joined e name v ≡ command_outcome e None (joins_by joined e.going c) v c
-unfolding outcome_by
-named_outcome joined e name v c is = rw is refl
+-- ---- of a call that may be told a range
 
-pub unnamed_outcome : (joined : Bool) (e : Editing) (name v : List ℕ) → command_named name ≡ None → outcome_by joined e name v ≡ Refused
-unfolding outcome_by
-unnamed_outcome joined e name v is = rw is refl
+-- its answer, by that of its command
+abbrev pub on_range_by : Result Answer ExecFault → Result Answer RangeFault
+on_range_by (Ok answer) = Ok answer
+on_range_by (Err fault) = Err (range_fault fault)
 
--- ---- of a replacement
-
--- the answer of a replacement, by that of its command
-abbrev pub replaced_by : Result Answer ExecFault → Result Answer ReplaceFault
-replaced_by (Ok answer) = Ok answer
-replaced_by (Err fault) = Err (replace_fault fault)
-
-pub tells_replaced : (r : Result Answer ExecFault) (old new : Editing) (o : Outcome) → Tells r old new o → TellsReplaced (replaced_by r) old new o
-tells_replaced (Ok answer) old new o tells = tells
-tells_replaced (Err exec.Full) old new o tells = tells
-tells_replaced (Err exec.Deep) old new o tells = tells
-tells_replaced (Err exec.Memory) old new o tells = tells
+pub tells_on_range : (r : Result Answer ExecFault) (old new : Editing) (o : Outcome) → Tells r old new o → TellsOnRange (on_range_by r) old new o
+tells_on_range (Ok answer) old new o tells = tells
+tells_on_range (Err exec.Full) old new o tells = tells
+tells_on_range (Err exec.Deep) old new o tells = tells
+tells_on_range (Err exec.Memory) old new o tells = tells
 
 -- ---- with names that are denied
 
@@ -112,3 +105,18 @@ denied_outcome denied e name v is = rw is refl
 pub allowed_outcome : (denied : List (List ℕ)) (e : Editing) (name v : List ℕ) → is_denied denied name ≡ false → gated_outcome denied e name v ≡ outcome e name v
 unfolding gated_outcome
 allowed_outcome denied e name v is = rw is refl
+
+module _ (denied : List (List ℕ)) (at : Option Pair) (joined : Bool) (e : Editing) (name v : List ℕ) where
+  pub denied_with : is_denied denied name ≡ true → outcome_with denied at joined e name v ≡ Refused
+  unfolding outcome_with
+  denied_with is = rw is refl
+
+  pub allowed_with : is_denied denied name ≡ false → outcome_with denied at joined e name v ≡ outcome_at at joined e (command_named name) v
+  unfolding outcome_with
+  allowed_with is = rw is refl
+
+-- a denied name is refused, wherever the command was to work
+pub denied_tells : (o : Option (Option Pair)) (v : EditorValue) (denied : List (List ℕ)) (joined : Bool) (name value : List ℕ) → is_denied denied name ≡ true
+    → MatchOption o ((Ok No ≡ misplaced (is_denied denied name)) × (v ≡ v)) (λ at. TellsOnRange (Ok No) v.editing v.editing (outcome_with denied at joined v.editing name value))
+denied_tells None v denied joined name value is = (ap misplaced (sym is), refl)
+denied_tells (Some at) v denied joined name value is = (inl (denied_with denied at joined v.editing name value is), refl)

@@ -2,6 +2,7 @@
 use Rattle.std.proofs.Common.{◌≡◌, ℕ, ◌<◌, ◌≤◌, Bool, true, false, cond, ◌&&◌, List, [], ◌∷◌, Option, Some, None, IfSome, refl, sym, ap, subst, ◌∙◌, arith, zero, suc}
 use Rattle.std.specs.Prelude.{nat_le}
 use Rattle.std.specs.List.{All}
+use Rattle.std.specs.Option.{option_map}
 use Rattle.std.proofs.lemmas.Bool.Decides.{nat_tests}
 use Rattle.edit_model.specs.DomModel.declared.Content.{Content}
 use Rattle.edit_model.specs.DomModel.Forest.{Forest, count_of, tree_of, IsWithin}
@@ -15,7 +16,7 @@ use Rattle.edit_model.specs.LiveRange.declared.places.Pair.{Pair}
 use Rattle.edit_model.specs.LiveRange.LivePoints.{LivePoints}
 use Rattle.edit_model.specs.PointOrder.PointOrder.{is_placed, is_in_document}
 use Rattle.inline_value.proofs.EditActions.Placed.{placed_inside}
-use Rattle.edit_engine.specs.Places.{pair_from, placed_pair}
+use Rattle.edit_engine.specs.Places.{pair_from, placed_pair, range_in}
 use Rattle.edit_model.specs.Valid.{IsForest, IsPlaced, IsPlacedPair}
 use Rattle.inline_value.specs.NodePaths.Paths.{label_at, label_by, node_in, path_of, node_text}
 use Rattle.page_write.specs.Html.{document_html}
@@ -108,3 +109,14 @@ placed_is f anchor focus pair is = by_test (is_placed f anchor && is_placed f fo
     by_test : (b : Bool) → cond b (Some (pair_from anchor focus)) None ≡ Some pair → pair ≡ pair_from anchor focus
     by_test true e = (let both : Some (pair_from anchor focus) ≡ Some pair = e in cc)
     by_test false e = absurd (let t : None ≡ Some pair = e in cc)
+
+-- where a command works is what it was told
+pub range_is : (f : Forest Content) (range at : Option Pair) → range_in f range ≡ Some at → at ≡ range
+range_is f None at found = (let same : Some None ≡ Some at = found in cc)
+range_is f (Some range) at found = by_pair (placed_pair f range.anchor range.focus) refl found
+  where
+    by_pair : (o : Option Pair) → placed_pair f range.anchor range.focus ≡ o → option_map Some o ≡ Some at → at ≡ Some range
+    by_pair None is found = absurd (let none : None ≡ Some at = found in cc)
+    by_pair (Some pair) is found =
+        let same : Some pair ≡ at = (let both : Some (Some pair) ≡ Some at = found in cc) in
+        sym same ∙ ap Some (placed_is f range.anchor range.focus pair is)

@@ -1,10 +1,10 @@
 -- A run on a range that is selected first.
-use Rattle.std.proofs.Common.{◌≡◌, Bool, Result, Ok, Err, sym, ap, subst, ◌∙◌}
+use Rattle.std.proofs.Common.{Bool, Result, Ok, Err, sym, ap, subst, ◌∙◌}
 use Rattle.edit_model.specs.LiveRange.declared.places.Point.{Point}
 use Rattle.edit_model.specs.declared.settings.EditFault.{EditFault}
 use Rattle.edit_model.specs.Action.{Select, acted}
 use Rattle.edit_model.specs.Gives.{Fails, Gives}
-use Rattle.edit_model.specs.Run.{Run, ◌>>=◌, ◌>>◌, final, value, select}
+use Rattle.edit_model.specs.Run.{Run, ◌>>◌, final, value, select}
 use Rattle.edit_model.specs.State.{State}
 use Rattle.edit_model.proofs.Steps.{final-bind, value-bind, final-perform}
 

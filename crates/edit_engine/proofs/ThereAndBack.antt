@@ -23,6 +23,42 @@ first_entry (u ∷ us) n some = (u, us, refl)
 rest_long : (es : List Entry) (u : Entry) (us : List Entry) (n : ℕ) → es ≡ u ∷ us → suc n ≤ length es → n ≤ length us
 rest_long es u us n is some = let count : length es ≡ suc (length us) = ap length is in omega (arith, some, count)
 
+-- ---- what no turn changes
+
+record SameSettings (a b : State) : Type 0 where
+  flags : a.flags ≡ b.flags
+  next : a.next ≡ b.next
+  cap : a.cap ≡ b.cap
+
+settings_on : (a b c : State) → SameSettings a b → SameSettings b c → SameSettings a c
+settings_on a b c first second =
+    record { flags = first.flags ∙ second.flags; next = first.next ∙ second.next; cap = first.cap ∙ second.cap }
+
+abbrev KeepsSettings : (Editing → Editing) → Type 0
+KeepsSettings turn = (e : Editing) → SameSettings (turn e).state e.state
+
+settings_turned : (n : ℕ) (turn : Editing → Editing) → KeepsSettings turn → KeepsSettings (turned_times n turn)
+unfolding turned_times
+settings_turned zero turn keeps e = record { flags = refl; next = refl; cap = refl }
+settings_turned (suc n) turn keeps e =
+    settings_on (turned_times n turn (turn e)).state (turn e).state e.state (settings_turned n turn keeps (turn e)) (keeps e)
+
+undone_settings : KeepsSettings undone
+unfolding undone_state at_view
+undone_settings e = by_entries e.history.undo
+  where
+    by_entries : (us : List Entry) → SameSettings (undone_state_by us e.state) e.state
+    by_entries [] = record { flags = refl; next = refl; cap = refl }
+    by_entries (u ∷ us) = record { flags = refl; next = refl; cap = refl }
+
+redone_settings : KeepsSettings redone
+unfolding redone_state at_view
+redone_settings e = by_entries e.history.redo
+  where
+    by_entries : (us : List Entry) → SameSettings (redone_state_by us e.state) e.state
+    by_entries [] = record { flags = refl; next = refl; cap = refl }
+    by_entries (u ∷ us) = record { flags = refl; next = refl; cap = refl }
+
 -- ---- one way and the other
 
 -- the entries that lie one way, and what a turn that way and one back make of the history and of the state: past the first entry,
@@ -31,6 +67,8 @@ record Ways (there back : Editing → Editing) (ahead : History → List Entry) 
   past : (e : Editing) (u : Entry) (us : List Entry) → ahead e.history ≡ u ∷ us → ahead (there e).history ≡ us
   again : (x e : Editing) (u : Entry) (us : List Entry) → ahead e.history ≡ u ∷ us → x.history ≡ (there e).history → (back x).history ≡ e.history
   state : (x e : Editing) (u : Entry) (us : List Entry) → ahead e.history ≡ u ∷ us → x.history ≡ (there e).history → (back x).state ≡ at_view (view u) x.state
+  there_keeps : KeepsSettings there
+  back_keeps : KeepsSettings back
 
 module _ (there back : Editing → Editing) (ahead : History → List Entry) (view : Entry → View) (ways : Ways there back ahead view) where
   back_last : (n : ℕ) (e : Editing) → there_and_back (suc n) there back e ≡ back (there_and_back n there back (there e))
@@ -54,16 +92,25 @@ module _ (there back : Editing → Editing) (ahead : History → List Entry) (vi
       let history = history_back n (there e) (subst (λ es. n ≤ length es) (sym (ways.past e u us is)) left) in
       (y.state, ap (λ (x : Editing). x.state) (back_last n e) ∙ ways.state y e u us is history)
 
+  settings_back : (n : ℕ) (e : Editing) → SameSettings (there_and_back n there back e).state e.state
+  settings_back n e =
+      settings_on (turned_times n back (turned_times n there e)).state (turned_times n there e).state e.state
+      (settings_turned n back ways.back_keeps (turned_times n there e)) (settings_turned n there ways.there_keeps e)
+
   -- where the first entry has this document on this side, and this is its view
   come_back : (e : Editing) (o : Option View) → ((u : Entry) (us : List Entry) → ahead e.history ≡ u ∷ us → ((view u).document ≡ e.state.trees) × (o ≡ Some (view u))) → (n : ℕ) → n ≤ length (ahead e.history) → IsBack o e (there_and_back n there back e)
   unfolding turned_times at_view
-  come_back e o first zero some = record { document = refl; history = refl; points = λ _. (refl, refl) }
+  come_back e o first zero some = record { document = refl; flags = refl; next = refl; cap = refl; history = refl; points = λ _. (refl, refl) }
   come_back e o first (suc n) some =
       let t = first_entry (ahead e.history) n some in
       let k = state_back n e t.0 t.1 t.2 some in
       let own = first t.0 t.1 t.2 in
+      let settings = settings_back (suc n) e in
       record {
         document = ap (λ (s : State). s.trees) k.1 ∙ own.0;
+        flags = settings.flags;
+        next = settings.next;
+        cap = settings.cap;
         history = history_back (suc n) e some;
         points = λ at. (
             let placed : AreAt e.state.points (view t.0) = subst (λ p. IfSome p (AreAt e.state.points)) own.1 at in
@@ -81,6 +128,8 @@ undo_ways = record {
       ∙ (ap (λ (es : List Entry). redone_history_by (undone_history_by es e.history).redo (undone_history_by es e.history)) is
       ∙ ap (λ (es : List Entry). record e.history { undo = es }) (sym is)));
   state = λ x e u us is same. ap (λ (h : History). redone_state_by h.redo x.state) same ∙ ap (λ (es : List Entry). redone_state_by (undone_history_by es e.history).redo x.state) is;
+  there_keeps = undone_settings;
+  back_keeps = redone_settings;
 }
 
 redo_ways : Ways redone undone (λ h. h.redo) (λ u. u.before)
@@ -92,6 +141,8 @@ redo_ways = record {
       ∙ (ap (λ (es : List Entry). undone_history_by (redone_history_by es e.history).undo (redone_history_by es e.history)) is
       ∙ ap (λ (es : List Entry). record e.history { redo = es }) (sym is)));
   state = λ x e u us is same. ap (λ (h : History). undone_state_by h.undo x.state) same ∙ ap (λ (es : List Entry). undone_state_by (redone_history_by es e.history).undo x.state) is;
+  there_keeps = redone_settings;
+  back_keeps = undone_settings;
 }
 
 -- the document after the last entry, and before the next one, is the one that is there

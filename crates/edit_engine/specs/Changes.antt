@@ -1,12 +1,10 @@
 -- What the last call changed, told to a host that keeps a tree of its own.
-use Rattle.std.specs.Prelude.{◌≡◌, ◌⊎◌, List, Result, Ok}
+use Rattle.std.specs.Prelude.{◌≡◌, ◌⊎◌, List}
 use Rattle.inline_value.specs.DocumentEdits.declared.edit.DocumentEdit.{DocumentEdit}
 use Rattle.edit_model.specs.History.{History}
 use Rattle.inline_value.specs.EditDoc.Changes.{Lead, changes_past, changes_undone}
 use Rattle.edit_engine.specs.Following.{next_revision}
 use Rattle.edit_engine.specs.Editing.{EditorValue}
-use Rattle.edit_engine.specs.declared.answers.Answer.{Answer}
-use Rattle.edit_engine.specs.declared.answers.Answer.TheVariants.{Yes}
 use Rattle.edit_engine.specs.declared.following.LastChange.{LastChange}
 use Rattle.edit_engine.specs.declared.following.LastChange.TheVariants.{Made, Undone}
 
@@ -25,8 +23,3 @@ CanFollow old new =
     ((new.following ≡ old.following) × (new.editing.state.trees ≡ old.editing.state.trees))
     ⊎ ((new.following.revision ≡ next_revision old.following.revision)
     × Lead (changes_of new) old.editing.state.trees new.editing.state.trees)
-
--- a call that doesn't answer yes counts for no change, and what the last change was stays
-abbrev pub TellsNoChange : {E : Type 0} → Result Answer E → EditorValue → EditorValue → Type 0
-TellsNoChange (Ok Yes) old new = Unit {0}
-TellsNoChange _ old new = new.following ≡ old.following

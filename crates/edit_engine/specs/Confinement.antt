@@ -2,7 +2,6 @@
 use Rattle.std.specs.Prelude.{◌≡◌, ◌⊎◌, ℕ, Bool, true, false, List, ◌∷◌, Option, Some, None, IsSome, IfSome}
 use Rattle.std.specs.List.{AllZip}
 use Rattle.std.specs.Option.{option_map_or}
-use Rattle.edit_model.specs.HtmlNames.Commands.{command_named}
 use Rattle.edit_model.specs.HtmlNames.declared.commands.Command.{Command}
 use Rattle.edit_model.specs.DomModel.Forest.{IsWithin}
 use Rattle.edit_model.specs.LiveRange.declared.places.Pair.{Pair}
@@ -89,12 +88,11 @@ KeepsIslands host at c v old new =
     (h l : ℕ) → host ≡ Some h → is_island old.state.trees h l ≡ true
     → StaysBelow old.state.trees new.state.trees h l ⊎ IsTakenBy at c v old new h l
 
--- where the name is that of a keeping command, what stands below the host bears the same
+-- if the command is a keeping one, what stands below the host bears the same
 -- characters, images and rules in the same order, and at most blanks may be missing
-abbrev pub KeepsCharacters : Option ℕ → List ℕ → Editing → Editing → Type 0
-KeepsCharacters host name old new =
-    (c : Command) (h : ℕ) → command_named name ≡ Some c → (row_of c).keeping ≡ true
-    → host ≡ Some h
+abbrev pub KeepsCharacters : Option ℕ → Option Command → Editing → Editing → Type 0
+KeepsCharacters host command old new =
+    (c : Command) (h : ℕ) → command ≡ Some c → (row_of c).keeping ≡ true → host ≡ Some h
     → KeepsLeaves (below old.state.trees h) (below new.state.trees h)
 
 -- what is seen of two editors is the same: the document, the selection and the marks
@@ -103,15 +101,20 @@ pub record IsSeenAs (a b : Editing) : Type 0 where
   pub selection : a.state.points.selection ≡ b.state.points.selection
   pub marks : a.state.points.marks ≡ b.state.points.marks
 
--- whether the edits of the command that the name names join the last entry, of a joined one or not
-abbrev pub joins_last : (joined : Bool) → Editing → List ℕ → Bool
-joins_last joined e name = option_map_or (joins_by joined e.going) (command_named name) false
+-- whether the edits of the command join the last entry, of a joined one or not
+abbrev pub joins_last : (joined : Bool) → Editing → Option Command → Bool
+joins_last joined e command = option_map_or (joins_by joined e.going) command false
 
--- Undo gives back what was seen before a command, or where its edits join those of the last entry,
--- what undo would have given back before it. Or the command made none, and the history is as before.
+-- a command without an edit: the document and the history are as before
+pub record HasNoEdit (old new : Editing) : Type 0 where
+  pub document : new.state.trees ≡ old.state.trees
+  pub history : new.history ≡ old.history
+
+-- Undo gives back what was seen before a command, or if its edits join those of the last entry,
+-- what undo would have given back before it. Or the command made none.
 abbrev pub GivesBack : (joining : Bool) → Editing → Editing → Type 0
-GivesBack false old new = (new.history ≡ old.history) ⊎ IsSeenAs (undone new) old
-GivesBack true old new = (new.history ≡ old.history) ⊎ IsSeenAs (undone new) (undone old)
+GivesBack false old new = HasNoEdit old new ⊎ IsSeenAs (undone new) old
+GivesBack true old new = HasNoEdit old new ⊎ IsSeenAs (undone new) (undone old)
 
 -- What every execution of a command keeps, whatever it answers. It works in a host, if there is one,
 -- at the selection or at a range, by a command, if the name is one's, and with a value.

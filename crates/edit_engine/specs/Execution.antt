@@ -14,8 +14,8 @@ use Rattle.edit_engine.specs.declared.answers.Answer.{Answer}
 use Rattle.edit_engine.specs.declared.answers.Answer.TheVariants.{Yes, No}
 use Rattle.edit_engine.specs.declared.answers.ExecFault.{ExecFault}
 use Rattle.edit_engine.specs.declared.answers.ExecFault.TheVariants as fault
-use Rattle.edit_engine.specs.declared.answers.ReplaceFault.{ReplaceFault}
-use Rattle.edit_engine.specs.declared.answers.ReplaceFault.TheVariants as unreplaced
+use Rattle.edit_engine.specs.declared.answers.RangeFault.{RangeFault}
+use Rattle.edit_engine.specs.declared.answers.RangeFault.TheVariants as range_fault
 use Rattle.edit_engine.specs.Commands.{row_of, action_of, is_enabled_in}
 use Rattle.edit_engine.specs.Going.{joins_by, going_after}
 use Rattle.edit_engine.specs.Editing.{Editing}
@@ -79,11 +79,14 @@ command_outcome e at joining v c =
     else (if nat_lt depth_limit (page_depth e.state.trees) then Deep
     else run_outcome e (host_at at e.state) joining c (run_at at (action_of c v)))
 
+-- of a command, if there is one, at the selection or on a range, joined or not
+abbrev pub outcome_at : Option Pair → (joined : Bool) → Editing → Option Command → List ℕ → Outcome
+outcome_at at joined e command v =
+    option_map_or (λ c. command_outcome e at (joins_by joined e.going c) v c) command Refused
+
 -- execute a command, step 1, and then from 2 on; a joined one or not
 unfoldable pub outcome_by : (joined : Bool) → Editing → List ℕ → List ℕ → Outcome
-outcome_by joined e name v =
-    option_map_or (λ c. command_outcome e None (joins_by joined e.going c) v c)
-    (command_named name) Refused
+outcome_by joined e name v = outcome_at None joined e (command_named name) v
 
 abbrev pub outcome : Editing → List ℕ → List ℕ → Outcome
 outcome e name v = outcome_by false e name v
@@ -93,12 +96,18 @@ joined_outcome e name v = outcome_by true e name v
 
 -- execute insertText at a range: typing goes on with it
 abbrev pub replaced_outcome : Editing → Pair → List ℕ → Outcome
-replaced_outcome e range v =
-    command_outcome e (Some range) (joins_by false e.going InsertText) v InsertText
+replaced_outcome e range v = outcome_at (Some range) false e (Some InsertText) v
 
 -- execute a command where names are denied; `outcome` is the case without denied names
 unfoldable pub gated_outcome : List (List ℕ) → Editing → List ℕ → List ℕ → Outcome
 gated_outcome denied e name v = if is_denied denied name then Refused else outcome e name v
+
+-- execute a command where names are denied, at the selection or on a range, joined or not; the
+-- outcomes above are cases of it
+unfoldable pub outcome_with : List (List ℕ) → Option Pair → (joined : Bool) → Editing → List ℕ
+    → List ℕ → Outcome
+outcome_with denied at joined e name v =
+    if is_denied denied name then Refused else outcome_at at joined e (command_named name) v
 
 -- ---- which answer comes; a call may be out of memory in its place, and then nothing has changed
 
@@ -109,10 +118,16 @@ Tells (Err fault.Full) old new o = (o ≡ Full) × (new ≡ old)
 Tells (Err fault.Deep) old new o = (o ≡ Deep) × (new ≡ old)
 Tells (Err fault.Memory) old new o = new ≡ old
 
--- of a replacement at a range that stands in the document
-abbrev pub TellsReplaced : Result Answer ReplaceFault → Editing → Editing → Outcome → Type 0
-TellsReplaced (Ok answer) old new o = Tells (Ok answer) old new o
-TellsReplaced (Err unreplaced.BadPlace) old new o = ⊥
-TellsReplaced (Err unreplaced.Full) old new o = Tells (Err fault.Full) old new o
-TellsReplaced (Err unreplaced.Deep) old new o = Tells (Err fault.Deep) old new o
-TellsReplaced (Err unreplaced.Memory) old new o = Tells (Err fault.Memory) old new o
+-- of a call that may be told a range, which stands in the document
+abbrev pub TellsOnRange : Result Answer RangeFault → Editing → Editing → Outcome → Type 0
+TellsOnRange (Ok answer) old new o = Tells (Ok answer) old new o
+TellsOnRange (Err range_fault.BadPlace) old new o = ⊥
+TellsOnRange (Err range_fault.Full) old new o = Tells (Err fault.Full) old new o
+TellsOnRange (Err range_fault.Deep) old new o = Tells (Err fault.Deep) old new o
+TellsOnRange (Err range_fault.Memory) old new o = Tells (Err fault.Memory) old new o
+
+-- what a call answers that is told a range of which an end stands nowhere: a denied name is refused
+-- before
+abbrev pub misplaced : (denied : Bool) → Result Answer RangeFault
+misplaced true = Ok No
+misplaced false = Err range_fault.BadPlace

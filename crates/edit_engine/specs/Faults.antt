@@ -7,8 +7,8 @@ use Rattle.edit_engine.specs.declared.answers.ExecFault.{ExecFault}
 use Rattle.edit_engine.specs.declared.answers.ExecFault.TheVariants as exec
 use Rattle.edit_engine.specs.declared.answers.PlaceFault.{PlaceFault}
 use Rattle.edit_engine.specs.declared.answers.PlaceFault.TheVariants.{TooManyMarks, Memory}
-use Rattle.edit_engine.specs.declared.answers.ReplaceFault.{ReplaceFault}
-use Rattle.edit_engine.specs.declared.answers.ReplaceFault.TheVariants as replace
+use Rattle.edit_engine.specs.declared.answers.RangeFault.{RangeFault}
+use Rattle.edit_engine.specs.declared.answers.RangeFault.TheVariants as replace
 
 abbrev pub place_fault : MarkFault → PlaceFault
 place_fault mark.TooManyMarks = TooManyMarks
@@ -18,7 +18,7 @@ abbrev pub exec_fault : EditFault → ExecFault
 exec_fault edit.Full = exec.Full
 exec_fault edit.Memory = exec.Memory
 
-abbrev pub replace_fault : ExecFault → ReplaceFault
-replace_fault exec.Full = replace.Full
-replace_fault exec.Deep = replace.Deep
-replace_fault exec.Memory = replace.Memory
+abbrev pub range_fault : ExecFault → RangeFault
+range_fault exec.Full = replace.Full
+range_fault exec.Deep = replace.Deep
+range_fault exec.Memory = replace.Memory

@@ -1,6 +1,6 @@
 -- What an editor keeps for hosts that follow its document: how many calls changed it, and which
 -- edits the last of them made.
-use Rattle.std.specs.Prelude.{◌≡◌, ℕ, ◌+◌, ◌-◌, ◌^◌, min, ◌≤◌, Bool, true, false, List, Option, Some, None, refl, length}
+use Rattle.std.specs.Prelude.{◌≡◌, ℕ, ◌+◌, ◌-◌, ◌^◌, min, ◌≤◌, Bool, true, false, Option, Some, None, refl}
 use Rattle.std.specs.Coded.{Coded, code_by, coded×, coded_ℕ, coded_option}
 use Rattle.inline_value.specs.UndoLog.declared.log.Committed.{Committed}
 use Rattle.inline_value.specs.UndoLog.declared.log.Committed.TheVariants as committed

@@ -20,6 +20,7 @@ pub mod Bringing
 pub mod HtmlAround
 pub mod ThereAndBack
 pub mod Confinement
+pub mod Promises
 pub mod Refusals
 pub mod WorkedIslands
 pub mod Replaying

@@ -37,6 +37,12 @@ placed_pair f anchor focus =
     if is_placed f anchor && is_placed f focus
     then Some (pair_from anchor focus) else None
 
+-- where a command works that may be told a range: at the selection, or on that range if both its
+-- points stand in the document
+abbrev pub range_in : Forest Content → Option Pair → Option (Option Pair)
+range_in f None = Some None
+range_in f (Some range) = option_map Some (placed_pair f range.anchor range.focus)
+
 -- ---- the editor after a selecting act, which ends the typing
 
 abbrev pub selecting : Editing → Pair → Editing

@@ -20,10 +20,13 @@ abbrev pub before_first : List Entry → Option View
 before_first [] = None
 before_first (e ∷ es) = Some e.before
 
--- the document and the history are as before, and so are the selection and the marks where they
--- were those of the view: where none was moved since
+-- the document, the flags, the next label, the cap and the history are as before, and so are the
+-- selection and the marks if they were those of the view: if none was moved since
 pub record IsBack (view : Option View) (old new : Editing) : Type 0 where
   pub document : new.state.trees ≡ old.state.trees
+  pub flags : new.state.flags ≡ old.state.flags
+  pub next : new.state.next ≡ old.state.next
+  pub cap : new.state.cap ≡ old.state.cap
   pub history : new.history ≡ old.history
   pub points : IfSome view (AreAt old.state.points)
       → (new.state.points.selection ≡ old.state.points.selection)

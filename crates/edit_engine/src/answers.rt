@@ -53,9 +53,9 @@ impl From<EditFault> for ExecFault {
     }
 }
 
-/// Why a range was not replaced. The editor is as before.
+/// Why a command that may be told a range was not made. The editor is as before.
 #[derive(Clone, Copy, PartialEq, Eq, Debug, Error)]
-pub enum ReplaceFault {
+pub enum RangeFault {
     /// An end of the range stands in no node of the document, or is past its length.
     #[error("the document has no such place")]
     BadPlace = 1,
@@ -70,17 +70,17 @@ pub enum ReplaceFault {
     Memory = 4,
 }
 
-impl From<ExecFault> for ReplaceFault {
-    ghost use Rattle.edit_engine.specs.Faults.{replace_fault};
+impl From<ExecFault> for RangeFault {
+    ghost use Rattle.edit_engine.specs.Faults.{range_fault};
     ghost use Rattle.std.specs.Prelude.{◌≡◌};
 
-    ghost from_gives = { λ fault out. out ≡ replace_fault fault };
+    ghost from_gives = { λ fault out. out ≡ range_fault fault };
 
-    fn from(fault: ExecFault) -> ReplaceFault {
+    fn from(fault: ExecFault) -> RangeFault {
         match fault {
-            ExecFault::Full => ReplaceFault::Full,
-            ExecFault::Deep => ReplaceFault::Deep,
-            ExecFault::Memory => ReplaceFault::Memory,
+            ExecFault::Full => RangeFault::Full,
+            ExecFault::Deep => RangeFault::Deep,
+            ExecFault::Memory => RangeFault::Memory,
         }
     }
 }

@@ -9,29 +9,28 @@ ghost use Rattle.inline_value.specs.EditDoc.Whole.{HasNoLoose, IsClosed, first_e
 ghost use Rattle.command_gate.specs.Denied.{is_denied};
 ghost use Rattle.edit_model.specs.HtmlNames.Commands.{command_named};
 ghost use Rattle.inline_value.specs.NodePaths.Paths.{label_at};
-ghost use Rattle.edit_engine.specs.Changes.{CanFollow, TellsNoChange, changes_of};
+ghost use Rattle.edit_engine.specs.Changes.{CanFollow, changes_of};
 ghost use Rattle.edit_engine.specs.Commands.{action_of};
-ghost use Rattle.edit_engine.specs.Confinement.{CommandKeeps, KeepsCharacters, GivesBack, joins_last};
 ghost use Rattle.edit_engine.specs.Editing.{EditorValue, IsJoinable, document, new_editing, undone, redone};
-ghost use Rattle.inline_value.specs.EditActions.ActiveRange.{affected_host, host_of_pair};
-ghost use Rattle.edit_engine.specs.Execution.{gated_outcome, outcome, joined_outcome, replaced_outcome, outcome_by, command_outcome, run_outcome, host_at, run_at, Tells, TellsReplaced};
-ghost use Rattle.edit_engine.specs.Following.{first_following};
+ghost use Rattle.edit_engine.specs.Execution.{gated_outcome, outcome, joined_outcome, replaced_outcome, outcome_at, outcome_with, command_outcome, run_outcome, host_at, run_at, misplaced, Tells, TellsOnRange};
+ghost use Rattle.edit_engine.specs.Following.{first_following, after_undo, after_redo};
 ghost use Rattle.edit_engine.specs.Going.{goes_on, joins_by};
+ghost use Rattle.edit_engine.specs.Promises.{ExecPromises, PromisesAsIs, is_yes, told_by_exec};
 ghost use Rattle.edit_engine.specs.KeptLabels.{IsKept, IsGone};
 ghost use Rattle.edit_engine.specs.Labels.{KeepsLabels, HaveOneKind};
 ghost use Rattle.edit_engine.specs.Logs.{log_text};
-ghost use Rattle.edit_engine.specs.Places.{pair_at, pair_from, placed_pair, selecting, unselecting, marking, unmarking, IsCrowded};
+ghost use Rattle.edit_engine.specs.Places.{pair_at, pair_from, placed_pair, range_in, selecting, unselecting, marking, unmarking, IsCrowded};
 ghost use Rattle.edit_engine.specs.Queries.{reply_of};
 ghost use Rattle.edit_engine.specs.Replaying.{LogReplays};
 ghost use Rattle.edit_engine.specs.ThereAndBack.{UndosComeBack, RedosComeBack};
 ghost use Rattle.edit_engine.specs.Views.{view_text};
 
 use crate::actions::{host_at, kept_edits, run_command};
-use crate::answers::{Answer, ExecFault, LogFault, PlaceFault, ReplaceFault, ViewFault, ViewKind};
+use crate::answers::{Answer, ExecFault, LogFault, PlaceFault, RangeFault, ViewFault, ViewKind};
 use crate::following::{Following, LastChange};
 use crate::going::{Going, going_after, going_turned, joins_by};
 use crate::log::entry_lines;
-use crate::places::{node_at, pair_at, placed_pair};
+use crate::places::{node_at, pair_at, placed_pair, range_in};
 use crate::probe::probe_line;
 use crate::queries::{ask, is_enabled_in};
 use crate::views::{html_line, points_lines, stat_line, tree_lines};
@@ -49,6 +48,16 @@ use step_text::script::{Path, Place};
 
 // How deep a document may be as a command begins.
 const DEPTH_LIMIT: u32 = 250;
+
+/// How a command is executed.
+#[derive(Clone, Copy, PartialEq, Eq, Debug)]
+pub struct ExecOptions {
+    /// What the command works on in place of the selection, if it is told a range. It selects that
+    /// first.
+    pub range: Option<Pair>,
+    /// Whether its edits join the last entry, as those of `Editor::exec_joined` do.
+    pub joined: bool,
+}
 
 /// An editor of a document.
 #[derive(Drop)]
@@ -100,28 +109,23 @@ impl Editor {
     }
 
     /// Executes the command that a name names, in any case. It is taken whole, or the editor is as
-    /// before.
+    /// before. It is `exec_with` without a range, without denied names and not joined.
+    #[tactic(auto, unfolding(crate::specs::Execution::outcome_by))]
     pub fn exec(&mut self, alloc: Global, name: &str, value: &[char]) -> Result<Answer, ExecFault>
         ensures tells { Tells result self.old.editing self.new.editing
             (outcome self.old.editing name.now value.now) }
-        ensures kept { CommandKeeps (affected_host self.old.editing.state) None
-            (command_named name.now) value.now self.old.editing self.new.editing }
-        ensures characters { KeepsCharacters (affected_host self.old.editing.state) name.now
-            self.old.editing self.new.editing }
-        ensures given_back { GivesBack (joins_last false self.old.editing name.now)
-            self.old.editing self.new.editing }
-        ensures needed { HoldsOnlyNeeded (document self.new) }
-        ensures followed { CanFollow self.old self.new }
-        ensures quiet { TellsNoChange result self.old self.new }
+        ensures promises { ExecPromises (is_yes result) None false (command_named name.now)
+            value.now self.old self.new }
     {
-        self.exec_named(alloc, false, name, value)
+        self.exec_at(alloc, None, false, Command::named(name), value)
     }
 
     /// Executes the command that a name names, as `exec` does, whose edits join the last entry, so
-    /// that one undo takes both back. That is so where a command made that entry, or made it longer,
+    /// that one undo takes both back. They do so if a command made that entry, or made it longer,
     /// and nothing has come between: no undo, no redo, no call that selects or marks, and no command
-    /// by `exec` that answered true without an edit. Otherwise it has an entry of its own. A command
-    /// that isn't taken counts for nothing.
+    /// that is not joined and answered yes without an edit. Otherwise they have an entry of their
+    /// own. A command that isn't taken counts for nothing.
+    #[tactic(auto, unfolding(crate::specs::Execution::outcome_by))]
     pub fn exec_joined(
         &mut self,
         alloc: Global,
@@ -130,51 +134,10 @@ impl Editor {
     ) -> Result<Answer, ExecFault>
         ensures tells { Tells result self.old.editing self.new.editing
             (joined_outcome self.old.editing name.now value.now) }
-        ensures kept { CommandKeeps (affected_host self.old.editing.state) None
-            (command_named name.now) value.now self.old.editing self.new.editing }
-        ensures characters { KeepsCharacters (affected_host self.old.editing.state) name.now
-            self.old.editing self.new.editing }
-        ensures given_back { GivesBack (joins_last true self.old.editing name.now)
-            self.old.editing self.new.editing }
-        ensures needed { HoldsOnlyNeeded (document self.new) }
-        ensures followed { CanFollow self.old self.new }
-        ensures quiet { TellsNoChange result self.old self.new }
+        ensures promises { ExecPromises (is_yes result) None true (command_named name.now)
+            value.now self.old self.new }
     {
-        self.exec_named(alloc, true, name, value)
-    }
-
-    // Executes the command that a name names, as a joined one or not.
-    fn exec_named(
-        &mut self,
-        alloc: Global,
-        joined: bool,
-        name: &str,
-        value: &[char],
-    ) -> Result<Answer, ExecFault>
-        ensures tells { Tells result self.old.editing self.new.editing
-            (outcome_by joined self.old.editing name.now value.now) }
-        ensures kept { CommandKeeps (affected_host self.old.editing.state) None
-            (command_named name.now) value.now self.old.editing self.new.editing }
-        ensures characters { KeepsCharacters (affected_host self.old.editing.state) name.now
-            self.old.editing self.new.editing }
-        ensures given_back { GivesBack (joins_last joined self.old.editing name.now)
-            self.old.editing self.new.editing }
-        ensures needed { HoldsOnlyNeeded (document self.new) }
-        ensures followed { CanFollow self.old self.new }
-        ensures quiet { TellsNoChange result self.old self.new }
-    {
-        self.doc.valid();
-        match Command::named(name) {
-            Some(command) => {
-                let answer = self.exec_command(alloc, None, joined, command, value);
-                self.kept_nodes();
-                answer
-            }
-            None => {
-                self.kept_nodes();
-                Ok(Answer::No)
-            }
-        }
+        self.exec_at(alloc, None, true, Command::named(name), value)
     }
 
     /// Puts a text in place of what stands between two points, each the label of a node and an
@@ -187,55 +150,22 @@ impl Editor {
         anchor: Point,
         focus: Point,
         text: &[char],
-    ) -> Result<Answer, ReplaceFault>
+    ) -> Result<Answer, RangeFault>
         ensures tells { MatchOption (placed_pair self.old.editing.state.trees anchor focus)
-            ((result ≡ Err ReplaceFault.BadPlace) × (self.new ≡ self.old))
-            (λ range. TellsReplaced result self.old.editing self.new.editing
+            ((result ≡ Err RangeFault.BadPlace) × (self.new ≡ self.old))
+            (λ range. TellsOnRange result self.old.editing self.new.editing
             (replaced_outcome self.old.editing range text.now)) }
-        ensures kept { CommandKeeps
-            (host_of_pair self.old.editing.state.trees (pair_from anchor focus))
-            (Some (pair_from anchor focus)) (Some Command.InsertText) text.now
-            self.old.editing self.new.editing }
-        ensures given_back { GivesBack (joins_by false self.old.editing.going Command.InsertText)
-            self.old.editing self.new.editing }
-        ensures needed { HoldsOnlyNeeded (document self.new) }
-        ensures followed { CanFollow self.old self.new }
-        ensures quiet { TellsNoChange result self.old self.new }
+        ensures promises { ExecPromises (is_yes result) (Some (pair_from anchor focus)) false
+            (Some Command.InsertText) text.now self.old self.new }
     {
-        self.doc.valid();
         match placed_pair(&self.doc, anchor, focus) {
-            Some(range) => self.replace_range(alloc, range, text),
-            None => {
-                self.kept_nodes();
-                Err(ReplaceFault::BadPlace)
+            Some(range) => {
+                self.exec_on(alloc, Some(range), false, Some(Command::InsertText), text)
             }
-        }
-    }
-
-    // Puts a text in place of a range.
-    fn replace_range(
-        &mut self,
-        alloc: Global,
-        range: Pair,
-        text: &[char],
-    ) -> Result<Answer, ReplaceFault>
-        requires { IsPlacedPair self.old.editing.state.trees range }
-        ensures tells { TellsReplaced result self.old.editing self.new.editing
-            (replaced_outcome self.old.editing range text.now) }
-        ensures kept { CommandKeeps (host_of_pair self.old.editing.state.trees range)
-            (Some range) (Some Command.InsertText) text.now self.old.editing self.new.editing }
-        ensures given_back { GivesBack (joins_by false self.old.editing.going Command.InsertText)
-            self.old.editing self.new.editing }
-        ensures needed { HoldsOnlyNeeded (document self.new) }
-        ensures followed { CanFollow self.old self.new }
-        ensures quiet { TellsNoChange result self.old self.new }
-    {
-        self.doc.valid();
-        let answer = self.exec_command(alloc, Some(range), false, Command::InsertText, text);
-        self.kept_nodes();
-        match answer {
-            Ok(told) => Ok(told),
-            Err(fault) => Err(ReplaceFault::from(fault)),
+            None => {
+                self.promises_as_is();
+                Err(RangeFault::BadPlace)
+            }
         }
     }
 
@@ -252,26 +182,103 @@ impl Editor {
             × (self.new ≡ self.old) }
         ensures tells { Tells result self.old.editing self.new.editing
             (gated_outcome gate.now self.old.editing name.now value.now) }
-        ensures kept { CommandKeeps (affected_host self.old.editing.state) None
-            (command_named name.now) value.now self.old.editing self.new.editing }
-        ensures characters { KeepsCharacters (affected_host self.old.editing.state) name.now
-            self.old.editing self.new.editing }
-        ensures given_back { GivesBack (joins_last false self.old.editing name.now)
-            self.old.editing self.new.editing }
-        ensures needed { HoldsOnlyNeeded (document self.new) }
-        ensures followed { CanFollow self.old self.new }
-        ensures quiet { TellsNoChange result self.old self.new }
+        ensures promises { ExecPromises (is_yes result) None false (command_named name.now)
+            value.now self.old self.new }
     {
-        self.doc.valid();
         if gate.denies(name.as_bytes()) {
-            self.kept_nodes();
+            self.promises_as_is();
             return Ok(Answer::No);
         }
         self.exec(alloc, name, value)
     }
 
-    // Executes a command at the selection, or on a range that it selects first, as a joined one or
-    // not.
+    /// Executes the command that a name names, in any case, unless a gate denies the name: at the
+    /// selection, or on a range that the command selects first, and joined as by `exec_joined` or
+    /// not. It is taken whole, or the editor is as before, the selection too. The selection is left
+    /// where the command leaves it.
+    pub fn exec_with<A: Asks>(
+        &mut self,
+        alloc: Global,
+        gate: &Gate<A>,
+        options: ExecOptions,
+        name: &str,
+        value: &[char],
+    ) -> Result<Answer, RangeFault>
+        ensures denied { is_denied gate.now name.now ≡ true → (result ≡ Ok Answer.No)
+            × (self.new ≡ self.old) }
+        ensures tells { MatchOption (range_in self.old.editing.state.trees options.range)
+            ((result ≡ misplaced (is_denied gate.now name.now)) × (self.new ≡ self.old))
+            (λ at. TellsOnRange result self.old.editing self.new.editing
+            (outcome_with gate.now at options.joined self.old.editing name.now value.now)) }
+        ensures promises { ExecPromises (is_yes result) options.range options.joined
+            (command_named name.now) value.now self.old self.new }
+    {
+        self.promises_as_is();
+        match (
+            gate.denies(name.as_bytes()),
+            range_in(&self.doc, options.range),
+        ) {
+            (true, _) => Ok(Answer::No),
+            (false, None) => Err(RangeFault::BadPlace),
+            (false, Some(at)) => {
+                self.exec_on(alloc, at, options.joined, Command::named(name), value)
+            }
+        }
+    }
+
+    // Executes a command, if there is one, as `exec_at` does, and answers as calls do that are told a
+    // range.
+    fn exec_on(
+        &mut self,
+        alloc: Global,
+        at: Option<Pair>,
+        joined: bool,
+        command: Option<Command>,
+        value: &[char],
+    ) -> Result<Answer, RangeFault>
+        requires { IfSome at (IsPlacedPair self.old.editing.state.trees) }
+        ensures tells { TellsOnRange result self.old.editing self.new.editing
+            (outcome_at at joined self.old.editing command value.now) }
+        ensures promises { ExecPromises (is_yes result) at joined command value.now
+            self.old self.new }
+    {
+        match self.exec_at(alloc, at, joined, command, value) {
+            Ok(answer) => Ok(answer),
+            Err(fault) => Err(RangeFault::from(fault)),
+        }
+    }
+
+    // Executes a command, if there is one, at the selection, or on a range that it selects first, as
+    // a joined one or not.
+    fn exec_at(
+        &mut self,
+        alloc: Global,
+        at: Option<Pair>,
+        joined: bool,
+        command: Option<Command>,
+        value: &[char],
+    ) -> Result<Answer, ExecFault>
+        requires { IfSome at (IsPlacedPair self.old.editing.state.trees) }
+        ensures tells { Tells result self.old.editing self.new.editing
+            (outcome_at at joined self.old.editing command value.now) }
+        ensures promises { ExecPromises (is_yes result) at joined command value.now
+            self.old self.new }
+    {
+        self.doc.valid();
+        match command {
+            Some(command) => {
+                let answer = self.exec_command(alloc, at, joined, command, value);
+                self.kept_nodes();
+                answer
+            }
+            None => {
+                self.promises_as_is();
+                Ok(Answer::No)
+            }
+        }
+    }
+
+    // Executes a command, from step 2 on.
     fn exec_command(
         &mut self,
         alloc: Global,
@@ -285,7 +292,8 @@ impl Editor {
             (command_outcome self.old.editing at (joins_by joined self.old.editing.going command)
             value.now command) }
         ensures followed { CanFollow self.old self.new }
-        ensures quiet { TellsNoChange result self.old self.new }
+        ensures told { self.new.following ≡ told_by_exec (is_yes result) at joined (Some command)
+            value.now self.old }
     {
         if !is_enabled_in(host_at(&self.doc, at), command) {
             return Ok(Answer::No);
@@ -296,7 +304,7 @@ impl Editor {
         self.run(alloc, at, joined, command, value)
     }
 
-    // Runs a command.
+    // Executes a command, from step 4 on.
     fn run(
         &mut self,
         alloc: Global,
@@ -311,7 +319,8 @@ impl Editor {
             (joins_by joined self.old.editing.going command) command
             (run_at at (action_of command value.now))) }
         ensures followed { CanFollow self.old self.new }
-        ensures quiet { TellsNoChange result self.old self.new }
+        ensures told { self.new.following ≡ told_by_exec (is_yes result) at joined (Some command)
+            value.now self.old }
     {
         self.doc.valid();
         let joining = joins_by(joined, self.going, command);
@@ -325,6 +334,15 @@ impl Editor {
             Ok(None) => Ok(Answer::No),
             Err(fault) => Err(ExecFault::from(fault)),
         }
+    }
+
+    /// What holds of a command that isn't taken and leaves the editor as it is, for proofs: all that
+    /// is promised of one. It does nothing.
+    pub fn promises_as_is(&self)
+        ensures { PromisesAsIs self.now }
+    {
+        self.doc.valid();
+        self.kept_nodes();
     }
 
     /// The answer to a question about the command that a name names, in any case.
@@ -469,6 +487,7 @@ impl Editor {
         ensures needed { HoldsOnlyNeeded (document self.new) }
         ensures count { steps.new ≡ steps.old + first_edits self.old.editing.history.undo }
         ensures followed { CanFollow self.old self.new }
+        ensures told { self.new.following ≡ after_undo result self.old.following }
     {
         self.labels_last();
         self.doc.kept_nodes();
@@ -488,6 +507,7 @@ impl Editor {
         ensures needed { HoldsOnlyNeeded (document self.new) }
         ensures count { steps.new ≡ steps.old + first_edits self.old.editing.history.redo }
         ensures followed { CanFollow self.old self.new }
+        ensures told { self.new.following ≡ after_redo result self.old.following }
     {
         self.labels_last();
         self.doc.kept_nodes();

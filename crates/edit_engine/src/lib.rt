@@ -21,8 +21,8 @@ mod texts;
 mod turning;
 mod views;
 
-pub use answers::{Answer, ExecFault, LogFault, PlaceFault, ReplaceFault, ViewFault, ViewKind};
-pub use editor::Editor;
+pub use answers::{Answer, ExecFault, LogFault, PlaceFault, RangeFault, ViewFault, ViewKind};
+pub use editor::{Editor, ExecOptions};
 pub use inline_value::query::Reply;
 pub use laws::{
     gone_labels_stay, history_is_ignored, locked_span_is_island, refusals_leave_the_state,

@@ -6,7 +6,7 @@ ghost use Rattle.edit_model.specs.Valid.{IsPlacedPair};
 ghost use Rattle.inline_value.specs.EditDoc.Whole.{IsClosed};
 ghost use Rattle.inline_value.specs.EditDoc.Held.{Holds, Finds};
 ghost use Rattle.inline_value.specs.NodePaths.Paths.{label_at};
-ghost use Rattle.edit_engine.specs.Places.{point_in, point_at, pair_at, placed_pair};
+ghost use Rattle.edit_engine.specs.Places.{point_in, point_at, pair_at, placed_pair, range_in};
 
 use edit_model::boundary::is_placed;
 use inline_value::doc::{Doc, NodeRef, Pair, Point};
@@ -89,5 +89,20 @@ pub(crate) fn placed_pair(doc: &Doc, anchor: Point, focus: Point) -> Option<Pair
         Some(Pair { anchor, focus })
     } else {
         None
+    }
+}
+
+/// Where a command works that may be told a range: at the selection, or on that range if both its
+/// points stand in the document. It takes no memory.
+pub(crate) fn range_in(doc: &Doc, range: Option<Pair>) -> Option<Option<Pair>>
+    ensures range { result ≡ range_in doc.now.state.trees range }
+    ensures placed { IfSome result (λ at. IfSome at (IsPlacedPair doc.now.state.trees)) }
+{
+    match range {
+        None => Some(None),
+        Some(range) => match placed_pair(doc, range.anchor, range.focus) {
+            Some(placed) => Some(Some(placed)),
+            None => None,
+        },
     }
 }

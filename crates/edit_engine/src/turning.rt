@@ -5,7 +5,7 @@ ghost use Rattle.inline_value.specs.EditDoc.Kept.{HoldsOnlyNeeded};
 ghost use Rattle.edit_engine.specs.Changes.{CanFollow};
 ghost use Rattle.edit_engine.specs.Editing.{document};
 ghost use Rattle.edit_engine.specs.Labels.{KeepsLabels};
-ghost use Rattle.edit_engine.specs.Turning.{entries_of, turned_by};
+ghost use Rattle.edit_engine.specs.Turning.{entries_of, told_by_turn, turned_by};
 
 use crate::editor::Editor;
 use edit_model::stepping::Steps;
@@ -31,6 +31,7 @@ impl Editor {
         ensures labels { KeepsLabels self.old.editing self.new.editing }
         ensures needed { HoldsOnlyNeeded (document self.new) }
         ensures followed { CanFollow self.old self.new }
+        ensures told { self.new.following ≡ told_by_turn turn result self.old.following }
     {
         let mut steps = Steps::<L>::open(blank);
         match turn {
@@ -47,6 +48,7 @@ impl Editor {
         ensures labels { KeepsLabels self.old.editing self.new.editing }
         ensures needed { HoldsOnlyNeeded (document self.new) }
         ensures followed { CanFollow self.old self.new }
+        ensures told { self.new.following ≡ told_by_turn turn result self.old.following }
     {
         self.turn_uncounted::<Brand>(turn, Blank::new(1))
     }

@@ -7,11 +7,11 @@ use Rattle.std.proofs.lemmas.Bool.Decides.{nat_tests}
 use Rattle.std.proofs.lemmas.List.{append_assoc, append-nil}
 use Rattle.step_text.specs.PageGrammar.Reading.{Reading, Children, Refused, page_reading}
 use Rattle.edit_engine.specs.Editing.{Editing}
-use Rattle.edit_session.specs.Block.{Block, NoOpening, NoClosing, Whole, Cut, lines_of, before_line, cut_at, with_line, opening_word, block_cut, block_opened, block_in, block_of}
+use Rattle.edit_session.specs.Block.{NoOpening, NoClosing, Whole, Cut, lines_of, before_line, cut_at, with_line, opening_word, block_cut, block_opened, block_in, block_of}
 use Rattle.edit_session.specs.Replies.{line_reply, replies_to}
 use Rattle.edit_session.specs.Transcript.{Transcript, input_limit, depth_limit, acted, run_block, page_editing, order_transcript, transcript, transcript_of}
 use Rattle.edit_session.specs.declared.session.Status.TheVariants.{Usage}
-use Rattle.edit_session.specs.Words.{Limits, Order, Run, order_of}
+use Rattle.edit_session.specs.Words.{Limits, Run}
 use Rattle.edit_session.specs.Prefixes.{Begins, PrefixesAnswer}
 
 -- ---- lines

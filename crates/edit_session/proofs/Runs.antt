@@ -4,7 +4,6 @@ use Rattle.std.proofs.lemmas.Bool.Decides.{nat_tests}
 use Rattle.std.proofs.lemmas.List.{append-nil}
 use Rattle.std.specs.Io.KnownBytes.{Appends}
 use Rattle.std.proofs.KnownBytes.{Appends-nil, Appends-trans}
-use Rattle.edit_io.specs.Faults.{Rose}
 use Rattle.edit_io.specs.Told.{TakesPrefix}
 use Rattle.edit_io.proofs.Told.{takes_whole, takes_longer, takes_after}
 use Rattle.edit_io.proofs.Faults.{Rose-after}

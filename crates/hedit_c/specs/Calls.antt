@@ -1,7 +1,8 @@
 -- What the calls of an editor's handle tell.
-use Rattle.std.specs.Prelude.{◌≡◌, ◌⊎◌, ⊤, ℕ, ◌<◌, ◌≤◌, ◌++◌, ◌==◌, nat_lt, List, length, drop, Bool, true, false, encode_utf8_all, Option, Some, None, Result, Ok, Err, if◌then◌else◌}
+use Rattle.std.specs.Prelude.{◌≡◌, ◌⊎◌, ℕ, ◌<◌, ◌≤◌, ◌++◌, ◌==◌, nat_lt, List, length, drop, Bool, true, false, not, MatchOption, encode_utf8_all, Option, Some, None, Result, Ok, Err, if◌then◌else◌}
 use Rattle.std.specs.Option.{option_and_then, option_map, IsSomeAnd}
 use Rattle.std.specs.Str.{IsUtf8, chars}
+use Rattle.command_gate.specs.Denied.{is_denied}
 use Rattle.edit_model.specs.DomModel.ArenaState.{ArenaState}
 use Rattle.edit_model.specs.HtmlNames.declared.query.QueryKind.{QueryKind}
 use Rattle.edit_model.specs.HtmlNames.declared.query.QueryKind.TheVariants as question
@@ -21,20 +22,21 @@ use Rattle.edit_engine.specs.declared.answers.Answer.{Answer}
 use Rattle.edit_engine.specs.declared.answers.Answer.TheVariants as answer
 use Rattle.edit_engine.specs.declared.answers.ExecFault.{ExecFault}
 use Rattle.edit_engine.specs.declared.answers.ExecFault.TheVariants as exec_fault
-use Rattle.edit_engine.specs.declared.answers.ReplaceFault.{ReplaceFault}
-use Rattle.edit_engine.specs.declared.answers.ReplaceFault.TheVariants as replace_fault
+use Rattle.edit_engine.specs.declared.answers.RangeFault.{RangeFault}
+use Rattle.edit_engine.specs.declared.answers.RangeFault.TheVariants as range_fault
 use Rattle.edit_engine.specs.declared.answers.PlaceFault.{PlaceFault}
 use Rattle.edit_engine.specs.declared.answers.PlaceFault.TheVariants as place_fault
 use Rattle.edit_engine.specs.declared.answers.ViewKind.{ViewKind}
 use Rattle.edit_engine.specs.declared.answers.ViewKind.TheVariants.{Html, Tree, Points, Stat}
 use Rattle.edit_engine.specs.Editing.{Editing, EditorValue, new_editing}
-use Rattle.edit_engine.specs.Execution.{Outcome, Acted, outcome_by, gated_outcome, replaced_outcome}
+use Rattle.edit_engine.specs.Execution.{Outcome, Acted, outcome_by, outcome_with, gated_outcome, replaced_outcome}
 use Rattle.edit_engine.specs.Execution as exec
-use Rattle.edit_engine.specs.Places.{pair_at, placed_pair, selecting, marking, unmarking, IsCrowded}
+use Rattle.edit_engine.specs.Places.{pair_at, pair_from, placed_pair, range_in, selecting, marking, unmarking, IsCrowded}
 use Rattle.edit_engine.specs.Queries.{reply_of}
 use Rattle.edit_engine.specs.Views.{view_text}
 use Rattle.edit_session.specs.Denials.{denied_by}
 use Rattle.hedit_c.specs.Statuses.{number_of, answer_status}
+use Rattle.hedit_c.specs.declared.editor.acts.CommandOptions.{CommandOptions}
 use Rattle.hedit_c.specs.declared.editor.opening.Refusal.{Refusal}
 use Rattle.hedit_c.specs.declared.editor.status.Status.{Status}
 use Rattle.hedit_c.specs.declared.editor.status.Status.TheVariants.{Done, No, Memory, PageRefused, TooSmall, Full, Deep, BadPlace, TooManyMarks, BadArgument, Closed}
@@ -130,6 +132,10 @@ ExecAnswers Deep old new o = (o ≡ exec.Deep) × (new ≡ old)
 ExecAnswers Memory old new o = new ≡ old
 ExecAnswers status old new o = ⊥
 
+abbrev pub is_done : Status → Bool
+is_done Done = true
+is_done _ = false
+
 -- the status of what a command answers
 abbrev pub answered_status : Result Answer ExecFault → Status
 answered_status (Ok answer.Yes) = Done
@@ -154,6 +160,41 @@ GatedTells Memory old new denied name value = new ≡ old
 GatedTells status old new denied name value =
     IsUtf8 name × IsUtf8 value × IsSomeAnd (denied_by denied) (λ names.
     ExecAnswers status old new (gated_outcome names old name (chars value)))
+
+-- ---- commands told a range, joined or not
+
+abbrev pub point : (label offset : ℕ) → Point
+point label offset = record { label = label; offset = offset }
+
+-- a number that stands for no if it is 0
+abbrev pub is_set : ℕ → Bool
+is_set n = not (n == 0)
+
+abbrev pub range_of : CommandOptions → Option Pair
+range_of options =
+    if options.ranged == 0 then None
+    else Some (pair_from (point options.anchor options.anchor_offset)
+    (point options.focus options.focus_offset))
+
+-- a denied name is refused before the range is looked at
+abbrev pub WithAnswers : Status → Editing → Editing → (denied : List (List ℕ)) → Option Pair
+    → (joined : Bool) → (name value : List ℕ) → Type 0
+WithAnswers BadPlace old new denied range joined name value =
+    (range_in old.state.trees range ≡ None) × (is_denied denied name ≡ false) × (new ≡ old)
+WithAnswers Memory old new denied range joined name value = new ≡ old
+WithAnswers status old new denied range joined name value =
+    MatchOption (range_in old.state.trees range)
+    ((status ≡ No) × (is_denied denied name ≡ true) × (new ≡ old))
+    (λ at. ExecAnswers status old new (outcome_with denied at joined old name value))
+
+abbrev pub WithTells : Status → Editing → Editing → Option Pair → (joined : Bool)
+    → (denied name value : List ℕ) → Type 0
+WithTells BadArgument old new range joined denied name value =
+    ((denied_by denied ≡ None) ⊎ ¬ (IsUtf8 name × IsUtf8 value)) × (new ≡ old)
+WithTells Memory old new range joined denied name value = new ≡ old
+WithTells status old new range joined denied name value =
+    IsUtf8 name × IsUtf8 value × IsSomeAnd (denied_by denied) (λ names.
+    WithAnswers status old new names range joined name (chars value))
 
 -- ---- the history
 
@@ -201,9 +242,6 @@ MarkTells status old new name found = ⊥
 abbrev pub pair_there : Editing → (anchor focus : Place) → Option Pair
 pair_there e anchor focus = pair_at e.state.trees anchor focus
 
-abbrev pub point : (label offset : ℕ) → Point
-point label offset = record { label = label; offset = offset }
-
 abbrev pub pair_of_points : Editing → (anchor focus : Point) → Option Pair
 pair_of_points e anchor focus = placed_pair e.state.trees anchor focus
 
@@ -217,14 +255,14 @@ UnmarkTells status old new name = ⊥
 
 -- ---- replacements
 
--- the status of what a replacement answers
-abbrev pub replaced_status : Result Answer ReplaceFault → Status
-replaced_status (Ok answer.Yes) = Done
-replaced_status (Ok answer.No) = No
-replaced_status (Err replace_fault.BadPlace) = BadPlace
-replaced_status (Err replace_fault.Full) = Full
-replaced_status (Err replace_fault.Deep) = Deep
-replaced_status (Err replace_fault.Memory) = Memory
+-- the status of what a call answers that may be told a range
+abbrev pub ranged_status : Result Answer RangeFault → Status
+ranged_status (Ok answer.Yes) = Done
+ranged_status (Ok answer.No) = No
+ranged_status (Err range_fault.BadPlace) = BadPlace
+ranged_status (Err range_fault.Full) = Full
+ranged_status (Err range_fault.Deep) = Deep
+ranged_status (Err range_fault.Memory) = Memory
 
 -- the text stands in the place of the pair, where there is one
 abbrev pub ReplaceAnswers : Status → Editing → Editing → Option Pair → (text : List ℕ) → Type 0

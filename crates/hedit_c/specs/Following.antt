@@ -1,5 +1,5 @@
 -- What a host that follows the document of a handle is told.
-use Rattle.std.specs.Prelude.{◌≡◌, ℕ, ◌<◌, List, Option, Some, None}
+use Rattle.std.specs.Prelude.{◌≡◌, ℕ, ◌<◌, List, Option, Some}
 use Rattle.packed_edits.specs.Packed.{packed}
 use Rattle.edit_engine.specs.Changes.{CanFollow, changes_of}
 use Rattle.edit_engine.specs.Editing.{EditorValue, document}
@@ -22,11 +22,6 @@ StaysFollowed old new = Between old new CanFollow
 -- the call changes nothing that a host could follow
 abbrev pub KeepsFollowing : EditorValue → EditorValue → Type 0
 KeepsFollowing old new = new.following ≡ old.following
-
--- nor does a command that isn't done
-abbrev pub KeepsUnlessDone : Status → EditorValue → EditorValue → Type 0
-KeepsUnlessDone Done old new = Unit {0}
-KeepsUnlessDone _ old new = KeepsFollowing old new
 
 -- a new editor has changed nothing yet
 abbrev pub BeginsFollowing : EditorValue → Type 0

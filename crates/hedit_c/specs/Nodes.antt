@@ -1,6 +1,6 @@
 -- What C is told of the nodes of an editor's document, of its selection, and of its numbers.
 use Rattle.std.specs.Prelude.{◌≡◌, ℕ, ◌<◌, List, [], length, encode_utf8_all, slice_get, Option, Some, None, IsSome, unwrap_or}
-use Rattle.std.specs.Option.{option_map_or, option_and_then, IsSomeAnd}
+use Rattle.std.specs.Option.{option_map_or, IsSomeAnd}
 use Rattle.edit_model.specs.DomModel.declared.Content.{Content}
 use Rattle.edit_model.specs.DomModel.declared.Content.TheVariants.{Document, Element, Words, Remark}
 use Rattle.edit_model.specs.DomModel.declared.attributes.Attribute.{Attribute}
@@ -16,7 +16,7 @@ use Rattle.hedit_c.specs.declared.editor.nodes.NodeFacts.{NodeFacts}
 use Rattle.hedit_c.specs.declared.editor.nodes.SelectionFacts.{SelectionFacts}
 use Rattle.hedit_c.specs.declared.editor.nodes.NumberFacts.{NumberFacts}
 use Rattle.hedit_c.specs.declared.editor.status.Status.{Status}
-use Rattle.hedit_c.specs.declared.editor.status.Status.TheVariants.{Done, No, Memory, TooSmall, BadPlace}
+use Rattle.hedit_c.specs.declared.editor.status.Status.TheVariants.{Done, No, Memory, BadPlace}
 
 -- ---- a node, by its label
 

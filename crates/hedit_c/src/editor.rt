@@ -3,43 +3,45 @@
 //! C may pass what it likes, so no export requires anything but what its types say: an argument
 //! without a meaning has a status of its own, and so has a handle without an editor.
 
-ghost use Rattle.std.specs.Prelude.{◌≡◌, None, IfSome, true, false};
+ghost use Rattle.std.specs.Prelude.{◌≡◌, nat_lt, length, None, Some, IfSome, true, false};
 ghost use Rattle.std.specs.Option.{option_map};
+ghost use Rattle.std.specs.Str.{chars};
 ghost use Rattle.edit_engine.specs.Editing.{undone, redone};
-ghost use Rattle.edit_engine.specs.Places.{unselecting};
-ghost use Rattle.hedit_c.specs.Calls.{editing_of, Leaves, Asks, Answers, Opens, ExecTells, GatedTells, QueryTells, ViewTells, SelectTells, SelectPointsTell, MarkTells, UnmarkTells, ReplaceTells, pair_there, pair_of_points, place, point, taken_status, unselect_status};
-ghost use Rattle.hedit_c.specs.Following.{Between, StaysFollowed, BeginsFollowing, KeepsFollowing, KeepsUnlessDone, ChangesTell, KeptTells, RevisionTells};
-ghost use Rattle.node_texts.specs.NodeHtml.{node_html};
-ghost use Rattle.hedit_c.specs.Nodes.{NodeTells, LabelTells, PathTells, value_text, NameTells, TextTells, attribute_value, AttributeNameTells, AttributeTells, SelectionTells, MarkNameTells, MarkRangeTells, NumbersTell};
+ghost use Rattle.edit_engine.specs.Following.{after_undo, after_redo};
+ghost use Rattle.edit_engine.specs.Places.{pair_from, unselecting};
+ghost use Rattle.edit_engine.specs.Promises.{ExecPromises};
+ghost use Rattle.edit_model.specs.HtmlNames.Commands.{command_named};
+ghost use Rattle.edit_model.specs.HtmlNames.declared.commands.Command.TheVariants.{InsertText};
+ghost use Rattle.hedit_c.specs.Calls.{editing_of, Leaves, Asks, Answers, Opens, ExecTells, GatedTells, QueryTells, ViewTells, SelectTells, SelectPointsTell, MarkTells, UnmarkTells, ReplaceTells, WithTells, is_done, is_set, pair_there, pair_of_points, place, point, range_of, taken_status, unselect_status};
+ghost use Rattle.hedit_c.specs.Following.{Between, StaysFollowed, BeginsFollowing, KeepsFollowing, ChangesTell, KeptTells, RevisionTells};
+ghost use Rattle.hedit_c.specs.Nodes.{SelectionTells, MarkNameTells, MarkRangeTells, NumbersTell};
 ghost use Rattle.hedit_c.specs.Statuses.{number_of};
-ghost use Rattle.hedit_c.specs.Subtrees.{SubtreeTells, FindTells, SelectedTells, plain_bytes, html_selected, text_selected};
+ghost use Rattle.hedit_c.specs.Subtrees.{SelectedTells, html_selected, text_selected};
 
 mod acts;
 mod answers;
 mod following;
-mod handle;
-mod nodes;
+pub(crate) mod handle;
+pub(crate) mod nodes;
 mod opening;
 mod raw_box;
 pub(crate) mod status;
-mod subtrees;
+pub(crate) mod subtrees;
 mod texts;
 
 use acts::{
-    exec, exec_gated, mark, mark_points, redo, replace, select, select_points, undo, unmark,
+    CommandOptions, exec, exec_gated, exec_with, mark, mark_points, redo, replace, select,
+    select_points, undo, unmark,
 };
 use answers::{query, view};
 use following::{changes, is_kept, revision};
 use handle::Handle;
 use inline_value::doc::Point;
-use nodes::{
-    NodeFacts, NumberFacts, SelectionFacts, attribute_name, attribute_value, label_at, mark_name,
-    mark_range, node, node_name, node_value, numbers, path_of, selection,
-};
+use nodes::{NumberFacts, SelectionFacts, mark_name, mark_range, numbers, selection};
 use opening::{Refusal, open};
 use status::Status;
 use std::alloc::Global;
-use subtrees::{PointFacts, find, node_html, node_text, selection_html, selection_text};
+use subtrees::{selection_html, selection_text};
 
 /// Opens a page, and closes what the handle held before.
 ///
@@ -81,8 +83,9 @@ pub extern "C" fn hedit_close(alloc: Global, editor: &mut Handle)
 pub extern "C" fn hedit_exec(alloc: Global, editor: &mut Handle, name: &[u8], value: &[u8]) -> u32
     ensures told { Leaves result (editing_of editor.old.value) (editing_of editor.new.value)
         (λ status old new. ExecTells false status old new name.now value.now) }
-    ensures followed { StaysFollowed editor.old.value editor.new.value }
-    ensures quiet { Leaves result editor.old.value editor.new.value KeepsUnlessDone }
+    ensures promises { Leaves result editor.old.value editor.new.value
+        (λ status old new. ExecPromises (is_done status) None false (command_named name.now)
+        (chars value.now) old new) }
 {
     let Some(mut held) = editor.take(alloc) else {
         return Status::Closed.number();
@@ -104,8 +107,9 @@ pub extern "C" fn hedit_exec_joined(
 ) -> u32
     ensures told { Leaves result (editing_of editor.old.value) (editing_of editor.new.value)
         (λ status old new. ExecTells true status old new name.now value.now) }
-    ensures followed { StaysFollowed editor.old.value editor.new.value }
-    ensures quiet { Leaves result editor.old.value editor.new.value KeepsUnlessDone }
+    ensures promises { Leaves result editor.old.value editor.new.value
+        (λ status old new. ExecPromises (is_done status) None true (command_named name.now)
+        (chars value.now) old new) }
 {
     let Some(mut held) = editor.take(alloc) else {
         return Status::Closed.number();
@@ -130,8 +134,10 @@ pub extern "C" fn hedit_replace(
     ensures told { Leaves result (editing_of editor.old.value) (editing_of editor.new.value)
         (λ status old new. ReplaceTells status old new (pair_of_points old
         (point anchor anchor_offset) (point focus focus_offset)) text.now) }
-    ensures followed { StaysFollowed editor.old.value editor.new.value }
-    ensures quiet { Leaves result editor.old.value editor.new.value KeepsUnlessDone }
+    ensures promises { Leaves result editor.old.value editor.new.value
+        (λ status old new. ExecPromises (is_done status)
+        (Some (pair_from (point anchor anchor_offset) (point focus focus_offset))) false
+        (Some InsertText) (chars text.now) old new) }
 {
     let Some(mut held) = editor.take(alloc) else {
         return Status::Closed.number();
@@ -160,13 +166,41 @@ pub extern "C" fn hedit_exec_gated(
 ) -> u32
     ensures told { Leaves result (editing_of editor.old.value) (editing_of editor.new.value)
         (λ status old new. GatedTells status old new denied.now name.now value.now) }
-    ensures followed { StaysFollowed editor.old.value editor.new.value }
-    ensures quiet { Leaves result editor.old.value editor.new.value KeepsUnlessDone }
+    ensures promises { Leaves result editor.old.value editor.new.value
+        (λ status old new. ExecPromises (is_done status) None false (command_named name.now)
+        (chars value.now) old new) }
 {
     let Some(mut held) = editor.take(alloc) else {
         return Status::Closed.number();
     };
     let status = exec_gated(alloc, &mut held, denied, name, value);
+    editor.put(held);
+    status.number()
+}
+
+/// Executes a command as `hedit_exec_gated` does, with options: on what is between two points, which
+/// the command selects first, in place of the selection, and as `hedit_exec_joined` does or not. The
+/// calls above are cases of it. The selection is left where the command leaves it.
+#[unsafe(no_mangle)]
+pub extern "C" fn hedit_exec_with(
+    alloc: Global,
+    editor: &mut Handle,
+    options: &CommandOptions,
+    denied: &[u8],
+    name: &[u8],
+    value: &[u8],
+) -> u32
+    ensures told { Leaves result (editing_of editor.old.value) (editing_of editor.new.value)
+        (λ status old new. WithTells status old new (range_of options.now)
+        (is_set options.now.joined) denied.now name.now value.now) }
+    ensures promises { Leaves result editor.old.value editor.new.value
+        (λ status old new. ExecPromises (is_done status) (range_of options.now)
+        (is_set options.now.joined) (command_named name.now) (chars value.now) old new) }
+{
+    let Some(mut held) = editor.take(alloc) else {
+        return Status::Closed.number();
+    };
+    let status = exec_with(alloc, &mut held, options, denied, name, value);
     editor.put(held);
     status.number()
 }
@@ -178,6 +212,9 @@ pub extern "C" fn hedit_undo(alloc: Global, editor: &mut Handle) -> u32
         ≡ number_of (taken_status (editing_of editor.old.value) (λ e. e.history.undo)) }
     ensures undone { editing_of editor.new.value ≡ option_map undone (editing_of editor.old.value) }
     ensures followed { StaysFollowed editor.old.value editor.new.value }
+    ensures following { Between editor.old.value editor.new.value
+        (λ old new. new.following
+        ≡ after_undo (nat_lt 0 (length old.editing.history.undo)) old.following) }
 {
     let Some(mut held) = editor.take(alloc) else {
         return Status::Closed.number();
@@ -194,6 +231,9 @@ pub extern "C" fn hedit_redo(alloc: Global, editor: &mut Handle) -> u32
         ≡ number_of (taken_status (editing_of editor.old.value) (λ e. e.history.redo)) }
     ensures redone { editing_of editor.new.value ≡ option_map redone (editing_of editor.old.value) }
     ensures followed { StaysFollowed editor.old.value editor.new.value }
+    ensures following { Between editor.old.value editor.new.value
+        (λ old new. new.following
+        ≡ after_redo (nat_lt 0 (length old.editing.history.redo)) old.following) }
 {
     let Some(mut held) = editor.take(alloc) else {
         return Status::Closed.number();
@@ -445,225 +485,6 @@ pub extern "C" fn hedit_is_kept(alloc: Global, editor: &mut Handle, label: u32) 
         return Status::Closed.number();
     };
     let status = is_kept(&held, label);
-    editor.put(held);
-    status.number()
-}
-
-/// What the node of a label is, and the labels of the nodes beside it.
-#[unsafe(no_mangle)]
-pub extern "C" fn hedit_node(
-    alloc: Global,
-    editor: &mut Handle,
-    label: u32,
-    facts: &mut NodeFacts,
-) -> u32
-    ensures stays { editor.new.value ≡ editor.old.value }
-    ensures told { Asks result (editing_of editor.old.value) facts.old facts.new
-        (λ status e. NodeTells status e label facts.old facts.new) }
-{
-    let Some(held) = editor.take(alloc) else {
-        return Status::Closed.number();
-    };
-    let status = node(&held, label, facts);
-    editor.put(held);
-    status.number()
-}
-
-/// The label of the node at a path.
-#[unsafe(no_mangle)]
-pub extern "C" fn hedit_label_at(
-    alloc: Global,
-    editor: &mut Handle,
-    path: &[u32],
-    label: &mut u32,
-) -> u32
-    ensures stays { editor.new.value ≡ editor.old.value }
-    ensures told { Asks result (editing_of editor.old.value) label.old label.new
-        (λ status e. LabelTells status e path.now label.old label.new) }
-{
-    let Some(held) = editor.take(alloc) else {
-        return Status::Closed.number();
-    };
-    let status = label_at(alloc, &held, path, label);
-    editor.put(held);
-    status.number()
-}
-
-/// Puts the path of the node of a label into the buffer.
-#[unsafe(no_mangle)]
-pub extern "C" fn hedit_path_of(
-    alloc: Global,
-    editor: &mut Handle,
-    label: u32,
-    buffer: &mut [u32],
-    length: &mut usize,
-) -> u32
-    ensures stays { editor.new.value ≡ editor.old.value }
-    ensures told { Asks result (editing_of editor.old.value) buffer.old buffer.new
-        (λ status e. PathTells status e label buffer.old buffer.new length.new) }
-{
-    let Some(held) = editor.take(alloc) else {
-        return Status::Closed.number();
-    };
-    let status = path_of(alloc, &held, label, buffer, length);
-    editor.put(held);
-    status.number()
-}
-
-/// Puts the name of an element into the buffer; another node has an empty one.
-#[unsafe(no_mangle)]
-pub extern "C" fn hedit_node_name(
-    alloc: Global,
-    editor: &mut Handle,
-    label: u32,
-    buffer: &mut [u8],
-    length: &mut usize,
-) -> u32
-    ensures stays { editor.new.value ≡ editor.old.value }
-    ensures told { Asks result (editing_of editor.old.value) buffer.old buffer.new
-        (λ status e. NameTells status e label buffer.old buffer.new length.new) }
-{
-    let Some(held) = editor.take(alloc) else {
-        return Status::Closed.number();
-    };
-    let status = node_name(&held, label, buffer, length);
-    editor.put(held);
-    status.number()
-}
-
-/// Puts the characters of a text or a comment into the buffer; another node has none.
-#[unsafe(no_mangle)]
-pub extern "C" fn hedit_node_value(
-    alloc: Global,
-    editor: &mut Handle,
-    label: u32,
-    buffer: &mut [u8],
-    length: &mut usize,
-) -> u32
-    ensures stays { editor.new.value ≡ editor.old.value }
-    ensures told { Asks result (editing_of editor.old.value) buffer.old buffer.new
-        (λ status e. TextTells value_text status e label buffer.old buffer.new length.new) }
-{
-    let Some(held) = editor.take(alloc) else {
-        return Status::Closed.number();
-    };
-    let status = node_value(alloc, &held, label, buffer, length);
-    editor.put(held);
-    status.number()
-}
-
-/// Puts the name of an attribute into the buffer, the one at a place of the list of a node. The
-/// answer is false where there are no more.
-#[unsafe(no_mangle)]
-pub extern "C" fn hedit_attribute_name(
-    alloc: Global,
-    editor: &mut Handle,
-    label: u32,
-    place: usize,
-    buffer: &mut [u8],
-    length: &mut usize,
-) -> u32
-    ensures stays { editor.new.value ≡ editor.old.value }
-    ensures told { Asks result (editing_of editor.old.value) buffer.old buffer.new
-        (λ status e. AttributeNameTells status e label place
-        buffer.old buffer.new length.new) }
-{
-    let Some(held) = editor.take(alloc) else {
-        return Status::Closed.number();
-    };
-    let status = attribute_name(&held, label, place, buffer, length);
-    editor.put(held);
-    status.number()
-}
-
-/// Puts the value of an attribute into the buffer, the one at a place of the list of a node. The
-/// answer is false where there are no more.
-#[unsafe(no_mangle)]
-pub extern "C" fn hedit_attribute_value(
-    alloc: Global,
-    editor: &mut Handle,
-    label: u32,
-    place: usize,
-    buffer: &mut [u8],
-    length: &mut usize,
-) -> u32
-    ensures stays { editor.new.value ≡ editor.old.value }
-    ensures told { Asks result (editing_of editor.old.value) buffer.old buffer.new
-        (λ status e. AttributeTells attribute_value status e label place
-        buffer.old buffer.new length.new) }
-{
-    let Some(held) = editor.take(alloc) else {
-        return Status::Closed.number();
-    };
-    let status = attribute_value(alloc, &held, label, place, buffer, length);
-    editor.put(held);
-    status.number()
-}
-
-/// Puts the HTML of a node with all that stands below it into the buffer; that of the document is
-/// the HTML of its children.
-#[unsafe(no_mangle)]
-pub extern "C" fn hedit_node_html(
-    alloc: Global,
-    editor: &mut Handle,
-    label: u32,
-    buffer: &mut [u8],
-    length: &mut usize,
-) -> u32
-    ensures stays { editor.new.value ≡ editor.old.value }
-    ensures told { Asks result (editing_of editor.old.value) buffer.old buffer.new
-        (λ status e. SubtreeTells node_html status e label buffer.old buffer.new length.new) }
-{
-    let Some(held) = editor.take(alloc) else {
-        return Status::Closed.number();
-    };
-    let status = node_html(alloc, &held, label, buffer, length);
-    editor.put(held);
-    status.number()
-}
-
-/// Puts the plain text of a node with all that stands below it into the buffer: the characters of
-/// its texts, a line feed for each br, and a line feed where a block begins or ends between two of
-/// these, unless the first one is a line feed.
-#[unsafe(no_mangle)]
-pub extern "C" fn hedit_node_text(
-    alloc: Global,
-    editor: &mut Handle,
-    label: u32,
-    buffer: &mut [u8],
-    length: &mut usize,
-) -> u32
-    ensures stays { editor.new.value ≡ editor.old.value }
-    ensures told { Asks result (editing_of editor.old.value) buffer.old buffer.new
-        (λ status e. SubtreeTells plain_bytes status e label buffer.old buffer.new length.new) }
-{
-    let Some(held) = editor.take(alloc) else {
-        return Status::Closed.number();
-    };
-    let status = node_text(alloc, &held, label, buffer, length);
-    editor.put(held);
-    status.number()
-}
-
-/// Puts the points at which the characters of a text in UTF-8 occur in the texts of a node and of all
-/// that stands below it into the buffer, in tree order, none overlapping.
-#[unsafe(no_mangle)]
-pub extern "C" fn hedit_find(
-    alloc: Global,
-    editor: &mut Handle,
-    label: u32,
-    text: &[u8],
-    buffer: &mut [PointFacts],
-    count: &mut usize,
-) -> u32
-    ensures stays { editor.new.value ≡ editor.old.value }
-    ensures told { Asks result (editing_of editor.old.value) buffer.old buffer.new
-        (λ status e. FindTells status e label text.now buffer.old buffer.new count.new) }
-{
-    let Some(held) = editor.take(alloc) else {
-        return Status::Closed.number();
-    };
-    let status = find(alloc, &held, label, text, buffer, count);
     editor.put(held);
     status.number()
 }

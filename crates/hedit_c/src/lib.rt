@@ -5,4 +5,5 @@
 #![tactic(auto)]
 
 mod editor;
+mod reading;
 mod session;

@@ -52,7 +52,7 @@ use Rattle.edit_engine.proofs.Seeing.{path_inside, in_document, placed_by}
 use Rattle.edit_session.specs.Replies.{replied, select_reply, is_crowded, mark_reply, exec_reply, undo_reply, redo_reply, act_reply, read_reply, line_reply}
 use Rattle.replay_laws.specs.Sessions.{after_lines, IsOfSession}
 use Rattle.replay_laws.proofs.Leaving.{run_leaves}
-use Rattle.replay_laws.proofs.Still.{stays_alone}
+use Rattle.edit_engine.proofs.Still.{stays_alone}
 use Rattle.replay_laws.proofs.Tracking.{IsTracked, tracked_stopped, tracked_undone, tracked_redone, tracked_run}
 
 -- ---- points

@@ -1,5 +1,4 @@
 pub mod Leaving
-pub mod Still
 pub mod Entries
 pub mod Tracking
 pub mod Acts

@@ -7,22 +7,22 @@
         editor.exec("bold")
         print(editor.html())
 
-A place is a path and an offset: the index of a child in each node on the way from the document
-down, and a count of characters in a text, or of children in an element. A point is the label of a
-node in place of its path: a number that the node keeps for as long as the editor is open. The
-document's label is 0, and from there `children` leads to the others:
+A place is a path and an offset. The path has the index of a child in each node, from the document
+down. The offset counts characters in a text node, and children in an element. A point has the label
+of a node instead of the path: a number that the node keeps as long as the editor is open. The
+document has 0, and `children` leads to the others:
 
     def show(editor: Editor, label: int = 0) -> None:
         print(editor.node(label).kind.name, editor.node_name(label), editor.node_value(label))
         for child in editor.children(label):
             show(editor, child)
 
-A call that is refused raises a HeditError, with a class of its own for each cause, and leaves the
-editor as it was. An editor belongs to the thread that made it.
+A refused call raises a HeditError, with a class of its own for each cause, and leaves the editor as
+it was. An editor belongs to the thread that made it.
 
-The engine is a shared library, which is loaded when it is first needed: the one that the
-environment variable HEDIT_LIBRARY names, else the one in this package, else the one that
-bin/release has left in the repository, else the one that the system finds.
+The engine is a shared library. It is loaded when it is first needed, from the path in the environment
+variable HEDIT_LIBRARY, or else from this package, from the files that bin/release made in the
+repository, or by the system.
 """
 from ._changes import AttributesSet, Change, Inserted, Moved, Removed, Replaced, TreeNode
 from ._editor import Editor, Place, Question, View, session

@@ -1,4 +1,4 @@
-"""What a call changed in the document: edits by the labels of nodes, in their order."""
+"""The changes of the document by a call, by the labels of nodes."""
 import struct
 from dataclasses import dataclass
 from typing import TypeAlias
@@ -11,9 +11,8 @@ NUMBER = struct.Struct("<Q")
 
 @dataclass(frozen=True, slots=True)
 class TreeNode:
-    """A node of a tree that comes into the document: how many levels it stands below the root of the
-    tree, its label and its content. An element has a name and attributes, a text and a comment have
-    a value."""
+    """A node of an inserted tree, with its level below the root of the tree. An element has a name and
+    attributes, a text node and a comment have a value."""
 
     level: int
     label: int
@@ -25,14 +24,14 @@ class TreeNode:
 
 @dataclass(frozen=True, slots=True)
 class Removed:
-    """A node went, with its tree."""
+    """A node is removed, with its tree."""
 
     label: int
 
 
 @dataclass(frozen=True, slots=True)
 class Inserted:
-    """A tree came, told by its nodes in tree order, before a child of the parent, or at its end."""
+    """A tree is inserted before a child of the parent, or at its end. Its nodes are in tree order."""
 
     tree: tuple[TreeNode, ...]
     parent: int
@@ -41,7 +40,7 @@ class Inserted:
 
 @dataclass(frozen=True, slots=True)
 class Moved:
-    """A node went to another place, with its tree."""
+    """A node is moved, with its tree."""
 
     label: int
     parent: int
@@ -50,7 +49,7 @@ class Moved:
 
 @dataclass(frozen=True, slots=True)
 class Replaced:
-    """Of the characters of a text or a comment, `taken` from the offset `at` on gave way to others."""
+    """In a text node or a comment, `put` replaces `taken` characters from the offset `at` on."""
 
     label: int
     at: int
@@ -60,7 +59,7 @@ class Replaced:
 
 @dataclass(frozen=True, slots=True)
 class AttributesSet:
-    """An element was given another list of attributes."""
+    """An element has another list of attributes."""
 
     label: int
     attributes: dict[str, str]
@@ -70,8 +69,8 @@ Change: TypeAlias = Removed | Inserted | Moved | Replaced | AttributesSet
 
 
 class Reader:
-    """Reads changes as the library packs them: numbers of eight bytes, the lowest first, and texts
-    after the count of their bytes."""
+    """Reads packed changes: numbers of eight bytes, the lowest first, and texts after the count of
+    their bytes."""
 
     def __init__(self, data: bytes) -> None:
         self._data = data
@@ -121,10 +120,10 @@ class Reader:
             case 5:
                 return AttributesSet(self._number(), self._attributes())
             case kind:
-                raise ValueError(f"no change has the number {kind}")
+                raise ValueError(f"unknown change {kind}")
 
     def changes(self) -> list[Change]:
-        """All changes, in their order."""
+        """Returns all changes, in their order."""
         found = []
         while self._at < len(self._data):
             found.append(self._change())
@@ -132,5 +131,5 @@ class Reader:
 
 
 def read_changes(data: bytes) -> list[Change]:
-    """The changes that bytes of the library tell."""
+    """Returns the changes that the library packed into bytes."""
     return Reader(data).changes()

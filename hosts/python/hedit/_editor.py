@@ -24,6 +24,7 @@ from ._library import (
     LENGTH,
     NO_NODE,
     NUMBER,
+    ExecOptions,
     Handle,
     NodeFacts,
     NumberFacts,
@@ -41,7 +42,7 @@ MOST_LENGTH = 2 ** (8 * ctypes.sizeof(LENGTH)) - 1
 
 
 class Question(IntEnum):
-    """What can be asked of a command."""
+    """The queries about a command."""
 
     SUPPORTED = 0
     ENABLED = 1
@@ -51,7 +52,7 @@ class Question(IntEnum):
 
 
 class View(IntEnum):
-    """What is printed of an editor."""
+    """The views of an editor."""
 
     HTML = 0
     TREE = 1
@@ -60,8 +61,8 @@ class View(IntEnum):
 
 
 class Own(threading.local):
-    """What a thread has for itself: the open editors that the collector found in another thread,
-    which may not close them."""
+    """The open editors of a thread that the collector found in another thread, which may not close
+    them."""
 
     def __init__(self) -> None:
         self.found: SimpleQueue[Handle] = SimpleQueue()
@@ -71,7 +72,7 @@ OWN = Own()
 
 
 def text_words(text: str | bytes) -> tuple[bytes, int]:
-    """A text as a pointer and a length."""
+    """Returns a text as a pointer and a length."""
     if isinstance(text, str):
         text = text.encode()
     elif not isinstance(text, bytes):
@@ -80,7 +81,7 @@ def text_words(text: str | bytes) -> tuple[bytes, int]:
 
 
 def place_number(value: SupportsIndex) -> int:
-    """A number of a place: a step of a path, a label or an offset."""
+    """Returns a number of a place: an index of a path, a label or an offset."""
     number = operator.index(value)
     if not 0 <= number <= MOST_NUMBER:
         raise BadPlace
@@ -88,20 +89,20 @@ def place_number(value: SupportsIndex) -> int:
 
 
 def path_words(path: Sequence[int]) -> tuple["ctypes.Array[ctypes.c_uint32]", int]:
-    """A path as an array and its length. An empty path has an array too, since no pointer may be
-    null."""
+    """Returns a path as an array and its length. An empty path has an array too, since no pointer may
+    be null."""
     steps = [place_number(step) for step in path]
     return (NUMBER * max(1, len(steps)))(*steps), len(steps)
 
 
 def place_words(place: Place) -> tuple["ctypes.Array[ctypes.c_uint32]", int, int]:
-    """A place as the array of its path, the array's length and the offset."""
+    """Returns a place as the array of its path, the length of the array and the offset."""
     path, offset = place
     return *path_words(path), place_number(offset)
 
 
 def names_words(names: Iterable[str]) -> tuple[bytes, int]:
-    """Names of commands as a text with a comma between, which without names is empty."""
+    """Returns names of commands as a text, separated by commas."""
     if isinstance(names, (str, bytes)):
         raise TypeError(f"the names are several texts, and not one {type(names).__name__}")
     each = list(names)
@@ -111,17 +112,17 @@ def names_words(names: Iterable[str]) -> tuple[bytes, int]:
 
 
 def node_there(label: int) -> int | None:
-    """A label that the library gives, where a node is there."""
+    """Returns a label, or None if it means that there isn't a node."""
     return None if label == NO_NODE else label
 
 
 def selection_of(facts: SelectionFacts) -> Selection:
-    """The points that the library gives."""
+    """Returns the points of a selection or a marker."""
     return Selection(Point(facts.anchor, facts.anchor_offset), Point(facts.focus, facts.focus_offset))
 
 
 def limit(name: str, value: SupportsIndex, most: int) -> int:
-    """A limit, which is at least 1."""
+    """Returns a limit, which is at least 1."""
     number = operator.index(value)
     if not 1 <= number <= most:
         raise BadArgument(f"{name} is {number}, and not from 1 to {most}")
@@ -129,8 +130,8 @@ def limit(name: str, value: SupportsIndex, most: int) -> int:
 
 
 def read_text(call: Callable[..., int], capacity: int) -> tuple[int, bytes]:
-    """The status and the text of a call that takes a buffer: it is called again where the text is
-    longer than the capacity."""
+    """Returns the status and the text of a call that takes a buffer. If the text is longer than the
+    capacity, it calls again."""
     while True:
         buffer, length = ctypes.create_string_buffer(capacity), LENGTH(0)
         status = call(buffer, capacity, ctypes.byref(length))
@@ -140,8 +141,8 @@ def read_text(call: Callable[..., int], capacity: int) -> tuple[int, bytes]:
 
 
 def read_items(call: Callable[..., int], item: Any, capacity: int) -> tuple[int, list[Any]]:
-    """The status and the items of a call that takes an array of so many: it is called again where
-    there are more of them."""
+    """Returns the status and the items of a call that takes an array. If there are more than the
+    capacity, it calls again."""
     while True:
         array, count = (item * capacity)(), LENGTH(0)
         status = call(array, capacity, ctypes.byref(count))
@@ -151,8 +152,8 @@ def read_items(call: Callable[..., int], item: Any, capacity: int) -> tuple[int,
 
 
 class Editor:
-    """An editor of a page. It is closed at the end of a `with`, or by close(). Its calls come from
-    the thread that made it."""
+    """An editor of a page. Close it by `with` or `close`. It refuses calls from other threads than the
+    one that made it."""
 
     # Closed, until an editor has one of its own.
     _handle = Handle(None)
@@ -163,7 +164,7 @@ class Editor:
         label_cap: SupportsIndex = 2_000_000,
         undo_depth: SupportsIndex = 100,
     ) -> None:
-        """Opens a page. No node gets a number from label_cap on, and undo_depth commands can be
+        """Opens a page. No node gets a label from `label_cap` on, and `undo_depth` commands can be
         undone."""
         text, length = text_words(page)
         cap = limit("label_cap", label_cap, MOST_NUMBER)
@@ -173,7 +174,7 @@ class Editor:
         while not self._found.empty():
             self._library.hedit_close(self._found.get())
         self._handle = Handle(None)
-        # How long the text of each view was when it was last printed.
+        # The length of each view when it was last printed.
         self._lengths = {View.HTML: length}
         refusal = Refusal(0, 0)
         status = self._call("hedit_open", text, length, cap, depth, ctypes.byref(refusal))
@@ -202,48 +203,63 @@ class Editor:
         raise TypeError("an editor can't be copied or pickled")
 
     def _call(self, name: str, *words: object) -> int:
-        """The status of a call of the library on this editor."""
+        """Returns the status of a call of the library on this editor."""
         if OWN.found is not self._found:
             raise WrongThread
         status: int = getattr(self._library, name)(self._handle, *words)
         return status
 
     def close(self) -> None:
-        """Frees the editor's memory. Each other call is refused from then on."""
+        """Frees the editor's memory. Later calls are refused."""
         self._call("hedit_close")
 
-    def exec(self, name: str | bytes, value: str | bytes = "", denied: Iterable[str] = ()) -> bool:
-        """Executes a command by its name, in any case. False where it isn't possible here, refuses
-        the value, or is denied: `denied` has up to 16 names of commands. What a command does inside
-        itself isn't asked for."""
+    def exec(
+        self,
+        name: str | bytes,
+        value: str | bytes = "",
+        denied: Iterable[str] = (),
+        *,
+        range: tuple[Place | Point, Place | Point] | None = None,
+        joined: bool = False,
+    ) -> bool:
+        """Executes a command by its name, in any case. Returns False if it isn't enabled, refuses the
+        value, or is one of the up to 16 names in `denied`. Commands that a command executes inside
+        itself aren't checked.
+
+        With a range, from an anchor to a focus, the command selects that first and works on it. The
+        selection is left where the command leaves it. The edits of a joined command are added to the
+        previous undo step, as by `exec_joined`."""
         names = names_words(denied)
         words = (*text_words(name), *text_words(value))
-        if names[1]:
-            return answer(self._call("hedit_exec_gated", *names, *words))
-        return answer(self._call("hedit_exec", *words))
+        if range is None and not names[1]:
+            return answer(self._call("hedit_exec_joined" if joined else "hedit_exec", *words))
+        options = ExecOptions(joined=joined)
+        if range is not None:
+            anchor, focus = (self._point(end) for end in range)
+            options = ExecOptions(joined, True, *anchor, *focus)
+        return answer(self._call("hedit_exec_with", ctypes.byref(options), *names, *words))
 
     def exec_joined(self, name: str | bytes, value: str | bytes = "") -> bool:
-        """Executes a command as `exec` does, as one step of undo with the last one, where a command
-        made that step and nothing has come between."""
+        """Executes a command like `exec`, but adds its edits to the previous undo step, if a command
+        made that step and nothing has intervened."""
         return answer(self._call("hedit_exec_joined", *text_words(name), *text_words(value)))
 
     def replace(self, anchor: Place | Point, focus: Place | Point, text: str | bytes) -> bool:
-        """Puts a text in place of what stands between two places or points: selects it and inserts
-        the text, as one command, which goes on with a run of typing. False where there is no editing
-        host."""
+        """Replaces the range between two places or points by a text, as one command, which continues
+        a run of typing. Returns False if they aren't in an editing host."""
         points = (*self._point(anchor), *self._point(focus))
         return answer(self._call("hedit_replace", *points, *text_words(text)))
 
     def undo(self) -> bool:
-        """Takes a step back. False where there is none."""
+        """Undoes one step. Returns False if there is none."""
         return answer(self._call("hedit_undo"))
 
     def redo(self) -> bool:
-        """Takes a step forth again. False where there is none."""
+        """Redoes one step. Returns False if there is none."""
         return answer(self._call("hedit_redo"))
 
     def _place_call(self, name: str, words: tuple[object, ...], anchor: Place | Point, focus: Place | Point) -> None:
-        """A call between two places, and where one of them is a point, its like between points."""
+        """Makes a call with two places, or its variant for points if one of them is a point."""
         places: tuple[object, ...]
         if isinstance(anchor, Point) or isinstance(focus, Point):
             name += "_points"
@@ -259,24 +275,24 @@ class Editor:
         return Point(self.label_at(path), place_number(offset))
 
     def select(self, anchor: Place | Point, focus: Place | Point | None = None) -> None:
-        """Selects from a place or a point to another, or puts the caret at one. Between points its
-        cost doesn't grow with the page."""
+        """Selects from one place or point to another, or sets the caret. With points, the cost doesn't
+        grow with the page."""
         self._place_call("hedit_select", (), anchor, anchor if focus is None else focus)
 
     def unselect(self) -> None:
-        """Gives the selection up."""
+        """Removes the selection."""
         answer(self._call("hedit_unselect"))
 
     def mark(self, name: str | bytes, anchor: Place | Point, focus: Place | Point) -> None:
-        """Gives a name to what is between two places or points."""
+        """Sets the marker of a name from one place or point to another."""
         self._place_call("hedit_mark", text_words(name), anchor, focus)
 
     def unmark(self, name: str | bytes) -> bool:
-        """Takes the mark of a name out. False where there is none."""
+        """Removes the marker of a name. Returns False if there is none."""
         return answer(self._call("hedit_unmark", *text_words(name)))
 
     def ask(self, question: Question, name: str | bytes) -> bool | str:
-        """What a command answers to a question: the value is a text, and the others are flags."""
+        """Answers a query about a command: the value as a text, the others as flags."""
         if question == Question.VALUE:
             return self.value(name)
         return self._ask(Question(question), name)[0]
@@ -289,29 +305,29 @@ class Editor:
         return flag.value == 1, text.decode()
 
     def supported(self, name: str | bytes) -> bool:
-        """Whether there is such a command."""
+        """Returns whether there is such a command."""
         return self._ask(Question.SUPPORTED, name)[0]
 
     def enabled(self, name: str | bytes) -> bool:
-        """Whether there is something for the command to work in."""
+        """Returns whether the command has an editing host to work in."""
         return self._ask(Question.ENABLED, name)[0]
 
     def indeterm(self, name: str | bytes) -> bool:
-        """Whether the command's state is so for a part of the selection only."""
+        """Returns whether only a part of the selection has it."""
         return self._ask(Question.INDETERM, name)[0]
 
     def state(self, name: str | bytes) -> bool:
-        """Whether the selection has it, as a toolbar's button shows it."""
+        """Returns whether the selection has it, for a button of a toolbar."""
         return self._ask(Question.STATE, name)[0]
 
     def value(self, name: str | bytes) -> str:
-        """The command's value: a font, a colour, the name of a block."""
+        """Returns the command's value: a font, a colour, the name of a block."""
         return self._ask(Question.VALUE, name)[1]
 
     def view(self, kind: View) -> str:
-        """What is printed of the editor, in whole lines."""
+        """Returns a view of the editor, as complete lines."""
         kind = View(kind)
-        # Room for what commands have made of it since, so that it is printed once.
+        # Enough capacity for what commands have added since, so that it is printed once.
         capacity = 4096 + self._lengths.get(kind, 0) * 5 // 4
         status, text = read_text(lambda *buffer: self._call("hedit_view", kind, *buffer), capacity)
         answer(status)
@@ -319,55 +335,55 @@ class Editor:
         return text.decode()
 
     def html(self) -> str:
-        """The page as HTML, with a line feed at the end."""
+        """Returns the document as HTML, with a line feed at the end."""
         return self.view(View.HTML)
 
     def tree(self) -> str:
-        """A line for each node."""
+        """Returns a line for each node."""
         return self.view(View.TREE)
 
     def points(self) -> str:
-        """The selection and the marks."""
+        """Returns the selection and the markers, as lines."""
         return self.view(View.POINTS)
 
     def numbers(self) -> str:
-        """The numbers of the page and of the history, as a line; counts() has them one by one."""
+        """Returns the counts of the document and of its history, as a line."""
         return self.view(View.NUMBERS)
 
     def counts(self) -> Counts:
-        """The numbers of the page and of the history."""
+        """Returns the counts of the document and of its history."""
         facts = NumberFacts()
         answer(self._call("hedit_numbers", ctypes.byref(facts)))
         return Counts(facts.nodes, facts.next_label, facts.chars, facts.edits, facts.undo, facts.redo)
 
     def revision(self) -> int:
-        """How many calls have changed the page. Where it is what it was before a
-        call, the call changed nothing."""
+        """Returns how many calls have changed the document. If it is the same as before a call, the
+        call changed nothing."""
         number = ctypes.c_uint64()
         answer(self._call("hedit_revision", ctypes.byref(number)))
         return number.value
 
     def changes(self) -> list[Change]:
-        """What the last call that changed something changed, from the first edit
-        to the last. A tree that was the page before that call, and follows them, is the page."""
+        """Returns the changes of the last call that changed something, from the first to the last. A
+        copy of the document before that call that applies them equals the document."""
         status, data = read_text(lambda *buffer: self._call("hedit_changes", *buffer), 256)
         answer(status)
         return read_changes(data)
 
     def is_kept(self, label: int) -> bool:
-        """Whether the node of a label is in the page, or may come back by `undo` or `redo`. A node that
-        went and isn't kept never comes back, so what is held of it can be forgotten."""
+        """Returns whether the node of a label is in the document, or may be restored by `undo` or
+        `redo`. A removed node that isn't kept is never restored, so you can forget it."""
         return answer(self._call("hedit_is_kept", place_number(label)))
 
     def selection(self) -> Selection | None:
-        """The points of the selection; None where nothing is selected."""
+        """Returns the points of the selection, or None if nothing is selected."""
         facts = SelectionFacts()
         if not answer(self._call("hedit_selection", ctypes.byref(facts))):
             return None
         return selection_of(facts)
 
     def marks(self) -> list[Mark]:
-        """The marks: a new one goes last, and one that is set anew keeps its place."""
+        """Returns the markers. A new one is last, and one that is set again keeps its index."""
         found: list[Mark] = []
         facts = SelectionFacts()
         while answer(self._call("hedit_mark_range", len(found), ctypes.byref(facts))):
@@ -383,28 +399,28 @@ class Editor:
             return name
 
     def selection_html(self) -> str | None:
-        """The HTML of what is selected, for the clipboard; None where nothing is selected."""
+        """Returns the selection as HTML, for the clipboard, or None if nothing is selected."""
         return self._text("hedit_selection_html", 4096)
 
     def selection_text(self) -> str | None:
-        """The plain text of what is selected, for the clipboard; None where nothing is selected."""
+        """Returns the selection as plain text, for the clipboard, or None if nothing is selected."""
         return self._text("hedit_selection_text", 4096)
 
     def label_at(self, path: Sequence[int]) -> int:
-        """The label of the node at a path. The document's is 0."""
+        """Returns the label of the node at a path. The document has 0."""
         label = NUMBER(0)
         answer(self._call("hedit_label_at", *path_words(path), ctypes.byref(label)))
         return label.value
 
     def path_of(self, label: int) -> list[int]:
-        """The path of the node of a label."""
+        """Returns the path of the node of a label."""
         number = place_number(label)
         status, path = read_items(lambda *buffer: self._call("hedit_path_of", number, *buffer), NUMBER, 32)
         answer(status)
         return path
 
     def node(self, label: int) -> Node:
-        """What the node of a label is."""
+        """Returns the node of a label."""
         facts = NodeFacts()
         number = place_number(label)
         answer(self._call("hedit_node", number, ctypes.byref(facts)))
@@ -420,8 +436,8 @@ class Editor:
         )
 
     def children(self, label: int) -> Iterator[int]:
-        """The labels of a node's children, from the first to the last. The one that is given last
-        may be removed meanwhile."""
+        """Yields the labels of a node's children, in order. You may remove the one that was yielded
+        last."""
         return self._from(self.node(label).first_child)
 
     def _from(self, label: int | None) -> Iterator[int]:
@@ -431,39 +447,38 @@ class Editor:
             label = following
 
     def _text(self, name: str, capacity: int, *words: object) -> str | None:
-        """The text of a call that takes a buffer; None where the answer is false."""
+        """Returns the text of a call that takes a buffer, or None if the answer is false."""
         status, text = read_text(lambda *buffer: self._call(name, *words, *buffer), capacity)
         return text.decode() if answer(status) else None
 
     def node_name(self, label: int) -> str:
-        """The name of an element, and an empty text for another node."""
+        """Returns the name of an element, and an empty text for another node."""
         return self._text("hedit_node_name", 64, place_number(label)) or ""
 
     def node_value(self, label: int) -> str:
-        """The characters of a text or a comment, and an empty text for another node."""
+        """Returns the characters of a text node or a comment, and an empty text for another node."""
         return self._text("hedit_node_value", 1024, place_number(label)) or ""
 
     def node_html(self, label: int) -> str:
-        """The HTML of a node with all that stands below it; that of the document is the HTML of its
-        children."""
+        """Returns the HTML of a node with its descendants; for the document, that of its children."""
         return self._text("hedit_node_html", 4096, place_number(label)) or ""
 
     def node_text(self, label: int) -> str:
-        """The plain text of a node with all that stands below it: the characters of its texts and a
-        line feed for each br. Where a block begins or ends between two of these, a line feed comes
-        between them, unless the first one is a line feed."""
+        """Returns the plain text of a node with its descendants: the characters of text nodes and a
+        line feed for each br. If a block begins or ends between two of these, a line feed is inserted,
+        unless the first one is a line feed."""
         return self._text("hedit_node_text", 4096, place_number(label)) or ""
 
     def find(self, text: str | bytes, label: int = 0) -> list[Point]:
-        """The points at which a text occurs in the texts of a node and of all that stands below it,
-        in tree order, none overlapping. Each occurrence stands in one text."""
+        """Returns the points at which a text occurs in a node and its descendants, in tree order,
+        without overlap. Each occurrence is in one text node."""
         words = (place_number(label), *text_words(text))
         status, points = read_items(lambda *buffer: self._call("hedit_find", *words, *buffer), PointFacts, 64)
         answer(status)
         return [Point(point.label, point.offset) for point in points]
 
     def attributes(self, label: int) -> dict[str, str]:
-        """The attributes of a node, in their order."""
+        """Returns the attributes of a node, in their order."""
         number = place_number(label)
         found: dict[str, str] = {}
         for place in itertools.count():
@@ -475,7 +490,7 @@ class Editor:
 
 
 def session(text: str | bytes, words: Iterable[str] = ("run",)) -> tuple[Status, bytes]:
-    """Runs a session of the program, as its command line has the words: the status and the
+    """Runs a session of the program with the arguments of a command line. Returns the status and the
     transcript."""
     data, length = text_words(text)
     arguments = (*text_words("".join(f"{word}\n" for word in words)), data, length)

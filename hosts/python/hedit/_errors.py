@@ -1,9 +1,9 @@
-"""How calls end, and the exceptions of those that are refused."""
+"""The statuses of calls, and the exceptions of refused ones."""
 from enum import IntEnum
 
 
 class Status(IntEnum):
-    """How a call of the library ended; hedit.h says what each means."""
+    """The status of a call of the library. hedit.h says what each means."""
 
     DONE = 0
     NO = 1
@@ -22,7 +22,7 @@ class Status(IntEnum):
 
 
 class PageKind(IntEnum):
-    """Why bytes are no page. As a text it is the program's word, such as stray-end."""
+    """Why bytes aren't a page. Its `str` is the program's word, such as stray-end."""
 
     NOT_UTF8 = 1
     BAD_TAG = 2
@@ -41,7 +41,7 @@ class PageKind(IntEnum):
 
 
 class HeditError(Exception):
-    """A call was refused. The editor is as before."""
+    """A call was refused. The editor is unchanged."""
 
     status: Status | None = None
     words = ""
@@ -51,12 +51,12 @@ class HeditError(Exception):
 
 
 class PageRefused(HeditError, ValueError):
-    """The bytes are no page: the first `at` of them begin one, and `kind` says why no more do."""
+    """The bytes aren't a page: the first `at` of them begin one, and `kind` says why no more do."""
 
     status = Status.PAGE_REFUSED
 
     def __init__(self, at: int, kind: PageKind) -> None:
-        super().__init__(f"no page: {kind} at {at}")
+        super().__init__(f"the page is refused: {kind} at {at}")
         self.at = at
         self.kind = kind
 
@@ -68,42 +68,42 @@ class BadPlace(HeditError, ValueError):
     """A path or a label names no node, or an offset is past its length."""
 
     status = Status.BAD_PLACE
-    words = "no such place"
+    words = "the document has no such place"
 
 
 class TooManyMarks(HeditError):
-    """16 marks of other names are there."""
+    """There are 16 markers of other names."""
 
     status = Status.TOO_MANY_MARKS
-    words = "too many marks"
+    words = "there are 16 markers of other names already"
 
 
 class PageFull(HeditError):
-    """The command would have made a node whose number reaches the cap."""
+    """A node that the command makes would have the label `label_cap`."""
 
     status = Status.FULL
-    words = "the page is full"
+    words = "no label is left below label_cap"
 
 
 class TooDeep(HeditError):
     """The document is too deep for commands."""
 
     status = Status.DEEP
-    words = "the page is too deep"
+    words = "the document is too deep"
 
 
 class OutOfMemory(HeditError, MemoryError):
-    """There was no memory for the call."""
+    """The call ran out of memory."""
 
     status = Status.MEMORY
     words = "out of memory"
 
 
 class BadArgument(HeditError, ValueError):
-    """A number is outside its limits, a text isn't UTF-8, or a name that is denied is none."""
+    """A number is outside its limits, a text isn't UTF-8, or a denied name is malformed."""
 
     status = Status.BAD_ARGUMENT
-    words = "an argument means nothing"
+    words = "an argument is invalid"
 
 
 class EditorClosed(HeditError, ValueError):
@@ -131,7 +131,7 @@ REFUSALS: dict[int, type[HeditError]] = {
 
 
 def answer(status: int) -> bool:
-    """Whether a call was done; where it was refused, this raises why."""
+    """Returns whether a call was done. Raises an exception if it was refused."""
     if status in REFUSALS:
         raise REFUSALS[status]
     return status == Status.DONE

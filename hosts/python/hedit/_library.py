@@ -1,4 +1,4 @@
-"""The shared library: where it is found, and the types of its calls, which hedit.h declares."""
+"""The shared library: its path, and the types of its calls, which hedit.h declares."""
 import ctypes
 import functools
 import os
@@ -12,13 +12,13 @@ FILE = "hedit.dll" if os.name == "nt" else "libhedit.so"
 
 
 class Handle(ctypes.Structure):
-    """An editor, as the library holds it; None where it is closed."""
+    """The pointer to an editor, which is None if the editor is closed."""
 
     _fields_ = [("state", ctypes.c_void_p)]
 
 
 class Refusal(ctypes.Structure):
-    """Where a page is refused, and why."""
+    """The position and the kind of the error in a refused page."""
 
     _fields_ = [("at", ctypes.c_size_t), ("kind", ctypes.c_uint32)]
 
@@ -26,12 +26,12 @@ class Refusal(ctypes.Structure):
 NUMBER = ctypes.c_uint32
 LENGTH = ctypes.c_size_t
 
-# The label in the place of a node that isn't there.
+# The label in the place of a missing node.
 NO_NODE = 2**32 - 1
 
 
 class NodeFacts(ctypes.Structure):
-    """What a node is, with the labels of those beside it."""
+    """A node, with the labels of those next to it."""
 
     _fields_ = [
         ("kind", NUMBER),
@@ -45,9 +45,22 @@ class NodeFacts(ctypes.Structure):
 
 
 class SelectionFacts(ctypes.Structure):
-    """The points of the selection or of a mark."""
+    """The points of the selection or of a marker."""
 
     _fields_ = [
+        ("anchor", NUMBER),
+        ("anchor_offset", NUMBER),
+        ("focus", NUMBER),
+        ("focus_offset", NUMBER),
+    ]
+
+
+class ExecOptions(ctypes.Structure):
+    """How a command is executed."""
+
+    _fields_ = [
+        ("joined", NUMBER),
+        ("ranged", NUMBER),
         ("anchor", NUMBER),
         ("anchor_offset", NUMBER),
         ("focus", NUMBER),
@@ -62,7 +75,7 @@ class PointFacts(ctypes.Structure):
 
 
 class NumberFacts(ctypes.Structure):
-    """The numbers of a page and of its history."""
+    """The counts of a document and of its history."""
 
     _fields_ = [
         ("nodes", NUMBER),
@@ -90,6 +103,7 @@ CALLS: dict[str, list[Any]] = {
     "hedit_exec": EDITOR + TEXT + TEXT,
     "hedit_exec_gated": EDITOR + TEXT + TEXT + TEXT,
     "hedit_exec_joined": EDITOR + TEXT + TEXT,
+    "hedit_exec_with": [*EDITOR, ctypes.POINTER(ExecOptions), *TEXT, *TEXT, *TEXT],
     "hedit_replace": EDITOR + POINT + POINT + TEXT,
     "hedit_undo": EDITOR,
     "hedit_redo": EDITOR,
@@ -125,7 +139,7 @@ CALLS: dict[str, list[Any]] = {
 
 
 def path_of_library() -> str:
-    """The file to load, or else the name by which the system finds it."""
+    """Returns the file to load, or else the name by which the system finds it."""
     named = os.environ.get("HEDIT_LIBRARY")
     if named:
         return named
@@ -140,7 +154,7 @@ def path_of_library() -> str:
 
 @functools.cache
 def library() -> ctypes.CDLL:
-    """The library, with the types of its calls."""
+    """Returns the library, with the types of its calls."""
     try:
         loaded = ctypes.CDLL(path_of_library())
     except OSError as error:
@@ -154,6 +168,6 @@ def library() -> ctypes.CDLL:
 
 
 def version() -> str:
-    """The version of the library that is loaded; `__version__` is that of the package."""
+    """Returns the version of the loaded library. `__version__` is that of the package."""
     number: int = library().hedit_version()
     return f"{number >> 16}.{number >> 8 & 255}.{number & 255}"

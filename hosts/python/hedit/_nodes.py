@@ -1,4 +1,4 @@
-"""What is told of nodes by their labels, of the selection and of the numbers of a page."""
+"""Nodes, points, selections, markers and counts, as calls return them."""
 from dataclasses import dataclass
 from enum import IntEnum
 from typing import NamedTuple
@@ -28,7 +28,7 @@ class Selection(NamedTuple):
 
 
 class Mark(NamedTuple):
-    """A name for what is between two points: a text, or bytes where they aren't UTF-8."""
+    """A named range, which follows the edits. The name is bytes if it isn't UTF-8."""
 
     name: str | bytes
     anchor: Point
@@ -37,8 +37,8 @@ class Mark(NamedTuple):
 
 @dataclass(frozen=True, slots=True)
 class Node:
-    """What a node is: the count of its characters or of its children, and the labels of the nodes
-    beside it, None where there is none."""
+    """A node: the count of its characters or of its children, and the labels of the nodes next to it,
+    or None."""
 
     label: int
     kind: NodeKind
@@ -51,8 +51,8 @@ class Node:
 
 
 class Counts(NamedTuple):
-    """The numbers of a page and of its history: `edits` are those of the step that undo would take,
-    `undo` and `redo` count steps."""
+    """The counts of a document and of its history. `edits` counts those of the step that undo would
+    take, `undo` and `redo` count steps."""
 
     nodes: int
     next_label: int

@@ -1,12 +1,12 @@
 /**
- * What a call changed in the document: edits by the labels of nodes, in their order.
+ * The changes of the document by a call, by the labels of nodes.
  */
 
 import { NodeKind } from "./hedit_constants.js";
 
 /**
- * A node of a tree that comes into the document, with its level below the root of the tree. An
- * element has a name and attributes, a text and a comment have a value.
+ * A node of an inserted tree, with its level below the root of the tree. An element has a name and
+ * attributes, a text node and a comment have a value.
  * @typedef {{
  *   readonly level: number,
  *   readonly label: number,
@@ -18,10 +18,10 @@ import { NodeKind } from "./hedit_constants.js";
  */
 
 /**
- * A change. `remove`: a node went, with its tree. `insert`: a tree came, told by its nodes in tree
- * order, before a child of the parent, or at its end where `before` is null. `move`: a node went to
- * another place, with its tree. `replace`: of the characters of a text or a comment, `taken` from
- * the offset `at` on gave way to those of `put`. `attributes`: an element was given another list.
+ * A change. `remove`: a node is removed, with its tree. `insert`: a tree, whose nodes are in tree
+ * order, is inserted before a child of the parent, or at its end if `before` is null. `move`: a node
+ * is moved, with its tree. `replace`: in a text node or a comment, `put` replaces `taken` characters
+ * from the offset `at` on. `attributes`: an element has another list of attributes.
  * @typedef {{ readonly type: "remove", readonly label: number }
  *   | { readonly type: "insert", readonly tree: readonly TreeNode[], readonly parent: number,
  *       readonly before: number | null }
@@ -37,8 +37,8 @@ const NO_NODE = 0xffffffff;
 const decoder = new TextDecoder("utf-8", { ignoreBOM: true });
 
 /**
- * Reads changes as the engine packs them: numbers of eight bytes, the lowest first, and texts after
- * the count of their bytes.
+ * Reads packed changes: numbers of eight bytes, the lowest first, and texts after the count of their
+ * bytes.
  */
 class Reader {
   #bytes;
@@ -128,11 +128,11 @@ class Reader {
         return { type: "attributes", label, attributes: this.#attributes() };
       }
       default:
-        throw new RangeError(`no change has the number ${number}`);
+        throw new RangeError(`unknown change ${number}`);
     }
   }
 
-  /** All changes, in their order. */
+  /** Returns all changes, in their order. */
   changes() {
     const changes = [];
     while (this.#at < this.#bytes.length) changes.push(this.#change());
@@ -141,7 +141,7 @@ class Reader {
 }
 
 /**
- * The changes that bytes of the engine tell.
+ * Returns the changes that the engine packed into bytes.
  * @param {Uint8Array} bytes
  * @returns {Change[]}
  */

@@ -9,27 +9,27 @@
  *     editor.exec("bold");
  *     editor.html();
  *
- * A place is a path and an offset: the index of a child in each node on the way from the document
- * down, and a count of children in an element, or of characters in a text. Characters are Unicode
- * code points, and JavaScript counts UTF-16 units: `toCharacters` and `toUnits` convert.
+ * A place is a path and an offset. The path has the index of a child in each node, from the document
+ * down. The offset counts children in an element, and characters in a text node. Characters are
+ * Unicode code points, but JavaScript counts UTF-16 units: `toCharacters` and `toUnits` convert.
  *
- * A point has in place of the path the label of the node: a number that it keeps for as long as the
- * editor is open. The document's label is 0, and from there `children` leads to the others:
+ * A point has the label of a node instead of the path: a number that the node keeps as long as the
+ * editor is open. The document has 0, and `children` leads to the others:
  *
  *     const show = (label = 0) => {
  *       console.log(editor.node(label), editor.nodeName(label), editor.nodeValue(label));
  *       for (const child of editor.children(label)) show(child);
  *     };
  *
- * A call that is refused throws a `HeditError`, with a class of its own for each cause, and leaves
- * the editor as it was.
+ * A refused call throws a `HeditError`, with a class of its own for each cause, and leaves the editor
+ * as it was.
  *
- * The engine is a WebAssembly module with a memory of 32 bits. Its pointers and counts are BigInt,
- * and no call here takes or gives one. `missingFeatures` names what an older browser lacks for it.
+ * The engine is a WebAssembly module with a 32-bit memory. `missingFeatures` names what a browser
+ * lacks for it.
  */
 
 import { readChanges } from "./changes.js";
-import { limit, listOf, member, placeNumber } from "./hedit_arguments.js";
+import { execOptions, limit, listOf, member, placeNumber } from "./hedit_arguments.js";
 import { Question, View } from "./hedit_constants.js";
 import { EditorClosed, answer } from "./hedit_errors.js";
 import { Library } from "./hedit_library.js";
@@ -62,7 +62,7 @@ export {
 export { missingFeatures } from "./hedit_load.js";
 export { toCharacters, toUnits } from "./hedit_text.js";
 
-/** The version of hedit.js, and of the module that it came with. */
+/** The version of hedit.js, and of the module in its package. */
 export const VERSION = "0.9.0";
 
 /** @typedef {import("./changes.js").Change} Change */
@@ -77,20 +77,30 @@ export const VERSION = "0.9.0";
 /** @typedef {import("./hedit_text.js").Text} Text */
 
 /**
- * What a page may come to.
- * @typedef {object} Limits
- * @property {number} [labelCap] No node gets a number from here on. 2,000,000 by default.
- * @property {number} [undoDepth] So many commands can be undone. 100 by default.
+ * How a command is executed.
+ * @typedef {object} ExecOptions
+ * @property {{ readonly anchor: Place | Point, readonly focus: Place | Point }} [range] The command selects
+ *   this first and works on it. The selection is left where the command leaves it.
+ * @property {boolean} [joined] Whether the edits are added to the previous undo step, as by `execJoined`.
+ *   False by default.
+ * @property {Iterable<string>} [denied] Up to 16 names of commands that are refused.
  */
 
-/** An editor of a page, which `Engine.open` gives. Close it: one that is collected is closed then. */
+/**
+ * The limits of a document and of its history.
+ * @typedef {object} Limits
+ * @property {number} [labelCap] No node gets a label from here on. 2,000,000 by default.
+ * @property {number} [undoDepth] How many commands can be undone. 100 by default.
+ */
+
+/** An editor of a page, made by `Engine.open`. Close it. Otherwise it is closed when it is collected. */
 export class Editor {
   #library;
 
-  /** 0n where the editor is closed. */
+  /** 0n if the editor is closed. */
   #handle;
 
-  /** How long the text of each view was when it was last printed. */
+  /** The length of each view when it was last printed. */
   #lengths;
 
   /**
@@ -107,7 +117,7 @@ export class Editor {
     this.#lengths = [page.length, 0, 0, 0];
   }
 
-  /** Frees the editor's memory. Each other call is refused from then on. */
+  /** Frees the editor's memory. Later calls are refused. */
   close() {
     if (this.#handle) {
       this.#library.close(this, this.#handle);
@@ -116,7 +126,7 @@ export class Editor {
   }
 
   /**
-   * The status of a call on this editor, with the words that are made for it.
+   * Returns the status of a call on this editor. `words` makes its arguments.
    * @param {string} name
    * @param {(loan: import("./hedit_library.js").Loan) => unknown[]} words
    * @returns {number}
@@ -138,8 +148,7 @@ export class Editor {
   }
 
   /**
-   * What `read` gives of the record of so many bytes that a call writes; undefined where the answer is
-   * false.
+   * Returns what `read` makes of the record that a call writes, or undefined if the answer is false.
    * @template T
    * @param {string} name
    * @param {number} size
@@ -155,7 +164,7 @@ export class Editor {
   }
 
   /**
-   * The text of a call that takes a buffer; undefined where the answer is false.
+   * Returns the text of a call that takes a buffer, or undefined if the answer is false.
    * @param {string} name
    * @param {number} capacity
    * @param {unknown[]} words
@@ -170,10 +179,10 @@ export class Editor {
   }
 
   /**
-   * What `read` gives of each item of a call that takes an array of so many.
+   * Returns what `read` makes of each item of a call that takes an array.
    * @template Item
    * @param {string} name
-   * @param {number} size that of an item in bytes
+   * @param {number} size of an item in bytes
    * @param {(view: DataView, at: number) => Item} read
    * @param {(loan: import("./hedit_library.js").Loan) => unknown[]} words
    */
@@ -194,26 +203,34 @@ export class Editor {
   }
 
   /**
-   * Executes a command by its name, in any case. False where it isn't possible here, refuses the
-   * value, or is one of up to 16 that are denied.
+   * Executes a command by its name, in any case. Returns false if it isn't enabled, refuses the value,
+   * or is denied. A list of names in place of the options has the denied ones.
    * @param {Text} name
-   * @param {Text} value
-   * @param {Iterable<string>} denied
+   * @param {Text} [value]
+   * @param {ExecOptions | Iterable<string>} [options]
    */
-  exec(name, value = "", denied = []) {
+  exec(name, value = "", options = {}) {
+    const { range, joined = false, denied = [] } = execOptions(options);
     const names = listOf(denied);
+    /** @param {import("./hedit_library.js").Loan} loan */
+    const words = (loan) => [...loan.text(name), ...loan.text(value)];
+    if (!range && !names) {
+      return answer(this.#status(joined ? "hedit_exec_joined" : "hedit_exec", words));
+    }
+    const points = range ? [...this.#point(range.anchor), ...this.#point(range.focus)] : [0, 0, 0, 0];
+    const numbers = Uint32Array.of(Number(joined), Number(Boolean(range)), ...points);
     return answer(
-      this.#status(names ? "hedit_exec_gated" : "hedit_exec", (loan) => [
-        ...(names ? loan.text(names) : []),
-        ...loan.text(name),
-        ...loan.text(value),
+      this.#status("hedit_exec_with", (loan) => [
+        loan.array(numbers)[0],
+        ...loan.text(names),
+        ...words(loan),
       ]),
     );
   }
 
   /**
-   * Executes a command as `exec` does, as one step of undo with the last one, where a command made that
-   * step and nothing has come between.
+   * Executes a command like `exec`, but adds its edits to the previous undo step, if a command made
+   * that step and nothing has intervened.
    * @param {Text} name
    * @param {Text} value
    */
@@ -224,8 +241,8 @@ export class Editor {
   }
 
   /**
-   * Puts a text in place of what is between two places or points, as one command, which goes on with
-   * a run of typing. False where there is no editing host.
+   * Replaces the range between two places or points by a text, as one command, which continues a run
+   * of typing. Returns false if they aren't in an editing host.
    * @param {Place | Point} anchor
    * @param {Place | Point} focus
    * @param {Text} text
@@ -235,18 +252,18 @@ export class Editor {
     return answer(this.#status("hedit_replace", (loan) => [...points, ...loan.text(text)]));
   }
 
-  /** Takes a step back. False where there is none. */
+  /** Undoes one step. Returns false if there is none. */
   undo() {
     return answer(this.#status("hedit_undo"));
   }
 
-  /** Takes a step forth again. False where there is none. */
+  /** Redoes one step. Returns false if there is none. */
   redo() {
     return answer(this.#status("hedit_redo"));
   }
 
   /**
-   * A call between two places, and where one of them is a point, its like between points.
+   * Makes a call with two places, or its variant for points if one of them is a point.
    * @param {string} name
    * @param {Place | Point} anchor
    * @param {Place | Point} focus
@@ -268,7 +285,7 @@ export class Editor {
   }
 
   /**
-   * The label and the offset of a point.
+   * Returns the label and the offset of a point.
    * @param {Place | Point} place
    */
   #point(place) {
@@ -277,7 +294,7 @@ export class Editor {
   }
 
   /**
-   * Selects from a place or a point to another, or puts the caret at one.
+   * Selects from one place or point to another, or sets the caret.
    * @param {Place | Point} anchor
    * @param {Place | Point} focus
    */
@@ -285,13 +302,13 @@ export class Editor {
     this.#between("hedit_select", anchor, focus);
   }
 
-  /** Gives the selection up. */
+  /** Removes the selection. */
   unselect() {
     answer(this.#status("hedit_unselect"));
   }
 
   /**
-   * Gives a name to what is between two places or points; the mark goes along with the text.
+   * Sets the marker of a name from one place or point to another. It follows the edits.
    * @param {Text} name
    * @param {Place | Point} anchor
    * @param {Place | Point} focus
@@ -301,7 +318,7 @@ export class Editor {
   }
 
   /**
-   * Takes the mark of a name out. False where there is none.
+   * Removes the marker of a name. Returns false if there is none.
    * @param {Text} name
    */
   unmark(name) {
@@ -309,7 +326,7 @@ export class Editor {
   }
 
   /**
-   * What a command answers to a question: the value is a text, and the others are flags.
+   * Answers a query about a command: the value as a text, the others as booleans.
    * @template {Question} Asked
    * @param {Asked} question
    * @param {Text} name
@@ -340,7 +357,7 @@ export class Editor {
   }
 
   /**
-   * Whether there is such a command.
+   * Returns whether there is such a command.
    * @param {Text} name
    */
   supported(name) {
@@ -348,7 +365,7 @@ export class Editor {
   }
 
   /**
-   * Whether there is something for the command to work in.
+   * Returns whether the command has an editing host to work in.
    * @param {Text} name
    */
   enabled(name) {
@@ -356,7 +373,7 @@ export class Editor {
   }
 
   /**
-   * Whether the command's state is so for a part of the selection only.
+   * Returns whether only a part of the selection has it.
    * @param {Text} name
    */
   indeterm(name) {
@@ -364,7 +381,7 @@ export class Editor {
   }
 
   /**
-   * Whether the selection has it, as a toolbar's button shows it.
+   * Returns whether the selection has it, for a button of a toolbar.
    * @param {Text} name
    */
   state(name) {
@@ -372,7 +389,7 @@ export class Editor {
   }
 
   /**
-   * The command's value: a font, a colour, the name of a block.
+   * Returns the command's value: a font, a colour, the name of a block.
    * @param {Text} name
    */
   value(name) {
@@ -380,12 +397,12 @@ export class Editor {
   }
 
   /**
-   * What is printed of the editor, in whole lines.
+   * Returns a view of the editor, as complete lines.
    * @param {View} kind
    */
   view(kind) {
     member(View, kind);
-    // Room for what commands have made of it since, so that it is printed once.
+    // Enough capacity for what commands have added since, so that it is printed once.
     const capacity = 4096 + Math.ceil(this.#lengths[kind] * 1.25);
     return this.#library.borrow((loan) => {
       const { status, bytes } = loan.printed(capacity, (...buffer) =>
@@ -397,28 +414,28 @@ export class Editor {
     });
   }
 
-  /** The page as HTML, with a line feed at the end. */
+  /** Returns the document as HTML, with a line feed at the end. */
   html() {
     return this.view(View.HTML);
   }
 
-  /** A line for each node. */
+  /** Returns a line for each node. */
   tree() {
     return this.view(View.TREE);
   }
 
-  /** The selection and the marks. */
+  /** Returns the selection and the markers, as lines. */
   points() {
     return this.view(View.POINTS);
   }
 
-  /** The numbers of the page and of the history, as a line. */
+  /** Returns the counts of the document and of its history, as a line. */
   numbers() {
     return this.view(View.NUMBERS);
   }
 
   /**
-   * The numbers of the page and of the history.
+   * Returns the counts of the document and of its history.
    * @returns {Counts}
    */
   counts() {
@@ -426,7 +443,7 @@ export class Editor {
   }
 
   /**
-   * How many calls have changed the page.
+   * Returns how many calls have changed the document.
    */
   revision() {
     const read = (/** @type {DataView} */ data, /** @type {number} */ at) =>
@@ -435,7 +452,7 @@ export class Editor {
   }
 
   /**
-   * What the last call that changed something changed, from the first edit to the last.
+   * Returns the changes of the last call that changed something, from the first to the last.
    * @returns {Change[]}
    */
   changes() {
@@ -449,8 +466,8 @@ export class Editor {
   }
 
   /**
-   * Whether the node of a label is in the page, or may come back by `undo` or `redo`. A node that went
-   * and isn't kept never comes back, so what is held of it can be forgotten.
+   * Returns whether the node of a label is in the document, or may be restored by `undo` or `redo`. A
+   * removed node that isn't kept is never restored, so you can forget it.
    * @param {number} label
    */
   isKept(label) {
@@ -459,7 +476,7 @@ export class Editor {
   }
 
   /**
-   * The points of the selection; null where nothing is selected.
+   * Returns the points of the selection, or null if nothing is selected.
    * @returns {Selection | null}
    */
   selection() {
@@ -467,7 +484,7 @@ export class Editor {
   }
 
   /**
-   * The marks: a new one goes last, and one that is set anew keeps its place.
+   * Returns the markers. A new one is last, and one that is set again keeps its index.
    * @returns {Mark[]}
    */
   marks() {
@@ -484,7 +501,7 @@ export class Editor {
   }
 
   /**
-   * The name of the mark at a place of the list of marks.
+   * Returns the name of a marker by its index in the list of markers.
    * @param {bigint} place
    * @returns {Text}
    */
@@ -503,7 +520,7 @@ export class Editor {
   }
 
   /**
-   * The HTML of what is selected, for the clipboard; null where nothing is selected.
+   * Returns the selection as HTML, for the clipboard, or null if nothing is selected.
    * @returns {string | null}
    */
   selectionHtml() {
@@ -511,7 +528,7 @@ export class Editor {
   }
 
   /**
-   * The plain text of what is selected, for the clipboard; null where nothing is selected.
+   * Returns the selection as plain text, for the clipboard, or null if nothing is selected.
    * @returns {string | null}
    */
   selectionText() {
@@ -519,7 +536,7 @@ export class Editor {
   }
 
   /**
-   * The label of the node at a path. The document's is 0.
+   * Returns the label of the node at a path. The document has 0.
    * @param {readonly number[]} path
    */
   labelAt(path) {
@@ -528,7 +545,7 @@ export class Editor {
   }
 
   /**
-   * The path of the node of a label.
+   * Returns the path of the node of a label.
    * @param {number} label
    * @returns {number[]}
    */
@@ -538,7 +555,7 @@ export class Editor {
   }
 
   /**
-   * What the node of a label is.
+   * Returns the node of a label.
    * @param {number} label
    * @returns {Node}
    */
@@ -550,7 +567,7 @@ export class Editor {
   }
 
   /**
-   * The labels of a node's children. The one that is given last may be removed meanwhile.
+   * Yields the labels of a node's children. You may remove the one that was yielded last.
    * @param {number} label
    * @returns {IterableIterator<number>}
    */
@@ -571,7 +588,7 @@ export class Editor {
   }
 
   /**
-   * The name of an element, and an empty text for another node.
+   * Returns the name of an element, and an empty text for another node.
    * @param {number} label
    */
   nodeName(label) {
@@ -579,7 +596,7 @@ export class Editor {
   }
 
   /**
-   * The characters of a text or a comment, and an empty text for another node.
+   * Returns the characters of a text node or a comment, and an empty text for another node.
    * @param {number} label
    */
   nodeValue(label) {
@@ -587,7 +604,7 @@ export class Editor {
   }
 
   /**
-   * The HTML of a node; of the document, that of its children.
+   * Returns the HTML of a node; for the document, that of its children.
    * @param {number} label
    */
   nodeHtml(label) {
@@ -595,7 +612,7 @@ export class Editor {
   }
 
   /**
-   * The plain text of a node: lines for blocks and for each br.
+   * Returns the plain text of a node: lines for blocks and for each br.
    * @param {number} label
    */
   nodeText(label) {
@@ -603,8 +620,8 @@ export class Editor {
   }
 
   /**
-   * The points at which a text occurs in the text nodes of a node, by default of the whole document.
-   * They are in tree order, and the occurrences don't overlap.
+   * Returns the points at which a text occurs in a node, by default in the document. They are in tree
+   * order, and the occurrences don't overlap.
    * @param {Text} text
    * @param {number} label
    * @returns {Point[]}
@@ -615,7 +632,7 @@ export class Editor {
   }
 
   /**
-   * The attributes of a node, in their order.
+   * Returns the attributes of a node, in their order.
    * @param {number} label
    * @returns {Map<string, string>}
    */
@@ -644,7 +661,7 @@ if (dispose) {
  */
 const NewEditor = /** @type {any} */ (Editor);
 
-/** The engine. Its editors share a memory, which grows as they need and is freed with the engine. */
+/** The engine. Its editors share a memory, which grows if needed and is freed with the engine. */
 export class Engine {
   #library;
 
@@ -656,7 +673,7 @@ export class Engine {
     this.#library = new Library(exports);
   }
 
-  /** The version of the module; `VERSION` is that of hedit.js. */
+  /** Returns the version of the module. `VERSION` is that of hedit.js. */
   version() {
     const number = this.#library.call("hedit_version");
     return [number >> 16, (number >> 8) & 255, number & 255].join(".");
@@ -673,7 +690,7 @@ export class Engine {
   }
 
   /**
-   * Runs a session of the program, as its command line has the words.
+   * Runs a session of the program with the arguments of a command line.
    * @param {Text} text
    * @param {readonly string[]} words
    * @returns {{ status: import("./hedit_constants.js").Status, transcript: string }}
@@ -699,7 +716,7 @@ export class Engine {
 const NewEngine = /** @type {any} */ (Engine);
 
 /**
- * Loads the engine: hedit.wasm next to hedit.js, or at another address, or its response or bytes.
+ * Loads the engine from hedit.wasm next to hedit.js, or from another address, a response or bytes.
  * Throws EngineUnsupported or EngineNotLoaded.
  * @param {Source} source
  * @returns {Promise<Engine>}

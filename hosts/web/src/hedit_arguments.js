@@ -1,11 +1,11 @@
 /**
- * What is asked of the arguments of calls before the engine has them.
+ * Checks of arguments, before they are passed to the engine.
  */
 
 import { BadArgument, BadPlace } from "./hedit_errors.js";
 
 /**
- * A number of a place: a step of a path, a label or an offset.
+ * Returns a number of a place: an index of a path, a label or an offset.
  * @param {number} number
  */
 export function placeNumber(number) {
@@ -42,7 +42,17 @@ export function member(enumeration, value) {
 }
 
 /**
- * Names of commands as a text with a comma between, which without names is empty.
+ * Returns how a command is executed, from options or from the names that are denied.
+ * @param {import("./hedit.js").ExecOptions | Iterable<string>} options
+ * @returns {import("./hedit.js").ExecOptions}
+ */
+export function execOptions(options) {
+  const isList = typeof options !== "object" || options === null || Symbol.iterator in options;
+  return /** @type {import("./hedit.js").ExecOptions} */ (isList ? { denied: options } : options);
+}
+
+/**
+ * Returns names of commands as a text, separated by commas.
  * @param {Iterable<string>} names
  */
 export function listOf(names) {

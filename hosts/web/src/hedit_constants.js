@@ -1,8 +1,8 @@
 /**
- * The numbers and words that the calls of the engine take and answer.
+ * The numbers and words that calls of the engine take and return.
  */
 
-/** How a call of the engine ended; hedit.h says what each number means. */
+/** The status of a call of the engine. hedit.h says what each number means. */
 export const Status = Object.freeze(
   /** @type {const} */ ({
     DONE: 0,
@@ -24,14 +24,14 @@ export const Status = Object.freeze(
 
 /** @typedef {typeof Status[keyof typeof Status]} Status */
 
-/** What can be asked of a command. */
+/** The queries about a command. */
 export const Question = Object.freeze(
   /** @type {const} */ ({ SUPPORTED: 0, ENABLED: 1, INDETERM: 2, STATE: 3, VALUE: 4 }),
 );
 
 /** @typedef {typeof Question[keyof typeof Question]} Question */
 
-/** What is printed of an editor. */
+/** The views of an editor. */
 export const View = Object.freeze(
   /** @type {const} */ ({ HTML: 0, TREE: 1, POINTS: 2, NUMBERS: 3 }),
 );

@@ -6,7 +6,7 @@ import { Status } from "./hedit_constants.js";
 
 /** @typedef {import("./hedit_constants.js").PageKind} PageKind */
 
-/** A call was refused. The editor is as before. */
+/** A call was refused. The editor is unchanged. */
 export class HeditError extends Error {
   name = "HeditError";
 
@@ -18,7 +18,7 @@ export class HeditError extends Error {
   status = undefined;
 }
 
-/** The text is no page: what stands before `at` begins one, and `kind` says why no more does. */
+/** The text isn't a page: the part before `at` begins one, and `kind` says why no more does. */
 export class PageRefused extends HeditError {
   name = "PageRefused";
   /** @readonly */
@@ -29,9 +29,9 @@ export class PageRefused extends HeditError {
    * @param {PageKind} kind
    */
   constructor(at, kind) {
-    super(`no page: ${kind} at ${at}`);
+    super(`the page is refused: ${kind} at ${at}`);
     /**
-     * In UTF-16 units of a string, in bytes of a Uint8Array.
+     * Counted in UTF-16 units of a string, or in bytes of a Uint8Array.
      * @readonly
      */
     this.at = at;
@@ -46,29 +46,29 @@ export class BadPlace extends HeditError {
   /** @readonly */
   status = Status.BAD_PLACE;
 
-  constructor(message = "no such place") {
+  constructor(message = "the document has no such place") {
     super(message);
   }
 }
 
-/** 16 marks of other names are there. */
+/** There are 16 markers of other names. */
 export class TooManyMarks extends HeditError {
   name = "TooManyMarks";
   /** @readonly */
   status = Status.TOO_MANY_MARKS;
 
-  constructor(message = "too many marks") {
+  constructor(message = "there are 16 markers of other names already") {
     super(message);
   }
 }
 
-/** The command would have made a node whose number reaches the cap. */
+/** A node that the command makes would have the label `labelCap`. */
 export class PageFull extends HeditError {
   name = "PageFull";
   /** @readonly */
   status = Status.FULL;
 
-  constructor(message = "the page is full") {
+  constructor(message = "no label is left below labelCap") {
     super(message);
   }
 }
@@ -79,12 +79,12 @@ export class TooDeep extends HeditError {
   /** @readonly */
   status = Status.DEEP;
 
-  constructor(message = "the page is too deep") {
+  constructor(message = "the document is too deep") {
     super(message);
   }
 }
 
-/** There was no memory for the call. */
+/** The call ran out of memory. */
 export class OutOfMemory extends HeditError {
   name = "OutOfMemory";
   /** @readonly */
@@ -95,13 +95,13 @@ export class OutOfMemory extends HeditError {
   }
 }
 
-/** A number is outside its limits, a text isn't Unicode, or a name that is denied is none. */
+/** A number is outside its limits, a text isn't Unicode, or a denied name is malformed. */
 export class BadArgument extends HeditError {
   name = "BadArgument";
   /** @readonly */
   status = Status.BAD_ARGUMENT;
 
-  constructor(message = "an argument means nothing") {
+  constructor(message = "an argument is invalid") {
     super(message);
   }
 }
@@ -117,7 +117,7 @@ export class EditorClosed extends HeditError {
   }
 }
 
-/** An earlier call stopped in the middle, by the `cause`. Load another engine. */
+/** An earlier call was interrupted by the `cause`. Load another engine. */
 export class EngineStopped extends HeditError {
   name = "EngineStopped";
 }
@@ -153,7 +153,7 @@ const REFUSALS = {
 };
 
 /**
- * Whether a call was done; where it was refused, this throws why.
+ * Returns whether a call was done. Throws an error if it was refused.
  * @param {number} status
  */
 export function answer(status) {

@@ -11,17 +11,17 @@ import { bytesOf, unitsInBytes } from "./hedit_text.js";
 
 /** @typedef {import("./hedit.js").Place} Place */
 
-/** How many bytes are kept for what calls borrow, so that most of them need no block of the heap. */
+/** How many bytes are kept for loans, so that most calls need no block of the heap. */
 const SCRATCH_SIZE = 16_384;
 
-/** What one call borrows of the module's memory. One that begins within another ends within it. */
+/** The memory of the module that one call borrows. A loan that begins within another ends within it. */
 export class Loan {
   #library;
 
   /** @type {bigint[]} */
   #blocks = [];
 
-  /** How much of the scratch was taken before. */
+  /** How many bytes of the scratch memory were taken before. */
   #taken;
 
   /** @param {Library} library */
@@ -31,7 +31,7 @@ export class Loan {
   }
 
   /**
-   * A pointer to so many bytes.
+   * Returns a pointer to a number of bytes.
    * @param {number} size
    */
   room(size) {
@@ -45,7 +45,7 @@ export class Loan {
   }
 
   /**
-   * The pointer and the count of an array that is copied into the memory.
+   * Copies an array into the memory, and returns its pointer and count.
    * @param {Uint8Array | Uint32Array} array
    */
   array(array) {
@@ -56,7 +56,7 @@ export class Loan {
   }
 
   /**
-   * The pointer and the length of a text.
+   * Returns the pointer and the length of a text.
    * @param {Text} text
    */
   text(text) {
@@ -64,7 +64,7 @@ export class Loan {
   }
 
   /**
-   * The pointer and the length of a path.
+   * Returns the pointer and the length of a path.
    * @param {readonly number[]} path
    */
   path(path) {
@@ -72,7 +72,7 @@ export class Loan {
   }
 
   /**
-   * The pointer and the length of a path, and the offset.
+   * Returns the pointer and the length of a path, and the offset.
    * @param {Place} place
    */
   place({ path, offset }) {
@@ -80,11 +80,11 @@ export class Loan {
   }
 
   /**
-   * The status of a call that takes a buffer and the items that it wrote, as their bytes. It is
-   * called again where the buffer is too small.
+   * Returns the status of a call that takes a buffer, and the bytes of the items that it wrote. If the
+   * buffer is too small, it calls again.
    * @param {number} capacity
    * @param {(...buffer: bigint[]) => number} call
-   * @param {number} size that of an item in bytes: the items of a text are bytes
+   * @param {number} size of an item in bytes: the items of a text are bytes
    */
   printed(capacity, call, size = 1) {
     const length = this.room(8);
@@ -109,8 +109,8 @@ export class Loan {
 }
 
 /**
- * The calls of the module and its memory. A pointer is a BigInt. A memory that grows detaches what
- * views it, so these are taken anew.
+ * The calls of the module and its memory. A pointer is a BigInt. A memory that grows detaches its
+ * views, so these are made again.
  */
 export class Library {
   #calls;
@@ -120,7 +120,7 @@ export class Library {
   #data;
 
   /**
-   * The pointer to the scratch: null before it is asked for, 0n where there was no memory for it.
+   * The pointer to the scratch memory: null before its first use, 0n if memory ran out.
    * @type {bigint | null}
    */
   #scratch = null;
@@ -128,12 +128,12 @@ export class Library {
   #taken = 0;
 
   /**
-   * Why the module stopped in the middle of a call.
+   * The error that interrupted a call of the module.
    * @type {unknown}
    */
   #cause = undefined;
 
-  /** Closes the editors that are collected: it holds their handles. */
+  /** Closes the editors that are collected, by their handles. */
   #collected = new FinalizationRegistry((/** @type {bigint} */ handle) => this.#close(handle));
 
   /** @param {WebAssembly.Exports} exports */
@@ -184,7 +184,7 @@ export class Library {
     return new Uint8Array(this.#memory.buffer, Number(at), length);
   }
 
-  /** The whole memory, until it grows. */
+  /** A view of the memory, until it grows. */
   get data() {
     const { buffer } = this.#memory;
     if (this.#data.buffer !== buffer) {
@@ -193,13 +193,13 @@ export class Library {
     return this.#data;
   }
 
-  /** How many bytes of the scratch are taken. */
+  /** How many bytes of the scratch memory are taken. */
   get taken() {
     return this.#taken;
   }
 
   /**
-   * A pointer to so many bytes of the scratch; null where it has no room for them.
+   * Returns a pointer to a number of bytes of the scratch memory, or null if too few are left.
    * @param {number} size
    */
   takeScratch(size) {
@@ -214,7 +214,7 @@ export class Library {
   }
 
   /**
-   * Gives back all of the scratch but so many bytes.
+   * Frees the scratch memory, except a number of bytes.
    * @param {number} taken
    */
   giveScratch(taken) {
@@ -222,7 +222,7 @@ export class Library {
   }
 
   /**
-   * What `use` gives, with memory that is given back when it ends.
+   * Returns what `use` returns. Its loan is freed when it ends.
    * @template T
    * @param {(loan: Loan) => T} use
    * @returns {T}
@@ -239,7 +239,7 @@ export class Library {
   }
 
   /**
-   * Opens a page for an editor, and gives its handle: the pointer to a hedit_editor.
+   * Opens a page for an editor, and returns its handle: the pointer to a hedit_editor.
    * @param {object} editor
    * @param {Text} page
    * @param {number} labelCap

@@ -1,23 +1,23 @@
 /**
- * How the engine comes into a page: what the browser needs for it, and where hedit.wasm comes from.
+ * Loads the engine: the features that it needs, and the sources of hedit.wasm.
  */
 
 import { EngineNotLoaded, EngineUnsupported } from "./hedit_errors.js";
 
 /**
- * Where hedit.wasm comes from: its address, or its response or bytes.
+ * The source of hedit.wasm: its address, a response, or bytes.
  * @typedef {string | URL | Response | PromiseLike<Response> | BufferSource} Source
  */
 
 const MEDIA_TYPE = "application/wasm";
 
-/** What a WebAssembly module begins with. */
+/** The first bytes of a WebAssembly module. */
 const MAGIC = [0, ...new TextEncoder().encode("asm")];
 
 const VERSION = [1, 0, 0, 0];
 
 /**
- * A module with one function, which has no arguments and no result.
+ * Returns a module with one function, which has no arguments and no result.
  * @param {readonly number[]} instructions
  */
 function moduleOf(instructions) {
@@ -29,12 +29,12 @@ function moduleOf(instructions) {
   return Uint8Array.from([...MAGIC, ...VERSION, ...type, ...functions, ...memory, ...code]);
 }
 
-/** `i32.extend8_s` of a number, and `memory.fill` of no bytes. */
+/** A module with `i32.extend8_s` of a number. The next has `memory.fill` of no bytes. */
 const SIGN_EXTENSION = moduleOf([0x41, 0, 0xc0, 0x1a]);
 
 const BULK_MEMORY = moduleOf([0x41, 0, 0x41, 0, 0x41, 0, 0xfc, 11, 0]);
 
-/** Whether numbers of 64 bits go to a module and come back as BigInt. */
+/** Returns whether 64-bit numbers are passed to a module and returned as BigInt. */
 function passesBigInt() {
   try {
     return new WebAssembly.Global({ value: "i64" }, BigInt(1)).value === BigInt(1);
@@ -44,7 +44,7 @@ function passesBigInt() {
 }
 
 /**
- * Names what the engine needs and this browser, or this version of Node, doesn't have.
+ * Returns the names of features that the engine needs and this browser or version of Node lacks.
  * @returns {string[]}
  */
 export function missingFeatures() {
@@ -70,14 +70,14 @@ async function fetchModule(address) {
     return await fetch(address);
   } catch (cause) {
     const advice = String(address).startsWith("file:")
-      ? "fetch doesn't read files: in Node, read hedit.wasm and hand its bytes to load; in a browser, open the page from a server"
+      ? "fetch doesn't read files: in Node, read hedit.wasm and pass its bytes to load; in a browser, open the page from a server"
       : "the server can't be reached, or refuses this page";
     throw new EngineNotLoaded(`${address} couldn't be fetched: ${advice}`, { cause });
   }
 }
 
 /**
- * Compiles what a server answered, while it comes where the server says that it is WebAssembly.
+ * Compiles the response of a server, while it arrives if its media type is that of WebAssembly.
  * @param {Response} response
  */
 async function compileResponse(response) {

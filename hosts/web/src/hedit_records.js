@@ -1,12 +1,12 @@
 /**
- * What calls of the engine write for JavaScript to read: points, nodes and counts.
+ * The records that calls of the engine write: points, nodes and counts.
  */
 
 /** @typedef {import("./hedit_constants.js").NodeKind} NodeKind */
 /** @typedef {import("./hedit_text.js").Text} Text */
 
 /**
- * The indexes of children from the document down, and a count of children or of characters.
+ * A path of child indexes from the document down, and an offset in children or in characters.
  * @typedef {{ readonly path: readonly number[], readonly offset: number }} Place
  */
 
@@ -18,13 +18,13 @@
 /** @typedef {{ readonly anchor: Point, readonly focus: Point }} Selection */
 
 /**
- * A name for what is between two points; the name is bytes where it isn't UTF-8.
+ * A named range, which follows the edits. The name is bytes if it isn't UTF-8.
  * @typedef {{ readonly name: Text, readonly anchor: Point, readonly focus: Point }} Mark
  */
 
 /**
- * What a node is, with the labels of the nodes beside it, null where there is none. `length` counts
- * the characters of a text or a comment, and the children of others.
+ * A node, with the labels of the nodes next to it, or null. `length` counts the characters of a text
+ * node or a comment, and the children of others.
  * @typedef {{
  *   readonly label: number,
  *   readonly kind: NodeKind,
@@ -38,8 +38,8 @@
  */
 
 /**
- * The numbers of a page and of its history: the label that the next node gets, the characters of the
- * texts, the edits of the step that undo would take, and the steps that can be undone and redone.
+ * The counts of a document and of its history: nodes, the label of the next node, characters of text
+ * nodes, edits of the step that undo would take, and steps that can be undone and redone.
  * @typedef {{
  *   readonly nodes: number,
  *   readonly nextLabel: number,
@@ -50,7 +50,7 @@
  * }} Counts
  */
 
-/** The label in the place of a node that isn't there. */
+/** The label in the place of a missing node. */
 const NO_NODE = 0xffff_ffff;
 
 /**
@@ -89,7 +89,7 @@ export function readSelection(data, at) {
 }
 
 /**
- * Whether a place is a point.
+ * Returns whether a place is a point.
  * @param {Place | Point} place
  * @returns {place is Point}
  */
@@ -114,7 +114,7 @@ export function readCounts(data, at) {
 }
 
 /**
- * What the node of a label is.
+ * Reads the node of a label.
  * @param {number} label
  * @param {DataView} data
  * @param {number} at

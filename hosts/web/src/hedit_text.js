@@ -1,5 +1,5 @@
 /**
- * Texts: the engine has UTF-8 and counts code points, and here is all that counts UTF-16 units.
+ * Texts. The engine has UTF-8 and counts code points. Only this module counts UTF-16 units.
  */
 
 import { BadArgument, BadPlace } from "./hedit_errors.js";
@@ -14,11 +14,11 @@ const ENCODER = new TextEncoder();
 export const DECODER = new TextDecoder("utf-8", { fatal: true, ignoreBOM: true });
 
 /**
- * Whether a text has half of a surrogate pair.
+ * Returns whether a text has half of a surrogate pair.
  * @param {string} text
  */
 function hasHalf(text) {
-  // Some engines that JavaScript runs in have no `isWellFormed` yet.
+  // Some browsers don't have `isWellFormed` yet.
   const { isWellFormed } = /** @type {{ isWellFormed?: () => boolean }} */ (String.prototype);
   return isWellFormed ? !isWellFormed.call(text) : /\p{Surrogate}/u.test(text);
 }
@@ -41,7 +41,7 @@ export function bytesOf(text) {
 }
 
 /**
- * The UTF-16 units of the whole characters in the first bytes of a text.
+ * Returns how many UTF-16 units the complete characters in the first bytes of a text have.
  * @param {Uint8Array} bytes
  * @param {number} count
  */
@@ -52,7 +52,7 @@ export function unitsInBytes(bytes, count) {
 }
 
 /**
- * The UTF-16 units of the character that begins at a unit of a text.
+ * Returns how many UTF-16 units the character at a unit of a text has.
  * @param {string} text
  * @param {number} at
  */
@@ -61,8 +61,8 @@ function width(text, at) {
 }
 
 /**
- * An offset in a text node in characters, as the engine counts, from one in UTF-16 units. Throws
- * BadPlace where the text has no such offset between two characters.
+ * Converts an offset in a text node from UTF-16 units to characters, which the engine counts. Throws
+ * BadPlace if the text has no such offset between two characters.
  * @param {string} text the text node's text
  * @param {number} units
  */
@@ -80,8 +80,8 @@ export function toCharacters(text, units) {
 }
 
 /**
- * An offset in a text node in UTF-16 units, as the DOM counts, from one in characters. Throws BadPlace
- * where the text has no such offset.
+ * Converts an offset in a text node from characters to UTF-16 units, which the DOM counts. Throws
+ * BadPlace if the text has no such offset.
  * @param {string} text the text node's text
  * @param {number} characters
  */

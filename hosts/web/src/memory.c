@@ -1,19 +1,19 @@
-/* The memory of hedit.wasm: the heap that the engine takes its blocks from, and the calls that
- * compilers make to copy and to fill.
+/* The memory of hedit.wasm: the heap of the engine, and the calls that compilers make to copy and to
+ * fill.
  *
- * The heap is a line of blocks, from the end of the module's data to the end of its memory. A
+ * The heap is a sequence of blocks, from the end of the module's data to the end of its memory. A
  * block begins with a word that has its size and two bits: whether it is free, and whether the
- * block before it is. What is handed out begins behind that word, at a multiple of 16. A free
- * block has its size in its last word too, where the block behind it finds it. Two free blocks
- * never stand side by side: they are one.
+ * block before it is. The bytes for the caller begin after that word, at a multiple of 16. A free
+ * block has its size in its last word too, for the block after it. Two adjacent free blocks are
+ * merged at once.
  *
- * Free blocks stand in lists, a list for each class of sizes: 16 classes from a power of two to
- * the next. A block is taken from the first list in which each one is large enough, which two
- * words of bits show, and what is too much of it is freed again. So to take a block and to free
- * one costs the same in a large heap as in a small one.
+ * Free blocks are in lists, one for each class of sizes: 16 classes from a power of two to the next.
+ * A block is taken from the first list in which each one is large enough, which two words of bits
+ * show, and its rest is freed again. So taking and freeing a block costs the same in a large heap as
+ * in a small one.
  *
- * The memory grows where no free block is large enough, and never shrinks. A growth that is
- * refused is an answer: the block isn't taken, and the heap is as before. */
+ * The memory grows if no free block is large enough, and never shrinks. If growth is refused, the
+ * block isn't taken, and the heap is unchanged. */
 
 /* The toolchain's clang comes without headers. */
 typedef __SIZE_TYPE__ size_t;
@@ -31,7 +31,7 @@ static const size_t MOST = (size_t)1 << 40;
 
 typedef struct block {
     size_t head;
-    /* Of a free block: its neighbours in the list. */
+    /* In a free block, its neighbours in the list. */
     struct block *next;
     struct block *previous;
 } block;
@@ -57,7 +57,7 @@ static block *block_of(void *bytes) { return (block *)((uint8_t *)bytes - sizeof
 
 static void *bytes_of(block *it) { return (uint8_t *)it + sizeof(size_t); }
 
-/* The size of a block with room for so many bytes. */
+/* Returns the size of a block that has a number of bytes. */
 static size_t size_for(size_t bytes) {
     size_t size = (bytes + sizeof(size_t) + UNIT - 1) & ~(size_t)(UNIT - 1);
     return size < LEAST ? LEAST : size;
@@ -115,7 +115,7 @@ static block *find(size_t size) {
     return lists[row][__builtin_ctz(fitting)];
 }
 
-/* Frees a block that is in no list, as one with the free blocks beside it. */
+/* Frees a block that is in no list, and merges it with adjacent free blocks. */
 static void free_block(block *it) {
     size_t size = size_of(it);
     block *next = at(it, size);
@@ -158,7 +158,7 @@ static bool is_grown(size_t had, size_t more) { return __builtin_wasm_memory_gro
 static bool grow(size_t size) {
     size_t had = __builtin_wasm_memory_size(0);
     size_t needed = (size + UNIT + PAGE - 1) / PAGE, eighth = had / 8;
-    /* More than is needed, so that a page that grows does so seldom; or else what is needed. */
+    /* More than is needed, so that the memory grows seldom; or else what is needed. */
     if (!(eighth > needed && is_grown(had, eighth)) && !is_grown(had, needed))
         return false;
     if (!end)
@@ -172,7 +172,7 @@ static bool grow(size_t size) {
     return true;
 }
 
-/* Takes a block of so many bytes; null where there is no memory for it. */
+/* Takes a block of a number of bytes. Returns null if memory ran out. */
 void *allocate(size_t bytes) {
     if (bytes > MOST)
         return nullptr;
@@ -191,8 +191,8 @@ void *allocate(size_t bytes) {
 /* Gives back a block that was taken. */
 void release(void *bytes) { free_block(block_of(bytes)); }
 
-/* Makes a block one of so many bytes, of which the first are kept. It may move. Null where there
- * is no memory for it: then it is as before. */
+/* Gives a block another size, and keeps its first bytes. It may move. Returns null if memory ran out:
+ * then the block is unchanged. */
 static void *resize(void *bytes, size_t kept, size_t wanted) {
     if (wanted > MOST)
         return nullptr;
@@ -222,7 +222,7 @@ typedef struct tried {
     void *bytes;
 } tried;
 
-/* What stands beside a refusal, in place of null. */
+/* The pointer in a refusal, in place of null. */
 static uint8_t nothing;
 
 static tried tried_for(void *bytes) {

@@ -22,8 +22,9 @@
  * A region is an EventTarget, with the events of `RegionEvents`.
  *
  * These of what differs from browsers stay as the engine has them: `formatBlock` drops classes and other
- * attributes of the block, `unlink` at a caret takes the link around it away, `outdent` of several
- * quoted blocks takes those with formats apart, and the elements for a style are the engine's.
+ * attributes of the block, `unlink` at a caret takes the link around it away, `outdent` takes quoted
+ * blocks with formats apart where a list or another quotation is among them or around, and the elements
+ * for a style are the engine's.
  */
 import { HABITS } from "./region_commands.js";
 import { Controller } from "./region_controller.js";

@@ -14,6 +14,9 @@ const ALIGNMENTS = new Map([
   ["justify", "justifyFull"],
 ]);
 
+/** Blocks that hold a line, and no blocks. */
+const LINES = /^(?:address|div|h[1-6]|p|pre)$/;
+
 /**
  * Indents for a quotation, of which `formatBlock` knows nothing.
  * @type {Habit}
@@ -71,12 +74,12 @@ export function indentSublists(commands, next) {
 }
 
 /**
- * Takes a quoted block out as a whole: it is made an item, which stays whole, of a list that is then
+ * Takes quoted blocks out as they are: they are made items, which stay whole, of a list that is then
  * taken out.
  * @type {Habit}
  */
 export function outdentWhole(commands, next) {
-  return quotedBlock(commands)
+  return quotedBlocks(commands).length > 0
     ? [1, 2, 3].every(() => commands.exec("insertUnorderedList"))
     : next();
 }
@@ -86,25 +89,36 @@ export function outdentWhole(commands, next) {
  * @type {Habit}
  */
 export function outdentBackward(commands, next) {
-  const block = commands.isCaret() ? quotedBlock(commands) : null;
+  const [block] = commands.isCaret() ? quotedBlocks(commands) : [];
   const isAtStart = block && startedAtCaret(commands, (node) => node === block);
   return isAtStart ? outdentWhole(commands, next) : next();
 }
 
 /**
- * The one selected block, where it stands in one quotation and `outdent` would take it apart; null
+ * The selected blocks, where all are in one quotation and `outdent` would take one of them apart; none
  * elsewhere.
  * @param {Commands} commands
  */
-function quotedBlock(commands) {
+function quotedBlocks(commands) {
   const { view } = commands;
   const [first, last] = commands.ends()?.map(({ node }) => view.blockOf(node)) ?? [];
   const quote = first?.parentNode;
-  if (!isElement(first) || first !== last || !quote || view.nameOf(quote) !== "blockquote") {
-    return null;
+  if (!quote || quote !== last?.parentNode || view.nameOf(quote) !== "blockquote") {
+    return [];
   }
+  /** @type {Node[]} */
+  const children = [...quote.childNodes];
+  const blocks = children.slice(children.indexOf(first), children.indexOf(last) + 1);
   const isAround = (/** @type {Node} */ node) => /^(blockquote|li|dd|dt)$/.test(view.nameOf(node));
-  const isOther = (/** @type {Element} */ each) => view.nameOf(each) !== "br";
-  const hasFormats = [...first.querySelectorAll("*")].some(isOther);
-  return hasFormats && !view.around(quote.parentNode, isAround) ? first : null;
+  const isWhole = blocks.every((block) => LINES.test(view.nameOf(block)));
+  const areSplit = blocks.some((block) => isElement(block) && hasFormats(commands, block));
+  return isWhole && areSplit && !view.around(quote.parentNode, isAround) ? blocks : [];
+}
+
+/**
+ * @param {Commands} commands
+ * @param {Element} block
+ */
+function hasFormats({ view }, block) {
+  return [...block.querySelectorAll("*")].some((each) => view.nameOf(each) !== "br");
 }

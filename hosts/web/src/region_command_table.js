@@ -16,6 +16,7 @@ import {
   forgetStyles,
   keepSpaces,
   keepStyle,
+  keepStyleOverSpace,
   leaveLink,
   leaveLocked,
 } from "./region_typing.js";
@@ -68,7 +69,12 @@ const COMMANDS = {
       replace: ["insertReplacementText", "insertTranspose"],
     },
     prepare: enterBlock,
-    habits: { plainAcrossBlocks: forgetStyles, leaveLinks: leaveLink, leaveLocked },
+    habits: {
+      plainAcrossBlocks: forgetStyles,
+      leaveLinks: leaveLink,
+      keepStyle: keepStyleOverSpace,
+      leaveLocked,
+    },
   },
   insertParagraph: {
     inputs: { execute: ["insertParagraph"] },

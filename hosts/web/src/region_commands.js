@@ -13,11 +13,12 @@ import { leaveLocked } from "./region_typing.js";
 /** @typedef {import("./region_view.js").View} View */
 
 /**
- * What a region does beside what the engine's commands do. Each is on, and `false` switches it off.
+ * What a region does beside what the engine's commands do. Each is on but `autoformat`, and `false`
+ * switches it off.
  * docs/SURPRISES.md, "Differences from browsers", has a session for most of them.
  * @typedef {object} Habits
  * @property {boolean} keepStyle Enter goes on in the style of the text before it, within blocks of
- *   one kind.
+ *   one kind, and a space keeps the style that is set.
  * @property {boolean} keepSpaces A space that Enter leaves at the end or at the start of a line
  *   becomes U+00A0, so that it shows, and is still there when the lines are joined.
  * @property {boolean} keepAlignment `formatBlock` keeps the alignment.
@@ -25,8 +26,8 @@ import { leaveLocked } from "./region_typing.js";
  * @property {boolean} hiliteAtCaret `backColor` at a caret colours what is typed, as `hiliteColor`
  *   does.
  * @property {boolean} indentSublists `indent` takes the lists in an item along.
- * @property {boolean} outdentWhole `outdent` and Backspace take a quoted block with formats in it out
- *   of its quotation as it is.
+ * @property {boolean} outdentWhole `outdent` and Backspace take quoted blocks with formats in them out
+ *   of their only quotation as they are.
  * @property {boolean} deleteIntoLinks Backspace behind a link takes its last character, and not the
  *   link.
  * @property {boolean} joinItems Backspace at the start of an item joins it with the one before at
@@ -37,10 +38,12 @@ import { leaveLocked } from "./region_typing.js";
  *   flag, an emoji of several, a letter with its accents.
  * @property {boolean} leaveLocked A caret that a command leaves in a locked part goes back to where
  *   it was.
+ * @property {boolean} autoformat `- `, `* `, `1. ` and `> ` that are typed at the start of a paragraph
+ *   make a list or a quotation.
  */
 
 /**
- * The habits that a region has by default: all of them.
+ * The habits that a region has by default.
  * @type {Readonly<Habits>}
  */
 export const HABITS = Object.freeze({
@@ -57,6 +60,7 @@ export const HABITS = Object.freeze({
   plainAcrossBlocks: true,
   wholeClusters: true,
   leaveLocked: true,
+  autoformat: false,
 });
 
 /**
@@ -91,8 +95,8 @@ export class Commands {
   /** Whether the next command may go on with the entry of the last one. */
   #isJoinable = false;
 
-  /** Whether commands go on with those of the acts before, as one step of the host's. */
-  isInStep = false;
+  /** How many steps around this act have begun, which it goes on with. */
+  #depth = 0;
 
   /**
    * @param {Editor} editor
@@ -121,62 +125,49 @@ export class Commands {
   }
 
   /**
-   * Executes a command of the engine, and shows what it did. Where the command before made an entry of
-   * the history for this act and nothing was selected since, the two share it.
+   * Executes a command of the engine on what is selected, or on a range that it selects first, and shows
+   * what it did. What this act has changed already is in the same entry of the history.
    * @param {string} name
    * @param {string} value
+   * @param {Selection} [range]
    */
-  exec(name, value = "") {
-    const isText = name.toLowerCase() === "inserttext";
-    const isJoined = this.#isJoinable && !isText;
-    const given = isText ? plain(value) : value;
-    const call = () =>
-      isJoined ? this.editor.execJoined(name, given) : this.editor.exec(name, given);
-    return this.#do(name, call, given.length, isJoined);
-  }
-
-  /**
-   * Puts a text in place of what is between two points, by one command of the engine, which goes on
-   * with what is typed as `insertText` does, and shows what it did.
-   * @param {Selection} range
-   * @param {string} text
-   */
-  #exchange({ anchor, focus }, text) {
-    this.#pause();
-    const call = () => this.editor.replace(anchor, focus, plain(text));
-    return this.#do("insertText", call, text.length);
-  }
-
-  /**
-   * Shows what a call of the engine did, which is a command.
-   * @param {string} name
-   * @param {() => boolean} call
-   * @param {number} edits about how many it makes, if these are many
-   * @param {boolean} isJoined
-   */
-  #do(name, call, edits, isJoined = false) {
+  exec(name, value = "", range = undefined) {
+    const isInsertion = name.toLowerCase() === "inserttext";
+    const given = isInsertion ? plain(value) : value;
+    const joined = this.#isJoinable;
     const before = this.editor.counts();
-    const isDone = call();
+    const isDone = this.editor.exec(name, given, range ? { range, joined } : { joined });
     if (isDone) {
-      const isChanged = this.view.follow(edits);
-      this.#note(name.toLowerCase(), before, isChanged && !isJoined);
+      const isChanged = this.view.follow(given.length);
+      this.#note(before, isInsertion, isChanged);
       this.#done.isChanged ||= isChanged;
     }
     return isDone;
   }
 
   /**
+   * Puts a text in place of what is between two points, by one command of the engine, which goes on
+   * with what is typed as `insertText` does.
+   * @param {Selection} range
+   * @param {string} text
+   */
+  #exchange(range, text) {
+    this.#pause();
+    return this.exec("insertText", text, range);
+  }
+
+  /**
    * Counts an entry of the history. Where that is full, the oldest goes with each that comes, and an
    * entry is known by what it changed.
-   * @param {string} name
    * @param {Counts} before
+   * @param {boolean} isInsertion
    * @param {boolean} isChanged
    */
-  #note(name, before, isChanged) {
-    const isInsertion = name === "inserttext";
+  #note(before, isInsertion, isChanged) {
     const isFull = before.undo === this.#undoDepth;
     const isMore = this.editor.counts().undo > before.undo;
-    const isNew = isMore || (isFull && isChanged && !(isInsertion && this.#isTyping));
+    const isOfLast = this.#isJoinable || (isInsertion && this.#isTyping);
+    const isNew = isMore || (isFull && isChanged && !isOfLast);
     this.#done.entries += Number(isNew);
     this.#isJoinable ||= isNew;
     this.#isTyping = isInsertion && (this.#isTyping || isChanged);
@@ -187,10 +178,52 @@ export class Commands {
     this.#done.isChanged = true;
   }
 
-  /** @param {Selection} selection */
+  /** Whether the last command typed a text, and nothing was selected since. */
+  get isTyping() {
+    return this.#isTyping;
+  }
+
+  /**
+   * Selects between two points. A call of the engine that selects would end the step of undo, so what
+   * goes on with one selects by a command that changes nothing.
+   * @param {Selection} selection
+   */
   select({ anchor, focus }) {
+    const name = "defaultParagraphSeparator";
+    const options = { range: { anchor, focus }, joined: true };
+    if (this.#isJoinable && this.editor.exec(name, this.editor.value(name), options)) {
+      this.#isTyping = false;
+      return;
+    }
     this.editor.select(anchor, focus);
     this.#endStep();
+  }
+
+  /** Forgets the style that what is typed would get: the engine does so where something else is selected. */
+  forgetStyle() {
+    const selection = this.editor.selection();
+    if (selection) {
+      const { root } = this.view;
+      const isAtStart = selection.focus.label === root && selection.focus.offset === 0;
+      const offset = isAtStart ? this.editor.node(root).length : 0;
+      const elsewhere = { label: root, offset };
+      this.select({ anchor: elsewhere, focus: elsewhere });
+      this.select(selection);
+    }
+  }
+
+  /** Whether commands go on with those of the acts before, as one step. */
+  get isInStep() {
+    return this.#depth > 0;
+  }
+
+  /** Begins a step of undo that acts share until what is given is called. */
+  beginStep() {
+    this.#depth += 1;
+    return () => {
+      this.#depth -= 1;
+      this.#isJoinable &&= this.isInStep;
+    };
   }
 
   /** Has what comes begin a step of its own. */

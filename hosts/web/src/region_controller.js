@@ -315,15 +315,11 @@ export class Controller {
     if (this.isEditable) {
       this.guard(() => this.#flush());
     }
-    const { commands, steps } = this.#session;
-    const before = steps.length;
-    const isWithin = commands.isInStep;
-    commands.isInStep = true;
+    const endStep = this.#session.beginStep();
     try {
       return call();
     } finally {
-      commands.isInStep = isWithin;
-      steps.join(before);
+      endStep();
     }
   }
 

@@ -1,5 +1,6 @@
 /** The keys of a region and the commands that they execute, for region.js. */
 import { BadArgument } from "./hedit.js";
+import { changeLevel } from "./region_levels.js";
 
 /** @typedef {import("./region.js").Region} Region */
 
@@ -17,9 +18,9 @@ import { BadArgument } from "./hedit.js";
  */
 
 /**
- * The keys of a region. A browser says nothing of undo and redo where it has nothing to undo itself,
- * and Firefox has no input for the styles.
- * @type {Readonly<Record<string, string>>}
+ * The keys that a region has by itself. A browser says nothing of undo and redo where it has nothing to
+ * undo itself, and Firefox has no input for the styles. Tab changes the level of list items.
+ * @type {Keymap}
  */
 export const KEYMAP = Object.freeze({
   "Mod+Z": "undo",
@@ -28,6 +29,8 @@ export const KEYMAP = Object.freeze({
   "Mod+B": "bold",
   "Mod+I": "italic",
   "Mod+U": "underline",
+  Tab: changeLevel("indent"),
+  "Shift+Tab": changeLevel("outdent"),
 });
 
 /** The key of `KEYMAP` that is another command of the browser on Apple's machines. */
@@ -37,6 +40,14 @@ const MODIFIERS = ["Control", "Alt", "Shift", "Meta"];
 
 function isApple() {
   return /^(Mac|iPhone|iPad)/.test(navigator.platform);
+}
+
+/**
+ * The key of an event. WebKit on Linux knows that of Tab with Shift by its place alone.
+ * @param {KeyboardEvent} event
+ */
+export function keyOf({ key, code }) {
+  return key === "Unidentified" ? code : key;
 }
 
 /** @param {string} key */
@@ -91,7 +102,7 @@ function characterByPlace({ key, code, ctrlKey, altKey, shiftKey }) {
 function namesOf(event) {
   const flags = [event.ctrlKey, event.altKey, event.shiftKey, event.metaKey];
   const held = new Set(MODIFIERS.filter((_, place) => flags[place]));
-  const key = keyName(event.key);
+  const key = keyName(keyOf(event));
   const names = [nameOf(held, key)];
   const byPlace = characterByPlace(event);
   if (byPlace !== undefined) {

@@ -40,8 +40,8 @@ export class DOMObserver {
   #hasLostRecords = false;
 
   /**
-   * What the browser changed while an input method composes, and how many steps there were before.
-   * @type {{ records: MutationRecord[], steps: number } | null}
+   * What the browser changed while an input method composes, and what ends its step of undo.
+   * @type {{ records: MutationRecord[], endStep: () => void } | null}
    */
   #composing = null;
 
@@ -139,13 +139,13 @@ export class DOMObserver {
     }
     this.flush();
     this.#region.read();
-    const { steps, editor, selections, commands } = this.#session;
-    const before = steps.length;
+    const { editor, selections, commands } = this.#session;
+    const endStep = this.#session.beginStep();
     const isWhole = !isCaret(editor.selection()) && !selections.isPartOfText();
     if (isWhole && !this.#region.isDenied("insertText")) {
       this.#region.act(() => commands.run("delete"));
     }
-    this.#composing = { records: [], steps: before };
+    this.#composing = { records: [], endStep };
   }
 
   /**
@@ -156,11 +156,11 @@ export class DOMObserver {
     if (!this.#composing) {
       return;
     }
-    const { records, steps } = this.#composing;
+    const { records, endStep } = this.#composing;
     this.#composing = null;
     this.#note(records);
     this.readDOMChange(text);
-    this.#session.steps.join(steps);
+    endStep();
   }
 
   /**

@@ -45,6 +45,20 @@ export function isEnd({ node, offset }) {
 }
 
 /**
+ * Whether a place in an element is at the element's start.
+ * @param {Node} element
+ * @param {NodePlace} place
+ */
+export function isStartOf(element, place) {
+  let { node, offset } = place;
+  while (node !== element && isStart({ node, offset })) {
+    offset = indexOf(node);
+    node = /** @type {Node} */ (node.parentNode);
+  }
+  return node === element && isStart({ node, offset });
+}
+
+/**
  * Whether blanks at the ends of its lines aren't shown.
  * @param {Text} text
  */

@@ -98,6 +98,16 @@ export class Session {
     return !isCaret(this.editor.selection()) && this.commands.run("delete");
   }
 
+  /** Begins a step of undo that acts share until what is given is called. */
+  beginStep() {
+    const before = this.steps.length;
+    const endStep = this.commands.beginStep();
+    return () => {
+      endStep();
+      this.steps.join(before);
+    };
+  }
+
   /** Notes that another page takes this one's place: what was undone here isn't done again. */
   leave() {
     this.#lostRedo = this.editor.counts().redo;

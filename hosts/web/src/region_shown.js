@@ -52,6 +52,15 @@ function answerOf(call) {
   }
 }
 
+/**
+ * @template T
+ * @param {T | Promise<T>} said
+ * @returns {said is Promise<T>}
+ */
+function isAwaited(said) {
+  return typeof said === "object" && said !== null;
+}
+
 /** What a page gets of elements. */
 export class Shown {
   #options;
@@ -194,9 +203,8 @@ export class Shown {
     }
     if (!this.#images.has(src)) {
       const said = answerOf(() => image(src));
-      const isAwaited = typeof said === "object" && said !== null;
-      this.#images.set(src, isAwaited ? null : this.#imageFrom(src, said));
-      if (isAwaited) {
+      this.#images.set(src, isAwaited(said) ? null : this.#imageFrom(src, said));
+      if (isAwaited(said)) {
         this.#await(src, said);
       }
     }

@@ -45,13 +45,11 @@ export function enterBlock(commands) {
  * @type {Habit}
  */
 export function forgetStyles(commands, next) {
-  const { editor, view } = commands;
+  const { view } = commands;
   const ends = commands.isCaret() ? null : commands.ends();
   const blocks = ends?.map(({ node }) => view.blockOf(node).nodeName);
   if (blocks && blocks[0] !== blocks[1] && commands.exec("delete")) {
-    const selection = /** @type {Selection} */ (editor.selection());
-    editor.unselect();
-    commands.select(selection);
+    commands.forgetStyle();
   }
   return next();
 }
@@ -121,6 +119,27 @@ export function keepStyle(commands, next) {
   const style = commands.isCaret() ? styleAt(commands) : null;
   const isDone = next();
   if (isDone && style && commands.editor.value("formatBlock") === style.block) {
+    carry(commands, style);
+  }
+  return isDone;
+}
+
+/**
+ * Keeps the style that is set where a space is typed: at the end of a line the engine drops it. Within a
+ * run of typing the text has the style.
+ * @type {Habit}
+ */
+export function keepStyleOverSpace(commands, next, value) {
+  const [spaces] = /^ */.exec(value) ?? [""];
+  if (spaces === "" || commands.isTyping || !commands.isCaret()) {
+    return next();
+  }
+  if (spaces !== value) {
+    return commands.type(spaces) && commands.type(value.slice(spaces.length));
+  }
+  const style = styleAt(commands);
+  const isDone = next();
+  if (isDone) {
     carry(commands, style);
   }
   return isDone;

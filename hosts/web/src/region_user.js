@@ -1,7 +1,9 @@
 /** What the user of a region does by keys, inputs and the clipboard, for region.js. */
+import { askedByStart, autoformat } from "./region_autoformat.js";
 import { INPUTS, namesOf } from "./region_command_table.js";
 import { selectForward } from "./region_deletion.js";
 import { SurrogatePairs, isOfBrowser, textOf } from "./region_input.js";
+import { keyOf } from "./region_keymap.js";
 import { isCaret } from "./region_nodes.js";
 
 /** @typedef {import("./hedit.js").Selection} Selection */
@@ -30,6 +32,9 @@ export class User {
   #acts;
 
   #keys;
+
+  /** Whether Escape was pressed last, after which Tab goes to the browser. */
+  #isLeaving = false;
 
   /** Whether the key that is down is turned off. */
   #isKeyOff = false;
@@ -63,7 +68,7 @@ export class User {
 
   /** @param {KeyboardEvent} event */
   keyDown(event) {
-    const action = this.#keys.actionOf(event);
+    const action = this.#isLeft(event) ? undefined : this.#keys.actionOf(event);
     this.#isKeyOff = action === null;
     if (typeof action === "string" && this.#acts.isEditable()) {
       event.preventDefault();
@@ -72,6 +77,18 @@ export class User {
       event.preventDefault();
       this.#acts.reveal();
     }
+  }
+
+  /**
+   * Whether a key is left to the browser: after Escape, Tab leaves the region anywhere.
+   * @param {KeyboardEvent} event
+   */
+  #isLeft(event) {
+    const key = keyOf(event);
+    const isEscape = key === "Escape" && !event.isComposing && !event.defaultPrevented;
+    const isLeft = this.#isLeaving && key === "Tab";
+    this.#isLeaving = isEscape || (this.#isLeaving && key === "Shift");
+    return isLeft;
   }
 
   keyUp() {
@@ -155,11 +172,22 @@ export class User {
       this.#selectTarget(event, isAimed);
       return whole !== "" && this.#session.commands.type(whole);
     });
-    if (!isDone && whole !== "") {
+    if (isDone && whole === " ") {
+      this.#autoformat();
+    } else if (!isDone && whole !== "") {
       this.#acts.refuse("insertText", "impossible", whole);
     } else if (text === "") {
       // As where a file is pasted.
       this.#acts.refuse(event.inputType, "unknown");
+    }
+  }
+
+  /** Makes a list or a quotation where one is typed, as a step of its own: undo gives the text back. */
+  #autoformat() {
+    const { commands } = this.#session;
+    const asked = commands.has("autoformat") ? askedByStart(commands) : null;
+    if (asked && !this.#acts.isDenied(asked.command)) {
+      this.#acts.act(() => autoformat(commands, asked));
     }
   }
 

@@ -9,6 +9,7 @@ export const PAGE = "<p contenteditable>Call Ann</p>";
 
 export const at = (path, offset) => ({ path, offset });
 
+/** @type {[hedit.Place, hedit.Place]} */
 export const NAME = [at([0, 0], 5), at([0, 0], 8)];
 
 export const refused = (call, name, status) =>

@@ -98,7 +98,7 @@ export class Chromium {
   #receive(part) {
     const messages = (this.#rest + part).split("\0");
     this.#rest = messages.pop();
-    for (const { id, result, error, method, params } of messages.map(JSON.parse)) {
+    for (const { id, result, error, method, params } of messages.map((text) => JSON.parse(text))) {
       const { resolve, reject } = this.#waiting.get(id) ?? {};
       this.#waiting.delete(id);
       if (error) {
@@ -280,7 +280,7 @@ class ChromiumPage extends Page {
   async correct(word, text) {
     await this.evaluate(
       (wrong, right) => {
-        const { focusNode } = document.getSelection();
+        const focusNode = /** @type {Text} */ (document.getSelection().focusNode);
         const range = new Range();
         range.setStart(focusNode, focusNode.data.indexOf(wrong));
         range.setEnd(focusNode, range.startOffset + wrong.length);

@@ -133,7 +133,7 @@ for (const { Browser, name, skip } of BROWSERS) {
         ["<p style='mso-list: l0 level9 lfo1'>1. a</p>".repeat(1_000), 10_000],
       ]) {
         const cleaned = await page.clean(html);
-        assert.ok(cleaned.length >= least, `${html.slice(0, 40)}: ${cleaned.length}`);
+        assert.ok(cleaned.length >= least, `${String(html).slice(0, 40)}: ${cleaned.length}`);
       }
     });
 

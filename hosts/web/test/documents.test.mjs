@@ -17,7 +17,7 @@ async function blocks(page, language) {
   return [...found].map(([, code]) => code);
 }
 
-const AsyncFunction = (async () => {}).constructor;
+const AsyncFunction = /** @type {any} */ ((async () => {}).constructor);
 
 /** Runs code with names that it takes for granted, and gives what the expressions of `wanted` are then. */
 function run(code, names = {}, wanted = "") {

@@ -7,6 +7,18 @@ import * as hedit from "../src/hedit.js";
 
 const { NodeKind, PageKind, Question, Status, View, load, toCharacters, toUnits } = hedit;
 
+/** The class, whose constructor is private. */
+const Engine = /** @type {any} */ (hedit.Engine);
+
+/** What a new instance of the module exports. */
+async function instantiate() {
+  const { exports } = await WebAssembly.instantiate(new WebAssembly.Module(BYTES));
+  return /** @type {any} */ (exports);
+}
+
+/** A value that a call doesn't take. */
+const bad = (value) => /** @type {any} */ (value);
+
 describe("the header", async () => {
   const header = await readFile(new URL("../../../include/hedit.h", import.meta.url), "utf8");
   const enumeration = (name, prefix) =>
@@ -112,8 +124,8 @@ describe("an editor", () => {
     editor.exec("italic");
     assert.deepEqual([editor.undo(), editor.undo()], [true, false]);
     editor.close();
-    for (const bad of [0, -1, 1.5, 2 ** 32, NaN, "7", null]) {
-      refused(() => engine.open(PAGE, { labelCap: bad }), "BadArgument", Status.BAD_ARGUMENT);
+    for (const limit of [0, -1, 1.5, 2 ** 32, NaN, "7", null]) {
+      refused(() => engine.open(PAGE, { labelCap: bad(limit) }), "BadArgument", Status.BAD_ARGUMENT);
     }
     refused(() => engine.open(PAGE, { undoDepth: 0 }), "BadArgument", Status.BAD_ARGUMENT);
     engine.open(PAGE, { labelCap: 2 ** 32 - 1, undoDepth: 10_000 }).close();
@@ -208,9 +220,36 @@ describe("denied names", () => {
       refused(() => editor.exec("bold", "", denied), "BadArgument", Status.BAD_ARGUMENT);
     }
     for (const denied of ["bold", [7], null, 7, new Uint8Array([98])]) {
-      assert.throws(() => editor.exec("bold", "", denied), TypeError);
+      assert.throws(() => editor.exec("bold", "", bad(denied)), TypeError);
     }
     assert.equal(editor.exec("bold", "", [...names.slice(1), "N1"]), true);
+  });
+});
+
+describe("a command with options", () => {
+  const open = (t) => {
+    const editor = engine.open(PAGE);
+    t.after(() => editor.close());
+    return { editor, text: editor.labelAt([0, 0]) };
+  };
+
+  it("works on a range within a step", (t) => {
+    const { editor, text } = open(t);
+    const range = { anchor: { label: text, offset: 0 }, focus: { label: text, offset: 4 } };
+    assert.equal(editor.exec("bold", "", { range }), true);
+    const rest = { anchor: { path: [0, 1], offset: 0 }, focus: { path: [0, 1], offset: 1 } };
+    assert.equal(editor.exec("italic", "", { range: rest, joined: true }), true);
+    assert.equal(editor.counts().undo, 1);
+    assert.equal(editor.undo(), true);
+    assert.equal(editor.html(), '<p contenteditable="">Call Ann</p>\n');
+  });
+
+  it("is refused where its name is denied or its range is nowhere", (t) => {
+    const { editor, text } = open(t);
+    const range = { anchor: { label: text, offset: 0 }, focus: { label: text, offset: 99 } };
+    assert.equal(editor.exec("bold", "", { range, denied: ["bold"] }), false);
+    refused(() => editor.exec("bold", "", { range }), "BadPlace", Status.BAD_PLACE);
+    assert.equal(editor.selection(), null);
   });
 });
 
@@ -230,8 +269,8 @@ describe("a cause has a class", () => {
         return [error.at, error.kind, error.message];
       }
     };
-    assert.deepEqual(place("<p>x</b>"), [6, PageKind.STRAY_END, "no page: stray-end at 6"]);
-    assert.deepEqual(place("<p>é😀</b>"), [8, "stray-end", "no page: stray-end at 8"]);
+    assert.deepEqual(place("<p>x</b>"), [6, PageKind.STRAY_END, "the page is refused: stray-end at 6"]);
+    assert.deepEqual(place("<p>é😀</b>"), [8, "stray-end", "the page is refused: stray-end at 8"]);
     assert.deepEqual(place(new TextEncoder().encode("<p>é😀</b>")).slice(0, 2), [11, "stray-end"]);
     assert.deepEqual(place(new Uint8Array([120, 255])).slice(0, 2), [1, PageKind.NOT_UTF8]);
     assert.deepEqual(place("<p>").slice(1, 2), [PageKind.UNCLOSED]);
@@ -277,9 +316,9 @@ describe("a cause has a class", () => {
       () => editor.exec(new Uint8Array([255])),
       () => editor.exec("insertText", "\ud83d"),
       () => engine.open("<p>\ude00</p>"),
-      () => editor.view(9),
-      () => editor.view("html"),
-      () => editor.ask(5, "bold"),
+      () => editor.view(bad(9)),
+      () => editor.view(bad("html")),
+      () => editor.ask(bad(5), "bold"),
     ];
     for (const call of calls) {
       refused(call, "BadArgument", Status.BAD_ARGUMENT);
@@ -288,16 +327,15 @@ describe("a cause has a class", () => {
 
   it("TypeError, for what is no text and no number", (t) => {
     const editor = open(t, PAGE);
-    const bad = [undefined, null, 7, {}, [98], new ArrayBuffer(2)];
-    for (const text of bad) {
-      assert.throws(() => engine.open(text), TypeError);
-      assert.throws(() => editor.state(text), TypeError);
+    for (const text of [undefined, null, 7, {}, [98], new ArrayBuffer(2)]) {
+      assert.throws(() => engine.open(bad(text)), TypeError);
+      assert.throws(() => editor.state(bad(text)), TypeError);
     }
     for (const number of [0.5, NaN, "0", null, 1n]) {
       assert.throws(() => editor.select(at([0, number], 0)), TypeError);
       assert.throws(() => editor.select(at([0, 0], number)), TypeError);
     }
-    assert.throws(() => editor.select([0, 0], 5), TypeError);
+    assert.throws(() => editor.select(bad([0, 0]), bad(5)), TypeError);
   });
 
   it("EditorClosed", () => {
@@ -405,8 +443,8 @@ describe("many editors", () => {
   });
 
   it("go on where the memory grows for one of them", async () => {
-    const { exports } = await WebAssembly.instantiate(new WebAssembly.Module(BYTES));
-    const grown = new hedit.Engine(exports);
+    const exports = await instantiate();
+    const grown = new Engine(exports);
     const editor = grown.open(PAGE);
     editor.select(...NAME);
     const before = exports.memory.buffer;
@@ -420,7 +458,7 @@ describe("many editors", () => {
   });
 
   it("give their memory back", async () => {
-    const { exports } = await WebAssembly.instantiate(new WebAssembly.Module(BYTES));
+    const exports = await instantiate();
     const lent = new Set();
     const allocate = (size) => {
       const at = exports.allocate(size);
@@ -431,7 +469,7 @@ describe("many editors", () => {
       assert.ok(lent.delete(at));
       exports.release(at);
     };
-    const other = new hedit.Engine({ ...exports, allocate, release });
+    const other = new Engine({ ...exports, allocate, release });
     const page = `<div contenteditable>${"<p>Call Ann</p>".repeat(2_000)}</div>`;
     const edit = () => {
       const editor = other.open(page);
@@ -458,10 +496,10 @@ describe("many editors", () => {
   });
 
   it("are closed when they are collected", async () => {
-    const { exports } = await WebAssembly.instantiate(new WebAssembly.Module(BYTES));
+    const exports = await instantiate();
     const closed = [];
     const counted = { ...exports, hedit_close: (handle) => exports.hedit_close(handle, closed.push(handle)) };
-    const other = new hedit.Engine(counted);
+    const other = new Engine(counted);
     (() => {
       for (let number = 0; number < 10; number += 1) {
         other.open(PAGE);

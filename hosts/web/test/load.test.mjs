@@ -109,7 +109,7 @@ describe("what is missing", () => {
   });
 
   it("is named where there are no numbers of 64 bits", () => {
-    WebAssembly.Global = class {
+    /** @type {any} */ (WebAssembly).Global = class {
       constructor() {
         throw new TypeError("i64");
       }

@@ -2,7 +2,9 @@ import assert from "node:assert/strict";
 import { it } from "node:test";
 import { BYTES, withMorePages } from "./engine.mjs";
 
-const instantiate = (bytes) => new WebAssembly.Instance(new WebAssembly.Module(bytes)).exports;
+/** What a new instance of a module exports. */
+const instantiate = (bytes) =>
+  /** @type {any} */ (new WebAssembly.Instance(new WebAssembly.Module(bytes)).exports);
 
 /** Numbers from 0 to 2^32, the same each time. */
 function* numbers(seed) {

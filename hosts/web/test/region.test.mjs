@@ -409,7 +409,8 @@ for (const { Browser, name, skip } of BROWSERS) {
         await region.page.click("#host input");
         await region.page.type("xy");
         await region.press("Backspace");
-        assert.equal(await region.page.evaluate(() => document.querySelector("#host input").value), "x");
+        const typed = () => /** @type {HTMLInputElement} */ (document.querySelector("#host input")).value;
+        assert.equal(await region.page.evaluate(typed), "x");
         await region.shows(`<p>abc<span contenteditable="false">${field}</span></p>`);
       });
 

@@ -99,8 +99,9 @@ for (const { Browser, name, skip } of BROWSERS) {
       await region.page.evaluate(() => {
         for (const paragraph of [...window.region.element.children]) {
           const font = document.createElement("font");
-          font.append(document.createElement("font"));
-          font.firstChild.append("eins");
+          const inner = document.createElement("font");
+          inner.append("eins");
+          font.append(inner);
           paragraph.replaceChildren(font);
         }
       });

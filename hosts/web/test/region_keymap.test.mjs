@@ -14,13 +14,16 @@ function setPlatform(platform) {
 /** A key as a browser tells of it: `flags` has the first letters of the modifiers. */
 function pressed(flags, key, code = "", others = {}) {
   const [ctrlKey, altKey, shiftKey, metaKey] = [..."casm"].map((flag) => flags.includes(flag));
-  return { key, code, ctrlKey, altKey, shiftKey, metaKey, defaultPrevented: false, ...others };
+  const flagged = { key, code, ctrlKey, altKey, shiftKey, metaKey, defaultPrevented: false, ...others };
+  return /** @type {any} */ (flagged);
 }
 
 describe("keys", () => {
-  const NAMES = ["Mod+Shift+7", "alt+x", "Mod+Alt+0", "Mod+?", "Mod++", "F2", "Shift+Enter", "Mod+/"];
+  const SIGNS = ["Mod+Shift+7", "alt+x", "Mod+Alt+0", "Mod+?", "Mod++", "Mod+/"];
+  const NAMES = [...SIGNS, "F2", "Shift+Enter", "Alt+Tab"];
   const keymap = Object.fromEntries(NAMES.map((name) => [name.replace("alt", "Alt"), name]));
 
+  /** @type {any[][]} */
   const ROWS = [
     ["Linux x86_64", "bold", ["c", "b", "KeyB"]],
     ["Linux x86_64", "bold", ["c", "B", "KeyB"]],
@@ -54,6 +57,7 @@ describe("keys", () => {
     ["Win32", "F2", ["", "F2", "F2"]],
     ["Win32", "Shift+Enter", ["s", "Enter", "Enter"]],
     ["Win32", undefined, ["", "Enter", "Enter"]],
+    ["Linux x86_64", "Alt+Tab", ["a", "Unidentified", "Tab"]],
     // What an input method takes, and what another listener has taken.
     ["Win32", undefined, ["c", "b", "KeyB", { isComposing: true }]],
     ["MacIntel", undefined, ["m", "b", "KeyB", { keyCode: 229 }]],
@@ -137,7 +141,7 @@ for (const { Browser, name, skip } of BROWSERS) {
       await open('{ "Mod+M": "indent", "Escape": () => { window.calls.push("Escape"); return true; } }');
       await region.page.evaluate(() => {
         window.region.readOnly = true;
-        document.querySelector("#host").focus();
+        window.region.element.focus();
       });
       await region.page.press("Control+m");
       await region.page.press("Escape");

@@ -4,7 +4,10 @@ import { describe } from "node:test";
 import { BROWSERS, it } from "./browsers.mjs";
 import { RegionPage } from "./region_page.mjs";
 
-/** What is denied and yet might be done: a page, a place in it, and how it is asked for. */
+/**
+ * What is denied and yet might be done: a page, a place in it, and how it is asked for.
+ * @type {any[][]}
+ */
 const DENIED = [
   [["backColor"], "<p>a</p>", [0, 0], 1, "exec", "backColor", "yellow"],
   [["formatBlock"], "<p>a</p>", [0, 0], 1, "exec", "formatBlock", "blockquote"],
@@ -78,33 +81,39 @@ for (const { Browser, name, skip } of BROWSERS) {
     });
 
     describe("a step", () => {
-      const types = (from, count) =>
+      /** Types digits as one step, which has an entry for each digit where something is marked. */
+      const types = (from, count, isMarked) =>
         region.page.evaluate(
-          (first, many) => {
+          (first, many, hasMarks) => {
             window.region.step(() => {
               for (let number = first; number < first + many; number += 1) {
                 const { label } = window.region.editor.selection().focus;
                 window.region.select({ label, offset: 1 });
                 window.region.exec("insertText", String(number % 10));
+                if (hasMarks) {
+                  window.region.mark("here");
+                }
               }
             });
           },
           from,
           count,
+          isMarked,
         );
 
       for (const undoDepth of [1, 2, 5]) {
         const what = `is undone as a whole or not at all, with ${undoDepth} entries`;
         it(what, { timeout: 120_000 }, async () => {
-          for (const count of [1, 2, 3, 5, 6, 20]) {
+          for (const [count, isMarked] of [[20, false], ...[1, 2, 3, 5, 6, 20].map((each) => [each, true])]) {
             await region.open("<p>ab</p>", { undoDepth });
             await region.click([0, 0], 1);
-            await types(1, 1);
+            await types(1, 1, isMarked);
             const first = await region.agrees();
-            await types(2, count);
+            await types(2, count, isMarked);
             const second = await region.agrees();
-            const isKept = count <= undoDepth;
-            const isBothKept = count + 1 <= undoDepth;
+            const entries = isMarked ? count : 1;
+            const isKept = entries <= undoDepth;
+            const isBothKept = entries + 1 <= undoDepth;
             assert.equal(await region.ask("enabled", "undo"), isKept);
             assert.equal(await region.ask("undo"), isKept);
             await region.shows(isKept ? first : second);
@@ -116,7 +125,7 @@ for (const { Browser, name, skip } of BROWSERS) {
         });
       }
 
-      it("has one entry where nothing is selected between", async () => {
+      it("has one entry, also where something is selected between", async () => {
         await region.open("<p>ab</p>");
         await region.click([0, 0], 1);
         await region.press("Control+a");
@@ -126,11 +135,56 @@ for (const { Browser, name, skip } of BROWSERS) {
             window.region.exec("italic");
             window.region.exec("foreColor", "red");
             window.region.exec("justifyRight");
+            window.region.select(window.region.selection().anchor);
+            window.region.exec("insertText", "x");
           }),
         );
         const after = await region.agrees();
         await region.isOneStep("<p>ab</p>");
         await region.shows(after);
+      });
+    });
+
+    describe("an act", () => {
+      const LIST = "<ul><li>z</li><li>a<ul><li>b</li></ul></li></ul>";
+      const ROWS = [
+        ["Enter beside a space", "<p>foo bar</p>", [[0, 0], 4], "Enter"],
+        ["Backspace of a flag", "<p>a🇩🇪b</p>", [[0, 0], 5], "Backspace"],
+        ["Backspace behind a link", '<p><a href="u">ab</a>c</p>', [[0, 1], 0], "Backspace"],
+        ["an item with a list that is indented", LIST, [[0, 1, 0], 1], "Control+m"],
+        ["a quotation that is left", "<blockquote><p>a <b>b</b></p></blockquote>", [[0, 0, 0], 0], "Control+j"],
+      ];
+      for (const [what, html, place, keys] of ROWS) {
+        it(`has one entry: ${what}`, async () => {
+          await region.open(html, { keymap: { "Mod+M": "indent", "Mod+J": "outdent" } });
+          await region.click(...place);
+          await region.press(keys);
+          assert.notEqual(await region.agrees(), html);
+          await region.isOneStep(html);
+        });
+      }
+
+      it("has one entry: what is typed over blocks of two kinds", async () => {
+        const html = "<h1>one</h1><p>two</p>";
+        await region.open(html);
+        await region.sweep([[0, 0], 1], [[1, 0], 1]);
+        await region.type("xy");
+        await region.shows("<h1>oxywo</h1>");
+        await region.isOneStep(html);
+      });
+
+      it("doesn't go on with the step before", async () => {
+        await region.open("<p>ab</p>");
+        await region.click([0, 0], 1);
+        await region.press("Control+a");
+        await region.page.evaluate(() => {
+          window.region.step(() => window.region.exec("bold"));
+          window.region.exec("italic");
+        });
+        await region.press("Control+z");
+        await region.shows("<p><b>ab</b></p>");
+        await region.press("Control+z");
+        await region.shows("<p>ab</p>");
       });
     });
 

@@ -45,8 +45,9 @@ async function use(seed, count) {
     target.dispatchEvent(new InputEvent("beforeinput", settings));
   };
   const select = () => {
-    const [from, to] = [place(), below(3) ? null : place()];
-    document.getSelection().setBaseAndExtent(...from, ...(to ?? from));
+    const [from, start] = place();
+    const [to, end] = below(3) ? [from, start] : place();
+    document.getSelection().setBaseAndExtent(from, start, to, end);
   };
   const commands = ["bold", "italic", "insertUnorderedList", "indent", "outdent", "removeFormat"];
   commands.push("insertOrderedList", "justifyRight", "justifyLeft", "insertHorizontalRule", "unlink");

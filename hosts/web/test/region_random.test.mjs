@@ -59,7 +59,10 @@ const PAGE =
   '<p>Hi <span contenteditable="false">NAME</span>, 👨‍👩‍👧 and 🇩🇪.</p>' +
   "<blockquote><p>q</p></blockquote><p><br></p>";
 
-/** What a user does next, as a name and its words. */
+/**
+ * What a user does next, as a name and its words.
+ * @returns {[string, ...any]}
+ */
 function nextAct(random) {
   const below = (count) => Math.floor(random.next().value * count);
   const pick = (from) => from[below(from.length)];
@@ -105,8 +108,9 @@ for (const { Browser, name, skip } of BROWSERS) {
         await region.click([0, 0], 1);
         const said = [];
         for (let turn = 0; turn < EVENTS; turn += 1) {
-          said.push(nextAct(random));
-          const found = await act(region, said.at(-1)).then(() => region.difference(), String);
+          const next = nextAct(random);
+          said.push(next);
+          const found = await act(region, next).then(() => region.difference(), String);
           assert.equal(found, null, `${turn}: ${JSON.stringify(said.slice(-8))}`);
         }
         const [last, again] = await region.page.evaluate(() => {

@@ -77,11 +77,12 @@ for (const { Browser, name, skip } of BROWSERS) {
       region.page.evaluate(() => {
         const { top, left } = document.getElementById("cover").getBoundingClientRect();
         const all = [...window.region.element.querySelectorAll("*")];
+        const form = /** @type {HTMLFormElement} */ (document.getElementById("form"));
         const isComment = ({ nodeType }) => nodeType === 8;
         const comments = [...window.region.element.childNodes].filter(isComment);
         return {
           isCovered: document.elementFromPoint(left + 5, top + 5)?.id !== "cover",
-          fields: [...document.getElementById("form").elements].map((each) => each.id),
+          fields: [...form.elements].map((each) => each.id),
           field: document.getElementById("field").localName,
           base: document.baseURI === location.href,
           global: typeof window.victim,

@@ -79,7 +79,7 @@ for (const { Browser, name, skip } of BROWSERS) {
         await region.click([0, 0], 1);
         await region.compose("に");
         await region.page.evaluate(() => {
-          document.querySelector("#host p").title = "x";
+          document.querySelector("#host p").setAttribute("title", "x");
         });
         await composeAll(["にほ", "日本"]);
         await region.shows("<p>a日本b</p><p>c</p>");
@@ -162,7 +162,7 @@ for (const { Browser, name, skip } of BROWSERS) {
         await region.open("<p>see teh end</p>");
         await region.click([0, 0], 11);
         await region.page.evaluate(() => {
-          const [text] = document.querySelector("#host p").childNodes;
+          const text = /** @type {Text} */ (document.querySelector("#host p").firstChild);
           text.replaceData(4, 3, "the");
         });
         await region.shows("<p>see the end</p>");

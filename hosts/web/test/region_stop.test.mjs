@@ -8,7 +8,7 @@ import { RegionPage } from "./region_page.mjs";
 
 /** Opens a region over an engine that fails where the page says so. */
 async function openFailing(html, choices = {}) {
-  const { Engine } = await import("/hedit.js");
+  const { Engine } = await import(/** @type {string} */ ("/hedit.js"));
   const make = async () => {
     const bytes = await (await fetch("/hedit.wasm")).arrayBuffer();
     const { instance } = await WebAssembly.instantiate(bytes);

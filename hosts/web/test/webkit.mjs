@@ -76,7 +76,7 @@ class Session {
   }
 
   async #begin() {
-    const wanted = { pageLoadStrategy: "eager", "webkitgtk:browserOptions": OPTIONS };
+    const wanted = { pageLoadStrategy: "normal", "webkitgtk:browserOptions": OPTIONS };
     const capabilities = { alwaysMatch: wanted };
     const end = Date.now() + PATIENCE;
     for (;;) {

@@ -1,30 +1,66 @@
 //! Calls that change an editor.
 
-ghost use Rattle.std.specs.Prelude.{◌≡◌, nat_lt, length};
-ghost use Rattle.edit_engine.specs.Changes.{CanFollow, TellsNoChange};
-ghost use Rattle.edit_engine.specs.Editing.{Editing, EditorValue, undone, redone};
+ghost use Rattle.std.specs.Prelude.{◌≡◌, nat_lt, length, None, Some, false};
+ghost use Rattle.edit_engine.specs.Changes.{CanFollow};
+ghost use Rattle.edit_engine.specs.Editing.{Editing, undone, redone};
 ghost use Rattle.edit_engine.specs.Execution.{Outcome, Tells, outcome_by, gated_outcome};
-ghost use Rattle.hedit_c.specs.Following.{KeepsFollowing, KeepsUnlessDone};
+ghost use Rattle.edit_engine.specs.Following.{after_undo, after_redo};
+ghost use Rattle.edit_engine.specs.Places.{pair_from};
+ghost use Rattle.edit_engine.specs.Promises.{ExecPromises, is_yes};
+ghost use Rattle.edit_model.specs.HtmlNames.Commands.{command_named};
+ghost use Rattle.edit_model.specs.HtmlNames.declared.commands.Command.TheVariants.{InsertText};
+ghost use Rattle.hedit_c.specs.Following.{KeepsFollowing};
 ghost use Rattle.std.specs.Str.{chars};
-ghost use Rattle.hedit_c.specs.Calls.{ExecAnswers, ExecTells, SelectPointsTell, answered_status, GatedTells, SelectTells, MarkTells, UnmarkTells, ReplaceAnswers, ReplaceTells, pair_there, pair_of_points, place, replaced_status, selected_status};
+ghost use Rattle.hedit_c.specs.Calls.{ExecAnswers, ExecTells, SelectPointsTell, answered_status, GatedTells, SelectTells, MarkTells, UnmarkTells, ReplaceAnswers, ReplaceTells, WithAnswers, WithTells, is_done, is_set, pair_there, pair_of_points, place, range_of, ranged_status, selected_status};
 
 use super::status::Status;
 use super::texts::place_of;
 use command_gate::{Gate, NameList};
-use edit_engine::{Answer, Editor, ExecFault, PlaceFault, ReplaceFault, Turn};
+use edit_engine::{Answer, Editor, ExecFault, ExecOptions, PlaceFault, RangeFault, Turn};
 use edit_model::dom::{Chars, Name};
 use edit_session::read_gate;
-use inline_value::doc::Point;
+use inline_value::doc::{Pair, Point};
 use script_read::Place;
 use std::alloc::Global;
+
+/// How C tells a command to run: each of the first two is no where it is 0.
+#[repr(C)]
+#[derive(Clone, Copy)]
+pub struct CommandOptions {
+    /// Whether the edits join the last entry of the history.
+    pub joined: u32,
+    /// Whether the command works on what is between the two points, in place of the selection.
+    pub ranged: u32,
+    pub anchor: u32,
+    pub anchor_offset: u32,
+    pub focus: u32,
+    pub focus_offset: u32,
+}
+
+fn range_of(options: &CommandOptions) -> Option<Pair>
+    ensures { result ≡ range_of options.now }
+{
+    if options.ranged == 0 {
+        return None;
+    }
+    Some(Pair {
+        anchor: Point {
+            label: options.anchor,
+            offset: options.anchor_offset,
+        },
+        focus: Point {
+            label: options.focus,
+            offset: options.focus_offset,
+        },
+    })
+}
 
 // The status of a command's answer.
 fn answered(answer: Result<Answer, ExecFault>) -> Status
     ensures status { result ≡ answered_status answer }
     ensures told { (old new : Editing) (o : Outcome) → Tells answer old new o
         → ExecAnswers result old new o }
-    ensures quiet { (old new : EditorValue) → TellsNoChange answer old new
-        → KeepsUnlessDone result old new }
+    ensures done { is_done result ≡ is_yes answer }
 {
     match answer {
         Ok(Answer::Yes) => Status::Done,
@@ -38,8 +74,8 @@ fn answered(answer: Result<Answer, ExecFault>) -> Status
 fn exec_chars(alloc: Global, editor: &mut Editor, joined: bool, name: &str, value: &Chars) -> Status
     ensures told { ExecAnswers result editor.old.editing editor.new.editing
         (outcome_by joined editor.old.editing name.now value.now) }
-    ensures followed { CanFollow editor.old editor.new }
-    ensures quiet { KeepsUnlessDone result editor.old editor.new }
+    ensures promises { ExecPromises (is_done result) None joined (command_named name.now) value.now
+        editor.old editor.new }
 {
     if joined {
         answered(editor.exec_joined(alloc, name, value.as_slice()))
@@ -51,12 +87,15 @@ fn exec_chars(alloc: Global, editor: &mut Editor, joined: bool, name: &str, valu
 fn exec_text(alloc: Global, editor: &mut Editor, joined: bool, name: &str, value: &str) -> Status
     ensures told { ExecAnswers result editor.old.editing editor.new.editing
         (outcome_by joined editor.old.editing name.now (chars value.now)) }
-    ensures followed { CanFollow editor.old editor.new }
-    ensures quiet { KeepsUnlessDone result editor.old editor.new }
+    ensures promises { ExecPromises (is_done result) None joined (command_named name.now)
+        (chars value.now) editor.old editor.new }
 {
     match Chars::from_text(alloc, value) {
         Ok(value) => exec_chars(alloc, editor, joined, name, &value),
-        Err(_) => Status::Memory,
+        Err(_) => {
+            editor.promises_as_is();
+            Status::Memory
+        }
     }
 }
 
@@ -69,12 +108,15 @@ pub(crate) fn exec(
     value: &[u8],
 ) -> Status
     ensures told { ExecTells joined result editor.old.editing editor.new.editing name.now value.now }
-    ensures followed { CanFollow editor.old editor.new }
-    ensures quiet { KeepsUnlessDone result editor.old editor.new }
+    ensures promises { ExecPromises (is_done result) None joined (command_named name.now)
+        (chars value.now) editor.old editor.new }
 {
     match (str::from_utf8(name), str::from_utf8(value)) {
         (Ok(name), Ok(value)) => exec_text(alloc, editor, joined, name, value),
-        _ => Status::BadArgument,
+        _ => {
+            editor.promises_as_is();
+            Status::BadArgument
+        }
     }
 }
 
@@ -87,12 +129,15 @@ fn exec_past(
 ) -> Status
     ensures told { ExecAnswers result editor.old.editing editor.new.editing
         (gated_outcome gate.now editor.old.editing name.now (chars value.now)) }
-    ensures followed { CanFollow editor.old editor.new }
-    ensures quiet { KeepsUnlessDone result editor.old editor.new }
+    ensures promises { ExecPromises (is_done result) None false (command_named name.now)
+        (chars value.now) editor.old editor.new }
 {
     match Chars::from_text(alloc, value) {
         Ok(value) => answered(editor.exec_gated(alloc, gate, name, value.as_slice())),
-        Err(_) => Status::Memory,
+        Err(_) => {
+            editor.promises_as_is();
+            Status::Memory
+        }
     }
 }
 
@@ -105,9 +150,10 @@ pub(crate) fn exec_gated(
     value: &[u8],
 ) -> Status
     ensures told { GatedTells result editor.old.editing editor.new.editing denied.now name.now value.now }
-    ensures followed { CanFollow editor.old editor.new }
-    ensures quiet { KeepsUnlessDone result editor.old editor.new }
+    ensures promises { ExecPromises (is_done result) None false (command_named name.now)
+        (chars value.now) editor.old editor.new }
 {
+    editor.promises_as_is();
     let (Ok(name), Ok(value)) = (str::from_utf8(name), str::from_utf8(value)) else {
         return Status::BadArgument;
     };
@@ -118,21 +164,89 @@ pub(crate) fn exec_gated(
     }
 }
 
-// The status of a replacement's answer.
-fn replaced(answer: Result<Answer, ReplaceFault>) -> Status
-    ensures status { result ≡ replaced_status answer }
-    ensures quiet { (old new : EditorValue) → TellsNoChange answer old new
-        → KeepsUnlessDone result old new }
+// The status of the answer of a call that may be told a range.
+fn ranged(answer: Result<Answer, RangeFault>) -> Status
+    ensures status { result ≡ ranged_status answer }
+    ensures done { is_done result ≡ is_yes answer }
 {
     match answer {
         Ok(answer) => match answer {
             Answer::Yes => Status::Done,
             Answer::No => Status::No,
         },
-        Err(ReplaceFault::BadPlace) => Status::BadPlace,
-        Err(ReplaceFault::Full) => Status::Full,
-        Err(ReplaceFault::Deep) => Status::Deep,
-        Err(ReplaceFault::Memory) => Status::Memory,
+        Err(RangeFault::BadPlace) => Status::BadPlace,
+        Err(RangeFault::Full) => Status::Full,
+        Err(RangeFault::Deep) => Status::Deep,
+        Err(RangeFault::Memory) => Status::Memory,
+    }
+}
+
+fn exec_with_chars(
+    alloc: Global,
+    editor: &mut Editor,
+    gate: &Gate<NameList>,
+    options: ExecOptions,
+    name: &str,
+    value: &Chars,
+) -> Status
+    ensures told { WithAnswers result editor.old.editing editor.new.editing gate.now options.range
+        options.joined name.now value.now }
+    ensures promises { ExecPromises (is_done result) options.range options.joined
+        (command_named name.now) value.now editor.old editor.new }
+{
+    ranged(editor.exec_with(alloc, gate, options, name, value.as_slice()))
+}
+
+fn exec_with_text(
+    alloc: Global,
+    editor: &mut Editor,
+    gate: &Gate<NameList>,
+    options: ExecOptions,
+    name: &str,
+    value: &str,
+) -> Status
+    ensures told { WithAnswers result editor.old.editing editor.new.editing gate.now options.range
+        options.joined name.now (chars value.now) }
+    ensures promises { ExecPromises (is_done result) options.range options.joined
+        (command_named name.now) (chars value.now) editor.old editor.new }
+{
+    match Chars::from_text(alloc, value) {
+        Ok(value) => exec_with_chars(alloc, editor, gate, options, name, &value),
+        Err(_) => {
+            editor.promises_as_is();
+            Status::Memory
+        }
+    }
+}
+
+/// Executes a command by its name and its value, both in UTF-8, unless its name is denied: as the
+/// options say, on a range or at the selection, as a joined one or not.
+pub(crate) fn exec_with(
+    alloc: Global,
+    editor: &mut Editor,
+    options: &CommandOptions,
+    denied: &[u8],
+    name: &[u8],
+    value: &[u8],
+) -> Status
+    ensures told { WithTells result editor.old.editing editor.new.editing (range_of options.now)
+        (is_set options.now.joined) denied.now name.now value.now }
+    ensures promises { ExecPromises (is_done result) (range_of options.now)
+        (is_set options.now.joined) (command_named name.now) (chars value.now)
+        editor.old editor.new }
+{
+    editor.promises_as_is();
+    let (Ok(name), Ok(value)) = (str::from_utf8(name), str::from_utf8(value)) else {
+        return Status::BadArgument;
+    };
+    let options = ExecOptions {
+        range: range_of(options),
+        joined: options.joined != 0,
+    };
+    match read_gate(alloc, denied) {
+        Ok(Some(gate)) => exec_with_text(alloc, editor, &gate, options, name, value),
+        Ok(None) => Status::BadArgument,
+        Err(_) => Status::Memory,
     }
 }
 
@@ -145,10 +259,10 @@ fn replace_chars(
 ) -> Status
     ensures told { ReplaceAnswers result editor.old.editing editor.new.editing
         (pair_of_points editor.old.editing anchor focus) text.now }
-    ensures followed { CanFollow editor.old editor.new }
-    ensures quiet { KeepsUnlessDone result editor.old editor.new }
+    ensures promises { ExecPromises (is_done result) (Some (pair_from anchor focus)) false
+        (Some InsertText) text.now editor.old editor.new }
 {
-    replaced(editor.replace(alloc, anchor, focus, text.as_slice()))
+    ranged(editor.replace(alloc, anchor, focus, text.as_slice()))
 }
 
 fn replace_text(
@@ -160,12 +274,15 @@ fn replace_text(
 ) -> Status
     ensures told { ReplaceAnswers result editor.old.editing editor.new.editing
         (pair_of_points editor.old.editing anchor focus) (chars text.now) }
-    ensures followed { CanFollow editor.old editor.new }
-    ensures quiet { KeepsUnlessDone result editor.old editor.new }
+    ensures promises { ExecPromises (is_done result) (Some (pair_from anchor focus)) false
+        (Some InsertText) (chars text.now) editor.old editor.new }
 {
     match Chars::from_text(alloc, text) {
         Ok(text) => replace_chars(alloc, editor, anchor, focus, &text),
-        Err(_) => Status::Memory,
+        Err(_) => {
+            editor.promises_as_is();
+            Status::Memory
+        }
     }
 }
 
@@ -179,12 +296,15 @@ pub(crate) fn replace(
 ) -> Status
     ensures told { ReplaceTells result editor.old.editing editor.new.editing
         (pair_of_points editor.old.editing anchor focus) text.now }
-    ensures followed { CanFollow editor.old editor.new }
-    ensures quiet { KeepsUnlessDone result editor.old editor.new }
+    ensures promises { ExecPromises (is_done result) (Some (pair_from anchor focus)) false
+        (Some InsertText) (chars text.now) editor.old editor.new }
 {
     match str::from_utf8(text) {
         Ok(text) => replace_text(alloc, editor, anchor, focus, text),
-        Err(_) => Status::BadArgument,
+        Err(_) => {
+            editor.promises_as_is();
+            Status::BadArgument
+        }
     }
 }
 
@@ -193,6 +313,7 @@ pub(crate) fn undo(editor: &mut Editor) -> bool
     ensures answer { result ≡ nat_lt 0 (length editor.old.editing.history.undo) }
     ensures undone { editor.new.editing ≡ undone editor.old.editing }
     ensures followed { CanFollow editor.old editor.new }
+    ensures told { editor.new.following ≡ after_undo result editor.old.following }
 {
     editor.turn(Turn::Undo)
 }
@@ -202,6 +323,7 @@ pub(crate) fn redo(editor: &mut Editor) -> bool
     ensures answer { result ≡ nat_lt 0 (length editor.old.editing.history.redo) }
     ensures redone { editor.new.editing ≡ redone editor.old.editing }
     ensures followed { CanFollow editor.old editor.new }
+    ensures told { editor.new.following ≡ after_redo result editor.old.following }
 {
     editor.turn(Turn::Redo)
 }

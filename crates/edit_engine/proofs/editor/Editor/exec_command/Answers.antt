@@ -18,7 +18,7 @@ returns-then-not-is_enabled_in c =
     let joining = joins_by c.args.joined e.going c.args.command in
     let host = c.host_at.ensures.is ∙ ap (λ (x : EditorValue). host_at c.args.at x.editing.state) c.self.view_is in
     let off : is_enabled_in (host_at c.args.at e.state) c.args.command ≡ false = ap (λ (h : Option ℕ). is_enabled_in h c.args.command) (sym host) ∙ (sym c.is_enabled_in.ensures ∙ c.if-not-is_enabled_in.true) in
-    record { tells = (inl (refused_outcome e c.args.at joining c.args.value.now c.args.command off), refl); followed = inl (refl, refl); quiet = refl }
+    record { tells = (inl (refused_outcome e c.args.at joining c.args.value.now c.args.command off), refl); followed = inl (refl, refl); told = refl }
 
 pub returns-then-is_deeper_than : goal.returns-then-is_deeper_than
 returns-then-is_deeper_than c =
@@ -29,7 +29,7 @@ returns-then-is_deeper_than c =
     record {
       tells = (deep_outcome e c.args.at joining c.args.value.now c.args.command on (ap (λ (x : EditorValue). nat_lt 250 (page_depth x.editing.state.trees)) (sym c.self.view_is) ∙ (sym c.is_deeper_than.ensures ∙ c.if-is_deeper_than.true)), refl);
       followed = inl (refl, refl);
-      quiet = refl;
+      told = refl;
     }
 
 pub returns : goal.returns
@@ -39,4 +39,4 @@ returns c =
     let host = c.host_at.ensures.is ∙ ap (λ (x : EditorValue). host_at c.args.at x.editing.state) c.self.view_is in
     let on : is_enabled_in (host_at c.args.at e.state) c.args.command ≡ true = ap (λ (h : Option ℕ). is_enabled_in h c.args.command) (sym host) ∙ (sym c.is_enabled_in.ensures ∙ c.if-not-is_enabled_in.false) in
     let o = runs_outcome e c.args.at joining c.args.value.now c.args.command on (ap (λ (x : EditorValue). nat_lt 250 (page_depth x.editing.state.trees)) (sym c.self.view_is) ∙ (sym c.is_deeper_than.ensures ∙ c.if-is_deeper_than.false)) in
-    record { tells = rw o c.run.ensures.tells; followed = c.run.ensures.followed; quiet = c.run.ensures.quiet }
+    record { tells = rw o c.run.ensures.tells; followed = c.run.ensures.followed; told = c.run.ensures.told }

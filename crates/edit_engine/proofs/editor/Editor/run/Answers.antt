@@ -1,5 +1,4 @@
 use Rattle.std.proofs.Common.{◌≡◌, true, false, sym, ap, ◌∙◌, subst, Ok, Err, Option, Some, IfSome, inr}
-use Rattle.edit_model.specs.LiveRange.declared.places.Pair.{Pair}
 use Rattle.inline_value.specs.UndoLog.declared.log.Committed.{Committed}
 use Rattle.edit_model.specs.Valid.{IsPlacedPair}
 use Rattle.inline_value.specs.EditDoc.Changes.{resumed_at}
@@ -7,13 +6,13 @@ use Rattle.edit_engine.specs.Changes.{CanFollow}
 use Rattle.edit_engine.specs.Commands.{row_of, action_of}
 use Rattle.edit_engine.specs.Editing.{Editing, EditorValue, IsResting, value_of}
 use Rattle.edit_engine.specs.declared.following.Following.{Following}
-use Rattle.edit_engine.specs.declared.going.Going.{Going}
 use Rattle.edit_engine.specs.Execution.{Acted, Tells, host_at, run_at, run_outcome}
-use Rattle.edit_engine.specs.Going.{goes_on, joins_by}
+use Rattle.edit_engine.specs.Going.{joins_by}
+use Rattle.edit_engine.specs.Promises.{makes_edit, told_by_exec}
 use Rattle.edit_engine.specs.Running.{IsRefused, Ran, TellsChange}
 use Rattle.edit_engine.specs.declared.answers.ExecFault.{ExecFault}
 use Rattle.edit_engine.proofs.Outcomes.{shown, made_outcome, refused_tells, failed_tells}
-use Rattle.edit_engine.proofs.Followed.{run_followed, kept_followed}
+use Rattle.edit_engine.proofs.Followed.{run_followed, told_commit, kept_followed}
 use Rattle.edit_engine.proofs.GoingOn.{taken, told_edits, joins_on, rests_after}
 use Rattle.edit_engine.proofs.editor.Editor.run.Goals as goal
 
@@ -50,15 +49,19 @@ returns-in-Ok-Some c =
     let after = c.going_after-self-inside.result in
     let following = c.self.inside.following in
     let t = taken w new going host joining c.args.command m c.in-Ok-Some.field-0 c.in-Ok-Some.committed c.in-Ok-Some.field-0-is c.in-Ok-Some.ensures.ran after c.going_after-self-inside.ensures in
-    let told : TellsChange (Ok (Some c.in-Ok-Some.committed)) w new joining = subst (λ (o : Option Committed). TellsChange (Ok o) w new joining) c.in-Ok-Some.field-0-is c.in-Ok-Some.ensures.told in
-    let here = run_followed w new going after following joining c.kept_edits-kept.result c.in-Ok-Some.committed c.valid.ensures c.self.invariant.closed told c.kept_edits-kept.ensures in
+    let edited = told_edits w new going host joining c.args.command m c.in-Ok-Some.field-0 c.in-Ok-Some.committed c.in-Ok-Some.field-0-is c.in-Ok-Some.ensures.ran in
+    let joins = c.joins_by-joining.ensures in
+    let told = told_commit c.in-Ok-Some.committed c.kept_edits-kept.result (resumed_at (joins_by c.args.joined going c.args.command) w.history.undo) (makes_edit c.args.at c.args.command c.args.value.now (shown w going)) following edited (c.kept_edits-kept.ensures ∙ ap (λ j. resumed_at j w.history.undo) joins) in
+    let leads : TellsChange (Ok (Some c.in-Ok-Some.committed)) w new joining = subst (λ (o : Option Committed). TellsChange (Ok o) w new joining) c.in-Ok-Some.field-0-is c.in-Ok-Some.ensures.told in
+    let here = run_followed w new going after following joining c.kept_edits-kept.result c.in-Ok-Some.committed c.valid.ensures c.self.invariant.closed leads c.kept_edits-kept.ensures in
     let made : run_outcome (shown w going) host (joins_by c.args.joined going c.args.command) c.args.command m ≡ Acted true (shown new after) =
     ap (λ j. run_outcome (shown w going) host j c.args.command m) (sym c.joins_by-joining.ensures) ∙ made_outcome w new going host joining c.args.command m after t.made t.goes in
     record {
       tells = subst (λ (e : Editing). run_outcome e (host_at c.args.at e.state) (joins_by c.args.joined e.going c.args.command) c.args.command m ≡ Acted true (shown new after)) (ap (λ (v : EditorValue). v.editing) c.self.view_is) made;
       followed = subst (λ (v : EditorValue). CanFollow v (value_of new after c.commit-self-inside.result)) c.self.view_is
           (subst (λ (x : Following). CanFollow (value_of w going following) (value_of new after x)) (sym c.commit-self-inside.ensures) here);
-      quiet = tt;
+      told = subst (λ (v : EditorValue). c.commit-self-inside.result ≡ told_by_exec true c.args.at c.args.joined (Some c.args.command) c.args.value.now v) c.self.view_is
+          (c.commit-self-inside.ensures ∙ told);
     }
 
 pub returns-in-Ok-None : goal.returns-in-Ok-None
@@ -76,7 +79,7 @@ returns-in-Ok-None c =
       tells = (inr (subst (λ (e : Editing). run_outcome e (host_at c.args.at e.state) (joins_by c.args.joined e.going c.args.command) c.args.command m ≡ Acted false (shown new going)) is_old r.0), r.1 ∙ is_old);
       followed = subst (λ (v : EditorValue). CanFollow v (value_of new going c.self.inside.following)) c.self.view_is
           (kept_followed w new going going c.self.inside.following is.back.state);
-      quiet = ap (λ (v : EditorValue). v.following) c.self.view_is;
+      told = ap (λ (v : EditorValue). v.following) c.self.view_is;
     }
 
 pub returns-in-Err : goal.returns-in-Err
@@ -93,5 +96,5 @@ returns-in-Err c =
           (subst (λ (x : ExecFault). Tells (Err x) (shown w going) (shown new going) (run_outcome (shown w going) host (joins_by c.args.joined going c.args.command) c.args.command m)) (sym c.from.ensures) r);
       followed = subst (λ (v : EditorValue). CanFollow v (value_of new going c.self.inside.following)) c.self.view_is
           (kept_followed w new going going c.self.inside.following back.0.state);
-      quiet = ap (λ (v : EditorValue). v.following) c.self.view_is;
+      told = ap (λ (v : EditorValue). v.following) c.self.view_is;
     }
