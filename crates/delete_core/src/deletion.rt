@@ -6,7 +6,7 @@ ghost use Rattle.edit_model.specs.Gives.{Gives, GivesAs, label_of};
 ghost use Rattle.inline_value.specs.EditDoc.Whole.{IsOpen};
 ghost use Rattle.inline_value.specs.EditDoc.Held.{Holds, IfHeld, Keeps};
 ghost use Rattle.delete_core.specs.Stretches.{StretchHeld};
-ghost use Rattle.delete_core.specs.Deletion.{erase_across, erase, delete_recorded, delete_selected, delete_range, delete_between, delete_selection};
+ghost use Rattle.delete_core.specs.Deletion.{erase_across, erase, delete_between, delete_selection};
 
 use crate::ends::{
     block_of_end, canonicalize_end, canonicalize_start, collapse_selection, out_of_end,
@@ -126,76 +126,8 @@ fn erase(
     erase_across(alloc, doc, manner, stretch, blocks)
 }
 
-// Steps 3 and 4, and then from 5 on.
-#[tactic(auto, using(edit_model::proofs::Steps::steps, edit_model::proofs::Steps::exits), unfolding(crate::specs::Deletion::delete_recorded))]
-fn delete_recorded(
-    alloc: Global,
-    doc: &mut Doc,
-    manner: Manner,
-    stretch: Stretch,
-) -> Result<Overrides, EditFault>
-    requires open { IsOpen doc.old }
-    requires stretch_held { StretchHeld doc.old stretch }
-    ensures gives { Gives result doc.old.state doc.new.state
-        (delete_recorded manner stretch.start stretch.end) }
-    ensures keeps { Keeps doc.old doc.new }
-{
-    let block = block_of_end(doc, stretch.start_node);
-    let other = block_of_end(doc, stretch.end_node);
-    let states = record_states(alloc, doc)?;
-    erase(alloc, doc, manner, stretch, (block, other))?;
-    Ok(states)
-}
-
-// The end of step 2, and then from 3 on.
-#[tactic(auto, using(edit_model::proofs::Steps::steps, edit_model::proofs::Steps::exits, edit_model::proofs::Steps::actions), unfolding(crate::specs::Deletion::delete_selected))]
-fn delete_selected(
-    alloc: Global,
-    doc: &mut Doc,
-    manner: Manner,
-    start: Point,
-    end: Point,
-) -> Result<Overrides, EditFault>
-    requires open { IsOpen doc.old }
-    requires start_there { 0 < count_of doc.old.state.trees start.label }
-    requires end_there { 0 < count_of doc.old.state.trees end.label }
-    ensures gives { Gives result doc.old.state doc.new.state (delete_selected manner start end) }
-    ensures keeps { Keeps doc.old doc.new }
-{
-    let stretch = Stretch {
-        start,
-        start_node: node_of(doc, start),
-        end,
-        end_node: node_of(doc, end),
-    };
-    select(doc, start, end);
-    delete_recorded(alloc, doc, manner, stretch)
-}
-
-// The end of step 1, and then from 2 on, which begins with going out of texts.
-#[tactic(auto, using(edit_model::proofs::Steps::steps, edit_model::proofs::Steps::exits), unfolding(crate::specs::Deletion::delete_range))]
-fn delete_range(
-    alloc: Global,
-    doc: &mut Doc,
-    manner: Manner,
-    start: Point,
-    end: Point,
-) -> Result<Overrides, EditFault>
-    requires open { IsOpen doc.old }
-    ensures gives { Gives result doc.old.state doc.new.state (delete_range manner start end) }
-    ensures keeps { Keeps doc.old doc.new }
-{
-    if !comes_before(doc, start, end) {
-        collapse_selection(doc, manner.backward)?;
-        return Ok(Overrides::new(alloc));
-    }
-    let first = out_of_start(doc, node_of(doc, start), start);
-    let last = out_of_end(doc, node_of(doc, end), end);
-    delete_selected(alloc, doc, manner, first, last)
-}
-
-// Step 1: the equivalent points of the ends, and then from there on.
-#[tactic(auto, using(edit_model::proofs::Steps::steps, edit_model::proofs::Steps::exits), unfolding(crate::specs::Deletion::delete_between))]
+// Steps 1 to 4, and what 5 to 15 erase between.
+#[tactic(auto, using(edit_model::proofs::Steps::steps, edit_model::proofs::Steps::exits, edit_model::proofs::Steps::actions), unfolding(crate::specs::Deletion::delete_between, crate::specs::Deletion::delete_range, crate::specs::Deletion::delete_selected, crate::specs::Deletion::delete_recorded))]
 fn delete_between(alloc: Global, doc: &mut Doc, manner: Manner) -> Result<Overrides, EditFault>
     requires open { IsOpen doc.old }
     ensures gives { Gives result doc.old.state doc.new.state (delete_between manner) }
@@ -206,9 +138,26 @@ fn delete_between(alloc: Global, doc: &mut Doc, manner: Manner) -> Result<Overri
         return Ok(Overrides::new(alloc));
     };
     let (start, end) = ends_of(doc, pair);
-    let first = last_equivalent(doc, start);
-    let last = first_equivalent(doc, end);
-    delete_range(alloc, doc, manner, first, last)
+    let start = last_equivalent(doc, start); // step 1
+    let end = first_equivalent(doc, end);
+    if !comes_before(doc, start, end) {
+        collapse_selection(doc, manner.backward)?;
+        return Ok(Overrides::new(alloc));
+    }
+    let start = out_of_start(doc, node_of(doc, start), start); // step 2
+    let end = out_of_end(doc, node_of(doc, end), end);
+    let stretch = Stretch {
+        start,
+        start_node: node_of(doc, start),
+        end,
+        end_node: node_of(doc, end),
+    };
+    select(doc, start, end);
+    let block = block_of_end(doc, stretch.start_node); // step 3
+    let other = block_of_end(doc, stretch.end_node);
+    let states = record_states(alloc, doc)?; // step 4
+    erase(alloc, doc, manner, stretch, (block, other))?;
+    Ok(states)
 }
 
 /// Deletes what is selected (HTML Editing APIs, "delete the selection"), by the flags of a manner.

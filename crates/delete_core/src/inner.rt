@@ -6,7 +6,7 @@ ghost use Rattle.edit_model.specs.Gives.{Gives, GivesAs, GivesNode, labels_of};
 ghost use Rattle.inline_value.specs.EditDoc.Whole.{IsOpen};
 ghost use Rattle.inline_value.specs.EditDoc.Held.{Holds, EachHeld, Keeps};
 ghost use Rattle.delete_core.specs.Gaps.{is_stuck};
-ghost use Rattle.delete_core.specs.Merging.{is_apart, is_sole, drop_sole, parts_lines, part_lines, remove_own, drop_parted, drop_soles, drop_block, split_line, split_out, drop_break_before, take_out_line, take_line, merge_content, merge_inner};
+ghost use Rattle.delete_core.specs.Merging.{is_apart, is_sole, drop_sole, parts_lines, part_lines, remove_own, drop_parted, drop_soles, drop_block, split_line, split_out, drop_break_before, take_out_line, merge_inner};
 ghost use Rattle.edit_model.specs.DomModel.Forest.{first_in};
 ghost use Rattle.delete_core.specs.Values.{ValuesHeld, recorded_in};
 
@@ -235,53 +235,8 @@ fn take_out_line(
     Ok(Some(values))
 }
 
-// Step 11 c, and then from 11 d on.
-#[tactic(auto, using(edit_model::proofs::Steps::steps, edit_model::proofs::Steps::exits, crate::proofs::Recordings::recordings), unfolding(crate::specs::Merging::take_line))]
-fn take_line(
-    alloc: Global,
-    doc: &mut Doc,
-    outer: NodeRef,
-    first: NodeRef,
-) -> Result<Option<Values>, EditFault>
-    requires open { IsOpen doc.old }
-    requires first_held { Holds doc.old first }
-    ensures gives { GivesAs recorded_in result doc.old.state doc.new.state
-        (take_line outer.label first.label) }
-    ensures held { IfOk result (ValuesHeld doc.new) }
-    ensures keeps { Keeps doc.old doc.new }
-{
-    if is_block(doc, first) {
-        return Ok(None);
-    }
-    take_out_line(alloc, doc, outer, first)
-}
-
-// Steps 11 b to 11 f.
-#[tactic(auto, using(edit_model::proofs::Steps::steps, edit_model::proofs::Steps::exits, crate::proofs::Recordings::recordings), unfolding(crate::specs::Merging::merge_content))]
-fn merge_content(
-    alloc: Global,
-    doc: &mut Doc,
-    outer: NodeRef,
-    inner: NodeRef,
-) -> Result<Option<Values>, EditFault>
-    requires open { IsOpen doc.old }
-    requires outer_held { Holds doc.old outer }
-    requires inner_held { Holds doc.old inner }
-    ensures gives { GivesAs recorded_in result doc.old.state doc.new.state
-        (merge_content outer.label inner.label) }
-    ensures held { IfOk result (ValuesHeld doc.new) }
-    ensures keeps { Keeps doc.old doc.new }
-{
-    let Some(first) = doc.first_child(inner) else {
-        drop_block(alloc, doc, outer, inner)?;
-        return Ok(None);
-    };
-    take_line(alloc, doc, outer, first)
-}
-
-/// Delete the selection, step 11 a, and then from 11 b on: merges a block with one that stands in
-/// it. Answers the values to restore; none where the deletion ends with that.
-#[tactic(auto, using(edit_model::proofs::Steps::steps, edit_model::proofs::Steps::exits, edit_model::proofs::Steps::actions, crate::proofs::Recordings::recordings), unfolding(crate::specs::Merging::merge_inner))]
+/// Delete the selection, step 11: merges a block with one that is in it. Answers the values to restore; none where the deletion ends with that.
+#[tactic(auto, using(edit_model::proofs::Steps::steps, edit_model::proofs::Steps::exits, edit_model::proofs::Steps::actions, crate::proofs::Recordings::recordings), unfolding(crate::specs::Merging::merge_inner, crate::specs::Merging::merge_content, crate::specs::Merging::take_line))]
 pub(crate) fn merge_inner(
     alloc: Global,
     doc: &mut Doc,
@@ -304,5 +259,12 @@ pub(crate) fn merge_inner(
         offset: doc.index(child),
     };
     select(doc, at, at);
-    merge_content(alloc, doc, outer, inner)
+    let Some(first) = doc.first_child(inner) else {
+        drop_block(alloc, doc, outer, inner)?; // step 11 b
+        return Ok(None);
+    };
+    if is_block(doc, first) {
+        return Ok(None); // step 11 c
+    }
+    take_out_line(alloc, doc, outer, first)
 }

@@ -6,7 +6,7 @@ ghost use Rattle.edit_model.specs.Gives.{Gives, GivesAs, label_of};
 ghost use Rattle.inline_value.specs.EditDoc.Whole.{IsOpen};
 ghost use Rattle.inline_value.specs.EditDoc.Held.{Holds, EachHeld, IfHeld, Keeps};
 ghost use Rattle.inline_value.specs.Records.{entries_of, nodes_of};
-ghost use Rattle.delete_core.specs.Merging.{drop_prop, merged, fill_empty, finish, finish_if, merge, are_mergeable, merge_both, merge_if};
+ghost use Rattle.delete_core.specs.Merging.{drop_prop, merged, fill_empty, finish, finish_if, merge, are_mergeable, merge_if};
 ghost use Rattle.delete_core.specs.Values.{ValuesHeld, recorded_in};
 
 use crate::ends::collapse_selection;
@@ -116,31 +116,8 @@ fn are_mergeable(doc: &Doc, block: NodeRef, other: NodeRef) -> bool
     doc.is_inside(block) && doc.is_inside(other) && block.label != other.label
 }
 
-// Step 9, and then from 10 on, of two blocks.
-#[tactic(auto, using(edit_model::proofs::Steps::steps, edit_model::proofs::Steps::exits), unfolding(crate::specs::Merging::merge_both))]
-fn merge_both(
-    alloc: Global,
-    doc: &mut Doc,
-    backward: bool,
-    block: NodeRef,
-    other: NodeRef,
-) -> Result<(), EditFault>
-    requires open { IsOpen doc.old }
-    requires block_held { Holds doc.old block }
-    requires other_held { Holds doc.old other }
-    ensures gives { Gives result doc.old.state doc.new.state
-        (merge_both backward block.label other.label) }
-    ensures keeps { Keeps doc.old doc.new }
-{
-    if are_mergeable(doc, block, other) {
-        merge(alloc, doc, block, other)
-    } else {
-        collapse_selection(doc, backward)
-    }
-}
-
-/// Delete the selection, step 9, and then from 10 on, of blocks that there may be.
-#[tactic(auto, using(edit_model::proofs::Steps::steps, edit_model::proofs::Steps::exits), unfolding(crate::specs::Merging::merge_if))]
+/// Delete the selection, from step 9 on, of blocks that there may be.
+#[tactic(auto, using(edit_model::proofs::Steps::steps, edit_model::proofs::Steps::exits), unfolding(crate::specs::Merging::merge_if, crate::specs::Merging::merge_both))]
 pub(crate) fn merge_if(
     alloc: Global,
     doc: &mut Doc,
@@ -164,5 +141,8 @@ pub(crate) fn merge_if(
     let Some(other) = blocks.1 else {
         return collapse_selection(doc, backward);
     };
-    merge_both(alloc, doc, backward, block, other)
+    if !are_mergeable(doc, block, other) {
+        return collapse_selection(doc, backward);
+    }
+    merge(alloc, doc, block, other)
 }

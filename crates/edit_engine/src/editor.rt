@@ -10,9 +10,8 @@ ghost use Rattle.command_gate.specs.Denied.{is_denied};
 ghost use Rattle.edit_model.specs.HtmlNames.Commands.{command_named};
 ghost use Rattle.inline_value.specs.NodePaths.Paths.{label_at};
 ghost use Rattle.edit_engine.specs.Changes.{CanFollow, changes_of};
-ghost use Rattle.edit_engine.specs.Commands.{action_of};
 ghost use Rattle.edit_engine.specs.Editing.{EditorValue, IsJoinable, document, new_editing, undone, redone};
-ghost use Rattle.edit_engine.specs.Execution.{gated_outcome, outcome, joined_outcome, replaced_outcome, outcome_at, outcome_with, command_outcome, run_outcome, host_at, run_at, misplaced, Tells, TellsOnRange};
+ghost use Rattle.edit_engine.specs.Execution.{gated_outcome, outcome, joined_outcome, replaced_outcome, outcome_at, outcome_with, command_outcome, misplaced, Tells, TellsOnRange};
 ghost use Rattle.edit_engine.specs.Following.{first_following, after_undo, after_redo};
 ghost use Rattle.edit_engine.specs.Going.{goes_on, joins_by};
 ghost use Rattle.edit_engine.specs.Promises.{ExecPromises, PromisesAsIs, is_yes, told_by_exec};
@@ -301,27 +300,6 @@ impl Editor {
         if self.doc.is_deeper_than(DEPTH_LIMIT) {
             return Err(ExecFault::Deep);
         }
-        self.run(alloc, at, joined, command, value)
-    }
-
-    // Executes a command, from step 4 on.
-    fn run(
-        &mut self,
-        alloc: Global,
-        at: Option<Pair>,
-        joined: bool,
-        command: Command,
-        value: &[char],
-    ) -> Result<Answer, ExecFault>
-        requires { IfSome at (IsPlacedPair self.old.editing.state.trees) }
-        ensures tells { Tells result self.old.editing self.new.editing
-            (run_outcome self.old.editing (host_at at self.old.editing.state)
-            (joins_by joined self.old.editing.going command) command
-            (run_at at (action_of command value.now))) }
-        ensures followed { CanFollow self.old self.new }
-        ensures told { self.new.following ≡ told_by_exec (is_yes result) at joined (Some command)
-            value.now self.old }
-    {
         self.doc.valid();
         let joining = joins_by(joined, self.going, command);
         let kept = kept_edits(&self.doc, joining);

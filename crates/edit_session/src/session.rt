@@ -183,29 +183,6 @@ fn make_gate(alloc: Global, denied: Option<&str>) -> Result<Gate<NameList>, Allo
     gate_of(alloc, denied)
 }
 
-// `run` past a gate, over the nodes of a page and the lines of its acts.
-fn edit_gated<O: Sink>(
-    alloc: Global,
-    gate: &Gate<NameList>,
-    arena: Arena,
-    undo: u32,
-    acts: &[u8],
-    output: &mut O,
-) -> Status
-    requires depth { 0 < undo }
-    requires loose { HasNoLoose arena }
-    ensures { Follows
-        (transcript_of Status.Done
-        (replies_to gate.now (new_editing arena undo) (lines_of acts.now)))
-        (O.taken output.old) (O.taken output.new) (O.faults output.old) (O.faults output.new)
-        result }
-{
-    match Editor::new(alloc, arena, undo as usize) {
-        Ok(mut editor) => run_acts(alloc, gate, &mut editor, acts, output),
-        Err(_) => Status::Memory,
-    }
-}
-
 // `run` over the nodes of a page and the lines of its acts.
 fn edit_page<O: Sink>(
     alloc: Global,
@@ -221,8 +198,11 @@ fn edit_page<O: Sink>(
         (O.taken output.old) (O.taken output.new) (O.faults output.old) (O.faults output.new)
         result }
 {
-    match make_gate(alloc, limits.denied) {
-        Ok(gate) => edit_gated(alloc, &gate, arena, limits.undo, acts, output),
+    let Ok(gate) = make_gate(alloc, limits.denied) else {
+        return Status::Memory;
+    };
+    match Editor::new(alloc, arena, limits.undo as usize) {
+        Ok(mut editor) => run_acts(alloc, &gate, &mut editor, acts, output),
         Err(_) => Status::Memory,
     }
 }

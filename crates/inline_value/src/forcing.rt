@@ -401,28 +401,9 @@ fn forced(
     force_each(alloc, doc, fuel - 1, value, &children, command)
 }
 
-// Force the value, steps 1 to 9, for a value that isn't null.
-#[tactic(auto, using(edit_model::proofs::Steps::steps, edit_model::proofs::Steps::exits), unfolding(crate::specs::Forcing::force_value))]
-fn force_value(
-    alloc: Global,
-    doc: &mut Doc,
-    value: &[char],
-    node: NodeRef,
-    command: Command,
-) -> Result<(), EditFault>
-    requires open { IsOpen doc.old }
-    requires node_held { Holds doc.old node }
-    ensures gives { Gives result doc.old.state doc.new.state
-        (spec.force_value command value.now node.label) }
-    ensures keeps { Keeps doc.old doc.new }
-{
-    let fuel = doc.counts().nodes;
-    forced(alloc, doc, fuel, value, node, command)
-}
-
 /// Makes a node have a value, by an element around it or around its children (HTML Editing APIs,
 /// "force the value"). A null value, `None`, is forced on no node.
-#[tactic(auto, using(edit_model::proofs::Steps::steps, edit_model::proofs::Steps::exits), unfolding(crate::specs::Forcing::force))]
+#[tactic(auto, using(edit_model::proofs::Steps::steps, edit_model::proofs::Steps::exits), unfolding(crate::specs::Forcing::force, crate::specs::Forcing::force_value))]
 pub fn force(
     alloc: Global,
     doc: &mut Doc,
@@ -436,8 +417,9 @@ pub fn force(
         (spec.force command (option_copied value.entry) node.label) }
     ensures keeps { Keeps doc.old doc.new }
 {
-    match value {
-        Some(value) => force_value(alloc, doc, value, node, command),
-        None => Ok(()),
-    }
+    let Some(value) = value else {
+        return Ok(());
+    };
+    let fuel = doc.counts().nodes;
+    forced(alloc, doc, fuel, value, node, command)
 }

@@ -258,39 +258,6 @@ fn is_hopeless(doc: &Doc, value: Option<&[char]>, node: NodeRef, command: Comman
     value.is_some() && (!specifies(doc, node, command) || lacks_above(doc, value, node, command))
 }
 
-// Push down, steps 3 to 5, where `outer` is the outermost of the ancestors.
-#[tactic(auto, using(edit_model::proofs::Steps::steps, edit_model::proofs::Steps::exits, edit_model::proofs::Steps::back_start), unfolding(crate::specs::Pushing::push_from))]
-fn push_from(
-    alloc: Global,
-    doc: &mut Doc,
-    value: Option<&[char]>,
-    ends: (NodeRef, NodeRef),
-    list: &[NodeRef],
-    command: Command,
-) -> Result<(), EditFault>
-    requires open { IsOpen doc.old }
-    requires list_held { EachHeld doc.old list.now }
-    requires outer_held { Holds doc.old ends.1 }
-    ensures gives { Gives result doc.old.state doc.new.state
-        (spec.push_from command (option_copied value.entry) ends.0.label (labels_of list.now)
-        ends.1.label) }
-    ensures keeps { Keeps doc.old doc.new }
-{
-    if is_hopeless(doc, value, ends.1, command) {
-        return Ok(());
-    }
-    let own = specified(alloc, doc, ends.1, command)?;
-    push_levels(
-        alloc,
-        doc,
-        own_or(&own, None),
-        ends.0,
-        list,
-        list.len(),
-        command,
-    )
-}
-
 // Whether an ancestor of a node gives a value. Where none does, nothing is pushed down: to ask this
 // first costs the depth, where the steps would go to the siblings of each ancestor.
 fn is_given_above(doc: &Doc, node: NodeRef, command: Command) -> bool
@@ -308,8 +275,8 @@ fn is_given_above(doc: &Doc, node: NodeRef, command: Command) -> bool
     false
 }
 
-// Push down, step 2, and then from 3 on.
-#[tactic(auto, using(edit_model::proofs::Steps::steps, edit_model::proofs::Steps::exits, edit_model::proofs::Steps::ends), unfolding(crate::specs::Pushing::push_listed))]
+// Push down, from step 2 on.
+#[tactic(auto, using(edit_model::proofs::Steps::steps, edit_model::proofs::Steps::exits, edit_model::proofs::Steps::ends, edit_model::proofs::Steps::back_start), unfolding(crate::specs::Pushing::push_listed, crate::specs::Pushing::push_from))]
 fn push_listed(
     alloc: Global,
     doc: &mut Doc,
@@ -327,12 +294,18 @@ fn push_listed(
     if list.len() == 0 {
         return Ok(());
     }
-    push_from(
+    let outer = list[list.len() - 1]; // step 2
+    if is_hopeless(doc, value, outer, command) {
+        return Ok(()); // steps 3 and 4
+    }
+    let own = specified(alloc, doc, outer, command)?; // step 5
+    push_levels(
         alloc,
         doc,
-        value,
-        (node, list[list.len() - 1]),
+        own_or(&own, None),
+        node,
         list,
+        list.len(),
         command,
     )
 }

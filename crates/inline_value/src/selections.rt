@@ -13,7 +13,7 @@ ghost use Rattle.edit_model.specs.Valid.{IsPlacedPair};
 ghost use Rattle.edit_model.specs.Run.{done, for_each, given, set_setting};
 ghost use Rattle.wrap_split.specs.EditDoc.Whole.{IsOpen};
 ghost use Rattle.wrap_split.specs.EditDoc.Held.{Holds, EachHeld, Keeps};
-ghost use Rattle.inline_value.specs.Selections.{is_amid, at_least, with_start, set_start, start_text, split_at_start, split_at_end, split_start, split_end, split_ends, nodes_by, editable_in_range, elements_in_range, state_setting, value_setting, override_for, unset_rival, set_overrides, clear_one, clear_elements, force_phrase, give_node, give_nodes, give_range, set_value};
+ghost use Rattle.inline_value.specs.Selections.{is_amid, at_least, with_start, set_start, start_text, split_at_start, split_at_end, split_start, split_end, split_ends, nodes_by, editable_in_range, elements_in_range, state_setting, value_setting, override_for, unset_rival, set_overrides, clear_one, clear_elements, give_node, set_value};
 
 use crate::clearing::clear_value;
 use crate::forcing::force;
@@ -407,29 +407,8 @@ fn clear_elements(alloc: Global, doc: &mut Doc, command: Command) -> Result<(), 
     clear_each(alloc, doc, &list, command)
 }
 
-// Set the value, step 4: a node that may stand in a span is forced to have the value.
-#[tactic(auto, using(edit_model::proofs::Steps::steps, edit_model::proofs::Steps::exits), unfolding(crate::specs::Selections::force_phrase))]
-fn force_phrase(
-    alloc: Global,
-    doc: &mut Doc,
-    value: Option<&[char]>,
-    node: NodeRef,
-    command: Command,
-) -> Result<(), EditFault>
-    requires open { IsOpen doc.old }
-    requires node_held { Holds doc.old node }
-    ensures gives { Gives result doc.old.state doc.new.state
-        (force_phrase command (option_copied value.entry) node.label) }
-    ensures keeps { Keeps doc.old doc.new }
-{
-    if allowed_in_span(doc, node) {
-        force(alloc, doc, value, node, command)?;
-    }
-    Ok(())
-}
-
 // Set the value, step 4: one node.
-#[tactic(auto, using(edit_model::proofs::Steps::steps, edit_model::proofs::Steps::exits), unfolding(crate::specs::Selections::give_node))]
+#[tactic(auto, using(edit_model::proofs::Steps::steps, edit_model::proofs::Steps::exits), unfolding(crate::specs::Selections::give_node, crate::specs::Selections::force_phrase))]
 fn give_node(
     alloc: Global,
     doc: &mut Doc,
@@ -444,7 +423,10 @@ fn give_node(
     ensures keeps { Keeps doc.old doc.new }
 {
     push_down(alloc, doc, value, node, command)?;
-    force_phrase(alloc, doc, value, node, command)
+    if allowed_in_span(doc, node) {
+        force(alloc, doc, value, node, command)?;
+    }
+    Ok(())
 }
 
 // Set the value, step 4: each node, in order.
@@ -468,44 +450,9 @@ fn give_each(
     Ok(())
 }
 
-// Set the value, step 4.
-#[tactic(auto, using(edit_model::proofs::Steps::steps, edit_model::proofs::Steps::exits), unfolding(crate::specs::Selections::give_nodes))]
-fn give_nodes(
-    alloc: Global,
-    doc: &mut Doc,
-    value: Option<&[char]>,
-    command: Command,
-) -> Result<(), EditFault>
-    requires open { IsOpen doc.old }
-    ensures gives { Gives result doc.old.state doc.new.state
-        (give_nodes command (option_copied value.entry)) }
-    ensures keeps { Keeps doc.old doc.new }
-{
-    let list = editable_in_range(alloc, doc)?;
-    give_each(alloc, doc, value, &list, command)
-}
-
-// Set the value, steps 2 to 4.
-#[tactic(auto, using(edit_model::proofs::Steps::steps, edit_model::proofs::Steps::exits), unfolding(crate::specs::Selections::give_range))]
-fn give_range(
-    alloc: Global,
-    doc: &mut Doc,
-    value: Option<&[char]>,
-    command: Command,
-) -> Result<(), EditFault>
-    requires open { IsOpen doc.old }
-    ensures gives { Gives result doc.old.state doc.new.state
-        (give_range command (option_copied value.entry)) }
-    ensures keeps { Keeps doc.old doc.new }
-{
-    split_ends(alloc, doc)?;
-    clear_elements(alloc, doc, command)?;
-    give_nodes(alloc, doc, value, command)
-}
-
 /// Gives what the active range contains the value (HTML Editing APIs, "set the selection's value");
 /// `None` is null. Where it contains nothing formattable, the command's override is set instead.
-#[tactic(auto, using(edit_model::proofs::Steps::steps, edit_model::proofs::Steps::exits), unfolding(crate::specs::Selections::set_value))]
+#[tactic(auto, using(edit_model::proofs::Steps::steps, edit_model::proofs::Steps::exits), unfolding(crate::specs::Selections::set_value, crate::specs::Selections::give_range, crate::specs::Selections::give_nodes))]
 pub fn set_value(
     alloc: Global,
     doc: &mut Doc,
@@ -521,5 +468,8 @@ pub fn set_value(
     if first_formattable(alloc, doc, doc.host())?.is_none() {
         return set_overrides(alloc, doc, value, command);
     }
-    give_range(alloc, doc, value, command)
+    split_ends(alloc, doc)?; // step 2
+    clear_elements(alloc, doc, command)?; // step 3
+    let list = editable_in_range(alloc, doc)?; // step 4
+    give_each(alloc, doc, value, &list, command)
 }

@@ -5,7 +5,7 @@ ghost use Rattle.std.specs.Prelude.{◌≡◌};
 ghost use Rattle.edit_model.specs.Gives.{Gives, GivesAs, labels_of};
 ghost use Rattle.edit_actions.specs.EditDoc.Whole.{IsOpen};
 ghost use Rattle.edit_actions.specs.EditDoc.Held.{Holds, EachHeld, Keeps};
-ghost use Rattle.wrap_split.specs.Split.{break_before, break_after, clear_before, copied, copy_front, drop_first_break, close, tidy_after, split_end, split_rest, split_marked, is_void_thing, split_at, split_members, split_parent, split_around, remove_keeping_children};
+ghost use Rattle.wrap_split.specs.Split.{break_before, break_after, clear_before, copied, copy_front, drop_first_break, close, tidy_after, split_end, split_rest, is_void_thing, split_members, split_parent, split_around, remove_keeping_children};
 
 use crate::breaks::{breaks_at_end, breaks_before};
 use edit_actions::doc::{Doc, EditFault, Name, NodeList, NodeRef};
@@ -216,36 +216,6 @@ fn split_rest(
     tidy_after(doc, ends.1) // step 11
 }
 
-// Split the parent, step 4, and then 5 or 6 to 11.
-#[tactic(auto, using(edit_model::proofs::Steps::steps, edit_model::proofs::Steps::exits), unfolding(crate::specs::Split::split_marked))]
-fn split_marked(
-    alloc: Global,
-    doc: &mut Doc,
-    node: NodeRef,
-    list: &[NodeRef],
-    first: NodeRef,
-    last: NodeRef,
-) -> Result<(), EditFault>
-    requires open { IsOpen doc.old }
-    requires node_held { Holds doc.old node }
-    requires list_held { EachHeld doc.old list.now }
-    requires first_held { Holds doc.old first }
-    requires last_held { Holds doc.old last }
-    ensures gives { Gives result doc.old.state doc.new.state
-        (split_marked node.label (labels_of list.now) first.label last.label) }
-    ensures keeps { Keeps doc.old doc.new }
-{
-    // step 4
-    let starts = starts_in(doc, node, list);
-    let ends = ends_in(doc, node, list);
-    let before = starts && follows_break(doc, node);
-    let after = ends && precedes_break(doc, node);
-    if !starts && ends {
-        return split_end(alloc, doc, node, list, last, after);
-    }
-    split_rest(alloc, doc, node, list, (first, last), (before, after))
-}
-
 /// Whether a node is an image or a rule.
 pub fn is_void_thing(doc: &Doc, node: NodeRef) -> bool
     requires { Holds doc.now node }
@@ -254,34 +224,8 @@ pub fn is_void_thing(doc: &Doc, node: NodeRef) -> bool
     is_image(doc, node) || has_name(doc, node, b"hr")
 }
 
-// Split the parent, steps 2 and 3, and then from 4 on.
-#[tactic(auto, using(edit_model::proofs::Steps::steps, edit_model::proofs::Steps::exits), unfolding(crate::specs::Split::split_at))]
-fn split_at(
-    alloc: Global,
-    doc: &mut Doc,
-    node: NodeRef,
-    list: &[NodeRef],
-    first: NodeRef,
-    last: NodeRef,
-) -> Result<(), EditFault>
-    requires open { IsOpen doc.old }
-    requires node_held { Holds doc.old node }
-    requires list_held { EachHeld doc.old list.now }
-    requires first_held { Holds doc.old first }
-    requires last_held { Holds doc.old last }
-    ensures gives { Gives result doc.old.state doc.new.state
-        (split_at node.label (labels_of list.now) first.label last.label) }
-    ensures keeps { Keeps doc.old doc.new }
-{
-    if !doc.is_editable_for(node) || doc.parent(node).is_none() || is_void_thing(doc, node) {
-        return Ok(());
-    }
-    clear_before(doc, node, list)?;
-    split_marked(alloc, doc, node, list, first, last)
-}
-
-// Split the parent, from step 2 on, with the first and the last member.
-#[tactic(auto, using(edit_model::proofs::Steps::steps, edit_model::proofs::Steps::exits, edit_model::proofs::Steps::ends), unfolding(crate::specs::Split::split_members))]
+// Split the parent, from step 2 on.
+#[tactic(auto, using(edit_model::proofs::Steps::steps, edit_model::proofs::Steps::exits, edit_model::proofs::Steps::ends), unfolding(crate::specs::Split::split_members, crate::specs::Split::split_at, crate::specs::Split::split_marked))]
 fn split_members(
     alloc: Global,
     doc: &mut Doc,
@@ -298,7 +242,21 @@ fn split_members(
     if list.len() == 0 {
         return Ok(());
     }
-    split_at(alloc, doc, node, list, list[0], list[list.len() - 1])
+    let first = list[0];
+    let last = list[list.len() - 1];
+    // step 2
+    if !doc.is_editable_for(node) || doc.parent(node).is_none() || is_void_thing(doc, node) {
+        return Ok(());
+    }
+    clear_before(doc, node, list)?; // step 3
+    let starts = starts_in(doc, node, list); // step 4
+    let ends = ends_in(doc, node, list);
+    let before = starts && follows_break(doc, node);
+    let after = ends && precedes_break(doc, node);
+    if !starts && ends {
+        return split_end(alloc, doc, node, list, last, after); // step 5
+    }
+    split_rest(alloc, doc, node, list, (first, last), (before, after))
 }
 
 // Split the parent, step 1.

@@ -4,7 +4,7 @@ ghost use Rattle.std.specs.Prelude.{◌≡◌, ◌<◌, IfOk, length};
 ghost use Rattle.edit_model.specs.Gives.{Gives, GivesMaybe, label_of, labels_of};
 ghost use Rattle.edit_actions.specs.EditDoc.Whole.{IsOpen};
 ghost use Rattle.edit_actions.specs.EditDoc.Held.{Holds, IfHeld, EachHeld, Keeps};
-ghost use Rattle.wrap_split.specs.Wrap.{merge_next, filled_from, filled, wrap_ends, wrap_list, wrap_members, wrap};
+ghost use Rattle.wrap_split.specs.Wrap.{merge_next, filled, wrap_members, wrap};
 
 use crate::breaks::breaks_from;
 use crate::filling::{drop_parent, merge, move_in, put_before};
@@ -36,37 +36,8 @@ fn merge_next<C: Meets, M: Makes>(
     merge(alloc, doc, node, next)
 }
 
-// Wrap, steps 8 to 12.
-#[tactic(auto, using(edit_model::proofs::Steps::steps, edit_model::proofs::Steps::exits), unfolding(crate::specs::Wrap::filled_from))]
-fn fill_from<C: Meets, M: Makes>(
-    alloc: Global,
-    doc: &mut Doc,
-    node: NodeRef,
-    list: &[NodeRef],
-    from: (NodeRef, Option<NodeRef>),
-    rule: &WrapRule<C, M>,
-) -> Result<Option<NodeRef>, EditFault>
-    requires open { IsOpen doc.old }
-    requires some { 0 < length list.now }
-    requires node_held { Holds doc.old node }
-    requires list_held { EachHeld doc.old list.now }
-    requires first_held { Holds doc.old from.0 }
-    requires parent_held { IfHeld doc.old from.1 }
-    ensures gives { GivesMaybe result doc.old.state doc.new.state
-        (filled_from (C.criterion rule.now.test) node.label (labels_of list.now) from.0.label
-        (label_of from.1)) }
-    ensures held { IfOk result (λ found. IfHeld doc.new found) }
-    ensures keeps { Keeps doc.old doc.new }
-{
-    move_in(alloc, doc, node, list, from.0)?; // steps 8 and 9
-    drop_parent(doc, from.1)?; // step 10
-    merge_next(alloc, doc, node, rule)?; // step 11
-    breaks_from(doc, node)?; // step 12
-    Ok(Some(node))
-}
-
-// Wrap, steps 6 and 7, and then from 8 on.
-#[tactic(auto, using(edit_model::proofs::Steps::steps, edit_model::proofs::Steps::exits), unfolding(crate::specs::Wrap::filled))]
+// Wrap, steps 6 to 12.
+#[tactic(auto, using(edit_model::proofs::Steps::steps, edit_model::proofs::Steps::exits), unfolding(crate::specs::Wrap::filled, crate::specs::Wrap::filled_from))]
 fn fill<C: Meets, M: Makes>(
     alloc: Global,
     doc: &mut Doc,
@@ -85,61 +56,17 @@ fn fill<C: Meets, M: Makes>(
     ensures held { IfOk result (λ found. IfHeld doc.new found) }
     ensures keeps { Keeps doc.old doc.new }
 {
-    put_before(doc, node, first)?;
-    let parent = doc.parent(first);
-    fill_from(alloc, doc, node, list, (first, parent), rule)
+    put_before(doc, node, first)?; // step 6
+    let parent = doc.parent(first); // step 7
+    move_in(alloc, doc, node, list, first)?; // steps 8 and 9
+    drop_parent(doc, parent)?; // step 10
+    merge_next(alloc, doc, node, rule)?; // step 11
+    breaks_from(doc, node)?; // step 12
+    Ok(Some(node))
 }
 
-// Wrap, step 5, and then from 6 on.
-#[tactic(auto, using(edit_model::proofs::Steps::steps, edit_model::proofs::Steps::exits), unfolding(crate::specs::Wrap::into_target, crate::specs::Wrap::wrap_ends))]
-fn wrap_ends<C: Meets, M: Makes>(
-    alloc: Global,
-    doc: &mut Doc,
-    list: &[NodeRef],
-    first: NodeRef,
-    last: NodeRef,
-    rule: &WrapRule<C, M>,
-) -> Result<Option<NodeRef>, EditFault>
-    requires open { IsOpen doc.old }
-    requires some { 0 < length list.now }
-    requires list_held { EachHeld doc.old list.now }
-    requires first_held { Holds doc.old first }
-    requires last_held { Holds doc.old last }
-    ensures gives { GivesMaybe result doc.old.state doc.new.state
-        (wrap_ends (C.criterion rule.now.test) (M.recipe rule.now.maker) (labels_of list.now)
-        first.label last.label) }
-    ensures held { IfOk result (λ found. IfHeld doc.new found) }
-    ensures keeps { Keeps doc.old doc.new }
-{
-    let Some(node) = target(doc, first, last, rule)? else {
-        return Ok(None);
-    };
-    fill(alloc, doc, node, list, first, rule)
-}
-
-// Wrap, from step 5 on, with the first and the last member of the widened list.
-#[tactic(auto, using(edit_model::proofs::Steps::steps, edit_model::proofs::Steps::exits, edit_model::proofs::Steps::ends), unfolding(crate::specs::Wrap::wrap_list))]
-fn wrap_list<C: Meets, M: Makes>(
-    alloc: Global,
-    doc: &mut Doc,
-    list: &[NodeRef],
-    rule: &WrapRule<C, M>,
-) -> Result<Option<NodeRef>, EditFault>
-    requires open { IsOpen doc.old }
-    requires list_held { EachHeld doc.old list.now }
-    ensures gives { GivesMaybe result doc.old.state doc.new.state
-        (wrap_list (C.criterion rule.now.test) (M.recipe rule.now.maker) (labels_of list.now)) }
-    ensures held { IfOk result (λ found. IfHeld doc.new found) }
-    ensures keeps { Keeps doc.old doc.new }
-{
-    if list.len() == 0 {
-        return Ok(None);
-    }
-    wrap_ends(alloc, doc, list, list[0], list[list.len() - 1], rule)
-}
-
-// Wrap, steps 2 to 4, and then from 5 on.
-#[tactic(auto, using(edit_model::proofs::Steps::steps, edit_model::proofs::Steps::exits, edit_model::proofs::Steps::ends), unfolding(crate::specs::Wrap::wrap_members))]
+// Wrap, from step 2 on.
+#[tactic(auto, using(edit_model::proofs::Steps::steps, edit_model::proofs::Steps::exits, edit_model::proofs::Steps::ends), unfolding(crate::specs::Wrap::wrap_members, crate::specs::Wrap::wrap_list, crate::specs::Wrap::into_target, crate::specs::Wrap::wrap_ends))]
 fn wrap_members<C: Meets, M: Makes>(
     alloc: Global,
     doc: &mut Doc,
@@ -165,7 +92,15 @@ fn wrap_members<C: Meets, M: Makes>(
     let first = list[0];
     let last = list[list.len() - 1];
     let list = widened(doc, list, first, last)?;
-    wrap_list(alloc, doc, &list, rule)
+    if list.len() == 0 {
+        return Ok(None);
+    }
+    let first = list[0];
+    let last = list[list.len() - 1];
+    let Some(node) = target(doc, first, last, rule)? else {
+        return Ok(None); // step 5
+    };
+    fill(alloc, doc, node, &list, first, rule)
 }
 
 /// Wraps a list of siblings in the sibling beside it that the rule allows, or else in an element

@@ -2,7 +2,9 @@
  * Search over all sections, by Lunr. What is searched comes as a script when the field is used first, so
  * that it works from files too.
  */
-(() => {
+"use strict";
+
+{
   /** @typedef {{ location: string, title: string, page: string, text: string }} Section */
   /** @typedef {{ search: (query: string) => { ref: string }[], sections: Map<string, Section> }} Index */
 
@@ -201,4 +203,4 @@
     }
   });
   form.hidden = false;
-})();
+}

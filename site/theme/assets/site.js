@@ -1,5 +1,7 @@
 /** The theme's button, the list of pages on small screens, and the heading that is being read. */
-(() => {
+"use strict";
+
+{
   const SYSTEM_IS_DARK = matchMedia("(prefers-color-scheme: dark)");
   const { dataset } = document.documentElement;
 
@@ -64,4 +66,4 @@
   startTheme();
   startMenu();
   startHeadings();
-})();
+}
