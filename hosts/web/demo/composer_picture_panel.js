@@ -6,6 +6,11 @@ import { onPopup } from "./composer_toolbar.js";
 
 /** @typedef {import("./composer.js").Composer} Composer */
 
+/** The mark of where the pictures are to be. */
+const PLACE = "pictures";
+
+const NOT_KEPT = "This browser doesn’t keep the picture with the draft: save the draft";
+
 const REFUSED_ADDRESS =
   "A picture has an address that begins with https://, or one of data with a PNG, JPEG, GIF or WebP in it.";
 
@@ -47,11 +52,20 @@ export class PicturePanel {
    */
   async insert(files) {
     const composer = this.#composer;
+    const { region } = composer;
+    const { editor } = region;
+    region.mark(PLACE);
     composer.say(files.length === 1 ? "Reading the picture" : `Reading ${files.length} files`);
     const refused = [];
     for (const file of files) {
       try {
-        await this.#insertFile(file);
+        const picture = await this.#read(file);
+        if (editor === region.editor) {
+          this.#insertPicture(picture.address);
+        }
+        if (!picture.isKept) {
+          throw new PictureRefused(NOT_KEPT);
+        }
       } catch (error) {
         if (!(error instanceof PictureRefused)) {
           throw error;
@@ -59,21 +73,34 @@ export class PicturePanel {
         refused.push(error.message);
       }
     }
+    region.unmark(PLACE);
     composer.say(refused.join(". "));
   }
 
   /** @param {File} file */
-  async #insertFile(file) {
+  async #read(file) {
     const { pictures, region } = this.#composer;
     const picture = await pictureOf(file);
     if (pictures.size(region.html()) + picture.size > MOST_BYTES) {
       throw new PictureRefused(`“${file.name}” isn’t inserted: the mail would be too large to be sent`);
     }
-    const { address, isKept } = await pictures.add(picture);
-    this.#composer.act((to) => to.exec("insertImage", address));
-    if (!isKept) {
-      throw new PictureRefused("This browser doesn’t keep the picture with the draft: save the draft");
-    }
+    return pictures.add(picture);
+  }
+
+  /**
+   * Inserts a picture where the caret was when its file came, whatever was written since.
+   * @param {string} address
+   */
+  #insertPicture(address) {
+    this.#composer.act((region) => {
+      const place = region.marks().find(({ name }) => name === PLACE);
+      if (place) {
+        region.select(place.anchor, place.focus);
+      }
+      const isDone = region.exec("insertImage", address);
+      region.mark(PLACE);
+      return isDone;
+    });
   }
 
   /** @param {string} address */
