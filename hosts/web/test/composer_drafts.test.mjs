@@ -4,7 +4,7 @@ import { describe } from "node:test";
 import { it } from "./browsers.mjs";
 import { ComposerPage, TRIED } from "./composer_page.mjs";
 
-/** The text that Chromium keeps of a draft, and that isn't one any more. */
+/** A text that was kept of a draft, and that isn't one any more. */
 const BROKEN = '{"to":"","subject":"Plan","html":"<p>Dear Ann,</p><p>call &amp; co';
 
 for (const { Browser, name: browserName, skip } of TRIED) {
@@ -150,7 +150,8 @@ for (const { Browser, name: browserName, skip } of TRIED) {
           }
         }
       });
-      await page.type(" Ann");
+      // What is left has no room for this.
+      await page.type(` Ann${" and Bob".repeat(8)}`);
       await page.until(() => !document.querySelector("#notice").hidden);
       assert.match(await composer.text("#notice-words"), /no room for the draft/);
       assert.equal(await composer.text("#saved"), "Not kept");
@@ -160,7 +161,7 @@ for (const { Browser, name: browserName, skip } of TRIED) {
       });
       await page.type("!");
       await page.until(() => document.querySelector("#notice").hidden);
-      await composer.keeps("Call Ann!");
+      await composer.keeps("and Bob!");
     });
   });
 }
