@@ -4,11 +4,9 @@
  */
 import { PageRefused } from "./hedit_errors.js";
 import { PageKind } from "./hedit_constants.js";
-import { MOST_BYTES, arrange } from "./clean_blocks.js";
-import { tidy, tidyInline } from "./clean_lines.js";
-import { PageReader } from "./clean_read.js";
-import { isBlock, print } from "./clean_tree.js";
-import { makeWordLists } from "./clean_word.js";
+import { MOST_BYTES } from "./clean_blocks.js";
+import { cleanNodes, parseInert, settingsOf, withBody } from "./clean_nodes.js";
+import { print } from "./clean_tree.js";
 
 /** @typedef {import("./clean_read.js").Dropped} Dropped */
 
@@ -28,63 +26,8 @@ import { makeWordLists } from "./clean_word.js";
  *   Default: a `DOMParser`.
  */
 
-/** The engine reads 200 levels. */
-const MOST_DEPTH = 190;
-
 /** How often a page is cleaned until it doesn't change. */
 const MOST_ROUNDS = 6;
-
-/** @type {((html: string) => string) | null} */
-let trust = null;
-
-/** Makes the function that turns markup into markup that the page's policy trusts. */
-function makeTrust() {
-  /** @type {any} */
-  const { trustedTypes } = globalThis;
-  const plain = (/** @type {string} */ html) => html;
-  if (!trustedTypes) {
-    return plain;
-  }
-  try {
-    const policy = trustedTypes.createPolicy("hedit", { createHTML: plain });
-    return (/** @type {string} */ html) => policy.createHTML(html);
-  } catch {
-    // The page forbids a policy of that name, but its default policy may trust the text.
-    return plain;
-  }
-}
-
-/**
- * Parses markup into a document in which nothing runs or loads.
- * @param {string} html
- */
-function parseInert(html) {
-  trust ??= makeTrust();
-  return new DOMParser().parseFromString(trust(html), "text/html");
-}
-
-/**
- * Puts markup into a body, so that the parser keeps whitespace at the start. A byte order mark isn't
- * text.
- * @param {string} html
- */
-const withBody = (html) => `<body>${html.replace(/^\ufeff/, "")}`;
-
-/** Elements whose names hide properties of a form or of the document. */
-const HIDING = "button, embed, fieldset, form, iframe, img, input, object, output, select, textarea";
-
-/**
- * Removes names that hide properties of forms and of the document.
- * @param {Document} document
- */
-function removeNames(document) {
-  const { querySelectorAll } = Document.prototype;
-  const { removeAttribute } = Element.prototype;
-  for (const element of querySelectorAll.call(document, `:is(${HIDING}):is([id], [name])`)) {
-    removeAttribute.call(element, "id");
-    removeAttribute.call(element, "name");
-  }
-}
 
 /**
  * Cleans a page once.
@@ -92,15 +35,7 @@ function removeNames(document) {
  * @param {import("./clean_read.js").Settings} settings
  * @param {(html: string) => Document} parse
  */
-function cleanOnce(html, settings, parse) {
-  const document = parse(withBody(html));
-  removeNames(document);
-  if (/mso-list/i.test(html)) {
-    makeWordLists(document);
-  }
-  const nodes = arrange(new PageReader(settings).read(document.body), settings.inline);
-  return print(settings.inline && !nodes.some(isBlock) ? tidyInline(nodes) : tidy(nodes));
-}
+const cleanOnce = (html, settings, parse) => print(cleanNodes(html, settings, parse));
 
 /**
  * Returns the text of a page, each line as a paragraph.
@@ -113,17 +48,6 @@ function cleanText(html, settings, parse) {
   const lines = text.replace(/&/g, "&amp;").replace(/</g, "&lt;").split(/[\n\r]+/);
   const markup = lines.map((line) => (line.trim() ? `<p>${line}</p>` : "")).join("");
   return cleanOnce(markup, settings, parse);
-}
-
-/**
- * @param {CleanOptions} options
- * @returns {import("./clean_read.js").Settings}
- */
-function settingsOf({ classes, relative = false, locked = false, inline = false, ...others }) {
-  const { maxDepth = 100, report } = others;
-  const depth = Math.min(Math.max(Math.trunc(maxDepth) || 1, 1), MOST_DEPTH);
-  const words = classes instanceof RegExp ? classes : new Set(classes ?? []);
-  return { classes: words, relative, locked, maxDepth: depth, inline, report };
 }
 
 /**

@@ -90,8 +90,11 @@ const HTML = "http://www.w3.org/1999/xhtml";
 /** Characters that the engine and browsers read differently, or that aren't Unicode. */
 const UNREADABLE = /[\0\r\ud800-\udfff]/;
 
-/** @param {string} text */
-function wellFormed(text) {
+/**
+ * A text as the engine reads it: without U+0000 and half surrogates, with line feeds.
+ * @param {string} text
+ */
+export function wellFormed(text) {
   if (!UNREADABLE.test(text)) {
     return text;
   }

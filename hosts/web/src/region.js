@@ -45,6 +45,7 @@ export { HABITS, KEYMAP };
 /** @typedef {import("./region_find.js").FindOptions} FindOptions */
 /** @typedef {import("./region_keymap.js").KeyAction} KeyAction */
 /** @typedef {import("./region_keymap.js").Keymap} Keymap */
+/** @typedef {import("./paste_lines.js").PasteOptions} PasteOptions */
 /** @typedef {import("./region_shown.js").ViewOptions} ViewOptions */
 
 /**
@@ -58,6 +59,8 @@ export { HABITS, KEYMAP };
  *   by default `p`.
  * @property {Iterable<string>} [denied] Names of commands that do nothing. They are asked for what is
  *   meant, by whatever way, and not for what a command or a habit does inside itself.
+ * @property {PasteOptions | "plain"} [paste] How rich text is pasted and dropped: `plain` takes its text
+ *   alone.
  * @property {ViewOptions} [view] What is shown of the page.
  * @property {boolean} [readOnly] Whether nothing can be edited: by default it can.
  * @property {string} [placeholder] What is shown while there is nothing else.
@@ -81,13 +84,22 @@ export { HABITS, KEYMAP };
 
 /**
  * What the user did, and what isn't done. A console is told, unless it is prevented. `command` is the
- * one that it comes to, or the kind of the input; `reason` is `impossible` where the selection is; and
- * `text` isn't inserted.
+ * one that it comes to, or the kind of the input; `reason` is `impossible` where the selection is, and
+ * `lossy` where something would be lost; and `text` isn't inserted.
  * @typedef {Event & {
  *   readonly command: string,
- *   readonly reason: "denied" | "impossible" | "unknown",
+ *   readonly reason: "denied" | "impossible" | "lossy" | "unknown",
  *   readonly text: string,
  * }} RefusedEvent
+ */
+
+/**
+ * Files that the user pastes or drops, and where. They are refused, unless it is prevented.
+ * @typedef {Event & {
+ *   readonly files: readonly File[],
+ *   readonly at: Point | null,
+ *   readonly source: "paste" | "drop",
+ * }} FilesEvent
  */
 
 /**
@@ -101,6 +113,7 @@ export { HABITS, KEYMAP };
  *   after `change` and `selectionchange`. It is for toolbars.
  * @property {ErrorEvent} error The engine refused what the user did, or stopped, and `error` says why.
  *   What the methods do throws it. A console is told, unless it is prevented.
+ * @property {FilesEvent} files The user pastes or drops files.
  * @property {RefusedEvent} refused What the user did isn't done.
  * @property {Event} reset Another page is shown, by `setHtml` or `recover`, or by undo or redo of `setHtml`:
  *   `editor` and all labels are others, and the marks are those of that page. `change` comes after it.
@@ -160,9 +173,10 @@ export class Region extends /** @type {new () => RegionTarget} */ (EventTarget) 
   }
 
   /**
-   * `contested` where a script of the page undoes what the region shows, until the user acts; `stopped`
-   * where the engine has stopped, until `recover`.
-   * @returns {"ready" | "contested" | "stopped" | "closed"}
+   * `busy` where a long paste isn't done yet, and what the user does waits for it; `contested` where a
+   * script of the page undoes what the region shows, until the user acts; `stopped` where the engine has
+   * stopped, until `recover`.
+   * @returns {"ready" | "busy" | "contested" | "stopped" | "closed"}
    */
   get status() {
     return this.#controller.status;
@@ -212,6 +226,15 @@ export class Region extends /** @type {new () => RegionTarget} */ (EventTarget) 
    */
   exec(command, value = "") {
     return this.#controller.exec(command, value);
+  }
+
+  /**
+   * Pastes HTML at the selection, or else a text, as its user would. False where it isn't possible.
+   * @param {string} html
+   * @param {string} text
+   */
+  paste(html, text = "") {
+    return this.#controller.paste(html, text);
   }
 
   /**

@@ -35,12 +35,11 @@ import {
  * How an input is answered:
  * - `execute`: by the command, with the input's text as its value;
  * - `insert`: by the command, with the input's text in place of what is selected;
- * - `insertAt`: the same at the range that the input names, whatever is selected;
  * - `replace`: the text in that range is corrected;
  * - `delete`: by the command;
  * - `deleteAt`: what is selected goes, or at a caret the range that the input names;
  * - `deleteFrom`: the range that the input names goes, whatever is selected.
- * @typedef {"execute" | "insert" | "insertAt" | "replace" | "delete" | "deleteAt" | "deleteFrom"} Answer
+ * @typedef {"execute" | "insert" | "replace" | "delete" | "deleteAt" | "deleteFrom"} Answer
  */
 
 /**
@@ -60,12 +59,14 @@ import {
  * @property {(session: Session, value: string) => boolean} [run]
  */
 
-/** @type {Readonly<Record<string, Command>>} */
+/**
+ * What is pasted and dropped is region_transfer.js's.
+ * @type {Readonly<Record<string, Command>>}
+ */
 const COMMANDS = {
   insertText: {
     inputs: {
-      insert: ["insertText", "insertFromPaste", "insertFromPasteAsQuotation", "insertFromYank"],
-      insertAt: ["insertFromDrop"],
+      insert: ["insertText", "insertFromYank"],
       replace: ["insertReplacementText", "insertTranspose"],
     },
     prepare: enterBlock,

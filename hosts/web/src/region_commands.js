@@ -178,6 +178,24 @@ export class Commands {
     this.#done.isChanged = true;
   }
 
+  /** Has what comes make an entry of its own, also within a step, so that it can be taken back by itself. */
+  beginEntry() {
+    const selection = this.editor.selection();
+    if (selection) {
+      this.editor.select(selection.anchor, selection.focus);
+    }
+    this.#endStep();
+  }
+
+  /**
+   * Takes back all that was done since this was last told, and shows that.
+   * @param {() => boolean} undo
+   */
+  takeBack(undo) {
+    this.turn(this.#done.entries, undo);
+    this.#done = { entries: 0, isChanged: true };
+  }
+
   /** Whether the last command typed a text, and nothing was selected since. */
   get isTyping() {
     return this.#isTyping;

@@ -17,8 +17,10 @@ import { Pages } from "./region_pages.js";
 import { Placeholder, isBlank } from "./region_placeholder.js";
 import { Scroll } from "./region_scroll.js";
 import { Session } from "./region_session.js";
+import { Pastes } from "./region_paste.js";
 import { MARK, adoptSheet } from "./region_sheet.js";
 import { Shown } from "./region_shown.js";
+import { Transfers } from "./region_transfer.js";
 import { User } from "./region_user.js";
 
 /** @typedef {import("./hedit.js").Editor} Editor */
@@ -41,6 +43,16 @@ function deniedNames(names) {
   return new Set(each.map((name) => name.toLowerCase()));
 }
 
+/**
+ * @param {Choices} choices
+ * @returns {import("./region_paste.js").PasteChoices}
+ */
+function pasteChoicesOf({ paste = {}, clean, view = {}, leaveLinks = true }) {
+  const { classes, relative } = view;
+  const options = typeof clean === "object" ? clean : {};
+  return { paste, clean: { classes, relative, ...options }, leavesLinks: leaveLinks };
+}
+
 /** What a region does. */
 export class Controller {
   #region;
@@ -59,6 +71,10 @@ export class Controller {
   #scroll;
 
   #observer;
+
+  #pastes;
+
+  #transfers;
 
   #user;
 
@@ -109,6 +125,9 @@ export class Controller {
     this.#scroll = new Scroll(element, () => this.#session.selections.ends()?.focus ?? null);
     const acts = this.#acts();
     this.#observer = new DOMObserver(element, acts);
+    const pasteChoices = pasteChoicesOf(choices);
+    this.#pastes = new Pastes(this.#pasting(), pasteChoices);
+    this.#transfers = new Transfers(this.#transferring(), this.#pastes, pasteChoices.clean);
     this.#user = new User(acts, new Keys(choices.keymap));
     own(element, region);
     try {
@@ -160,8 +179,9 @@ export class Controller {
       session: () => this.#session,
       isEditable: () => this.isEditable,
       isDenied: (...names) => this.isDenied(...names),
-      act: (call) => this.act(call),
-      exec: (command, value) => this.exec(command, value),
+      isBusy: () => this.#pastes.isBusy,
+      act: (call) => this.#inTurn(() => this.act(call)),
+      exec: (command, value) => this.#inTurn(() => this.exec(command, value)),
       refuse: (command, reason, text) => this.#refuse(command, reason, text),
       read: () => this.#read(),
       reveal: () => this.#scroll.reveal(),
@@ -170,6 +190,49 @@ export class Controller {
       finish: (call) => this.#finish(call),
       dispatch: (kind) => this.#dispatchEvent(kind),
     };
+  }
+
+  /**
+   * What of this region its pastes need.
+   * @returns {import("./region_paste.js").Pasting}
+   */
+  #pasting() {
+    return {
+      session: () => this.#session,
+      isEditable: () => this.isEditable,
+      isDenied: (...names) => this.isDenied(...names),
+      act: (call) => this.act(call),
+      guard: (call) => this.guard(call),
+      flush: () => this.#flush(),
+      conclude: (before) => this.#conclude(before),
+      discardRecords: () => this.#observer.discardRecords(),
+      handle: (call) => this.handle(call),
+      dispatch: (kind) => this.#region.dispatchEvent(new Event(kind)),
+    };
+  }
+
+  /**
+   * What of this region its clipboard and drags need.
+   * @returns {import("./region_transfer.js").Transferring}
+   */
+  #transferring() {
+    return {
+      ...this.#acts(),
+      inTurn: (call) => this.#inTurn(call),
+      refuse: (command, reason, text) => this.#refuse(command, reason, text),
+      offer: (files, at, source) => {
+        const event = new Event("files", { cancelable: true });
+        return !this.#region.dispatchEvent(Object.assign(event, { files, at, source }));
+      },
+    };
+  }
+
+  /**
+   * Does what the user wants once a long paste is done.
+   * @param {() => boolean} call
+   */
+  #inTurn(call) {
+    return this.#pastes.isBusy ? this.#pastes.defer(call) : call();
   }
 
   /** The editor, and all that shows and changes it. */
@@ -181,7 +244,10 @@ export class Controller {
     if (this.#ends.signal.aborted) {
       return "closed";
     }
-    return this.#stop ? "stopped" : this.#observer.isContested ? "contested" : "ready";
+    if (this.#stop || this.#observer.isContested) {
+      return this.#stop ? "stopped" : "contested";
+    }
+    return this.#pastes.isBusy ? "busy" : "ready";
   }
 
   get isReadOnly() {
@@ -218,6 +284,7 @@ export class Controller {
       return;
     }
     this.#ends.abort();
+    this.#pastes.drop();
     this.#observer.end();
     this.#lock.lift();
     this.#placeholder.remove();
@@ -321,6 +388,15 @@ export class Controller {
     } finally {
       endStep();
     }
+  }
+
+  /**
+   * Pastes at the selection.
+   * @param {string} html
+   * @param {string} text
+   */
+  paste(html, text) {
+    return this.#pastes.paste({ html, text }) === "done";
   }
 
   /** @param {string} command */
@@ -428,7 +504,7 @@ export class Controller {
 
   check() {
     const { selections, view } = this.#session;
-    const isElsewhere = this.#observer.isComposing || this.#stop;
+    const isElsewhere = this.#observer.isComposing || this.#pastes.isBusy || this.#stop;
     return isElsewhere ? null : (selections.difference() ?? view.difference());
   }
 
@@ -440,14 +516,24 @@ export class Controller {
     page.addEventListener("selectionchange", () => this.handle(() => this.#read()), { signal });
     /** @type {Partial<Record<keyof HTMLElementEventMap, (event: any) => void>>} */
     const answers = {
-      beforeinput: (event) => this.#user.input(event),
-      keydown: (event) => this.#user.keyDown(event),
+      beforeinput: (event) => this.#transfers.input(event) || this.#user.input(event),
+      keydown: (event) => {
+        this.#transfers.keyDown(event);
+        this.#user.keyDown(event);
+      },
       keyup: () => this.#user.keyUp(),
-      copy: (event) => this.#user.copy(event),
-      cut: (event) => this.#user.cut(event),
-      compositionstart: () => this.#observer.startComposition(),
+      copy: (event) => this.#transfers.copy(event),
+      cut: (event) => this.#transfers.cut(event),
+      compositionstart: () => {
+        this.#pastes.complete();
+        this.#observer.startComposition();
+      },
       compositionend: ({ data }) => this.#observer.compositionEnded(data),
-      paste: (event) => this.#user.paste(event),
+      paste: (event) => this.#transfers.paste(event),
+      dragstart: (event) => this.#transfers.dragStart(event),
+      dragover: (event) => this.#transfers.dragOver(event),
+      drop: (event) => this.#transfers.drop(event),
+      dragend: () => this.#transfers.dragEnd(),
     };
     for (const [kind, call] of Object.entries(answers)) {
       const answer = (/** @type {Event} */ event) => {
@@ -496,7 +582,7 @@ export class Controller {
   /**
    * Tells that what the user did isn't done.
    * @param {string} command
-   * @param {"denied" | "impossible" | "unknown"} reason
+   * @param {"denied" | "impossible" | "lossy" | "unknown"} reason
    * @param {string} text
    */
   #refuse(command, reason, text = "") {
@@ -514,7 +600,7 @@ export class Controller {
 
   /** Throws what differs. A selection that the browser didn't tell of yet is read before. */
   #debug() {
-    if (this.#observer.isContested || this.#observer.isComposing) {
+    if (this.#observer.isContested || this.#observer.isComposing || this.#pastes.isBusy) {
       return;
     }
     this.#read();
@@ -587,6 +673,7 @@ export class Controller {
     if (!this.#stop) {
       const isSaid = cause instanceof EngineStopped;
       this.#stop = isSaid ? cause : new EngineStopped("the engine has stopped", { cause });
+      this.#pastes.drop();
       this.#observer.end();
       this.#lockUp();
       this.#dispatchError(this.#stop);
@@ -629,6 +716,7 @@ export class Controller {
 
   /** Reads what the browser did that wasn't told yet. */
   #flush() {
+    this.#pastes.complete();
     this.#observer.flush();
     this.#read();
   }
@@ -688,7 +776,7 @@ export class Controller {
 
   /** Selects what the page shows as selected, once what it changed by itself is mended. */
   #read() {
-    if (this.#observer.isComposing) {
+    if (this.#observer.isComposing || this.#pastes.isBusy) {
       return;
     }
     this.#observer.flushWithinBudget();

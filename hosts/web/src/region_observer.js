@@ -11,6 +11,7 @@ import { isCaret, windowOf } from "./region_nodes.js";
 /**
  * What of a region its observer needs, beside what its user's acts do.
  * @typedef {Acts & {
+ *   isBusy: () => boolean,
  *   handle: (call: () => void) => void,
  *   finish: (call: () => boolean) => boolean,
  *   dispatch: (kind: "input" | "statechange") => void,
@@ -185,7 +186,7 @@ export class DOMObserver {
     if (this.#composing) {
       this.#composing.records.push(...this.#records.splice(0));
       this.#region.dispatch("input");
-    } else if (this.isPending && this.#budget.take()) {
+    } else if (this.isPending && !this.#region.isBusy() && this.#budget.take()) {
       this.readDOMChange();
     }
   }

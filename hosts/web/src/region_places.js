@@ -92,6 +92,20 @@ export function lastLeaf(node) {
 }
 
 /**
+ * The first node without children behind a node, in the order of the page; null where there is none
+ * below the root.
+ * @param {Node} node
+ * @param {Node} root
+ */
+export function leafAfter(node, root) {
+  let at = node;
+  while (at !== root && !at.nextSibling) {
+    at = /** @type {Node} */ (at.parentNode);
+  }
+  return at === root ? null : firstLeaf(/** @type {Node} */ (at.nextSibling));
+}
+
+/**
  * The last node without children before a node, in the order of the page; null where there is none
  * below the root.
  * @param {Node} node

@@ -42,18 +42,6 @@ export class User {
   #pairs = new SurrogatePairs();
 
   /**
-   * How many steps there were before the last input, where that took away what is dragged.
-   * @type {number | null}
-   */
-  #dragged = null;
-
-  /**
-   * The text that is about to be pasted: in WebKit the input that pastes has lost its line feeds.
-   * @type {string | null}
-   */
-  #pasted = null;
-
-  /**
    * @param {Acts} acts
    * @param {Keys} keys
    */
@@ -117,11 +105,8 @@ export class User {
     if (this.#isKeyOff && /^(?:format|history)/.test(event.inputType)) {
       return;
     }
-    const pasted = event.inputType.startsWith("insertFromPaste") ? this.#pasted : null;
-    this.#pasted = null;
-    const text = pasted ?? textOf(event);
+    const text = textOf(event);
     const asked = INPUTS.get(event.inputType);
-    const steps = this.#session.steps.length;
     if (!asked) {
       this.#acts.refuse(event.inputType, "unknown");
     } else if (this.#acts.isDenied(...namesOf(asked.command))) {
@@ -129,10 +114,6 @@ export class User {
     } else if (this.#acts.isEditable()) {
       this.#answer(event, asked, text);
     }
-    if (event.inputType === "insertFromDrop") {
-      this.#session.steps.join(this.#dragged ?? steps);
-    }
-    this.#dragged = event.inputType === "deleteByDrag" ? steps : null;
     this.#acts.reveal();
   }
 
@@ -147,8 +128,7 @@ export class User {
         this.#acts.exec(command, text);
         break;
       case "insert":
-      case "insertAt":
-        this.#insert(event, text, answer === "insertAt");
+        this.#insert(event, text);
         break;
       case "replace":
         this.#acts.act(() => this.#replace(event, text));
@@ -164,12 +144,11 @@ export class User {
   /**
    * @param {InputEvent} event
    * @param {string} text
-   * @param {boolean} isAimed whether the input's own range is meant, whatever is selected
    */
-  #insert(event, text, isAimed) {
+  #insert(event, text) {
     const whole = this.#pairs.join(text);
     const isDone = this.#acts.act(() => {
-      this.#selectTarget(event, isAimed);
+      this.#selectTarget(event, false);
       return whole !== "" && this.#session.commands.type(whole);
     });
     if (isDone && whole === " ") {
@@ -251,37 +230,5 @@ export class User {
     const anchor = range && this.#session.view.point(range.startContainer, range.startOffset);
     const focus = range && this.#session.view.point(range.endContainer, range.endOffset);
     return anchor && focus ? { anchor, focus } : null;
-  }
-
-  /** @param {ClipboardEvent} event */
-  paste({ clipboardData }) {
-    this.#pasted = clipboardData?.getData("text/plain") ?? null;
-  }
-
-  /** @param {ClipboardEvent} event */
-  copy(event) {
-    const range = this.#session.selections.range();
-    const text = this.#session.editor.selectionText();
-    if (!range || text === null || !event.clipboardData) {
-      return false;
-    }
-    const holder = this.#session.view.element.ownerDocument.createElement("div");
-    holder.append(range.cloneContents());
-    event.clipboardData.setData("text/plain", text);
-    event.clipboardData.setData("text/html", holder.innerHTML);
-    event.preventDefault();
-    return true;
-  }
-
-  /** @param {ClipboardEvent} event */
-  cut(event) {
-    if (!this.copy(event)) {
-      return;
-    }
-    if (this.#acts.isDenied("delete")) {
-      this.#acts.refuse("delete", "denied");
-    } else {
-      this.#acts.act(() => this.#session.commands.run("delete"));
-    }
   }
 }
