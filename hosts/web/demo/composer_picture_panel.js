@@ -40,9 +40,18 @@ export class PicturePanel {
       this.insert([...file.files]);
     });
     // Before the region is asked.
-    const paper = part("paper");
-    paper.addEventListener("paste", (/** @type {ClipboardEvent} */ event) => this.#paste(event), true);
-    paper.addEventListener("drop", (/** @type {DragEvent} */ event) => this.#drop(event), true);
+    part("paper").addEventListener(
+      "paste",
+      (/** @type {ClipboardEvent} */ event) => this.#paste(event),
+      true,
+    );
+    composer.region.addEventListener("files", (event) => {
+      event.preventDefault();
+      if (event.at) {
+        composer.region.select(event.at);
+      }
+      this.insert(event.files);
+    });
     this.#startDrops();
   }
 
@@ -115,8 +124,8 @@ export class PicturePanel {
   }
 
   /**
-   * Takes the files of a clipboard that has nothing else to paste. A picture that was copied from a web
-   * page has its HTML too.
+   * Takes the files of a clipboard that has no text. A picture that was copied from a web page has its
+   * HTML too, from which the region would take an address of another server.
    * @param {ClipboardEvent} event
    */
   #paste(event) {
@@ -126,32 +135,6 @@ export class PicturePanel {
       event.preventDefault();
       event.stopPropagation();
       this.insert(files);
-    }
-  }
-
-  /** @param {DragEvent} event */
-  #drop(event) {
-    const files = [...(event.dataTransfer?.files ?? [])];
-    if (files.length > 0 && part("message").contains(/** @type {Node} */ (event.target))) {
-      event.preventDefault();
-      event.stopPropagation();
-      part("paper").classList.remove("is-target");
-      this.#selectAt(event);
-      this.insert(files);
-    }
-  }
-
-  /**
-   * Puts the caret where the mouse is, if the browser says which place that is.
-   * @param {MouseEvent} event
-   */
-  #selectAt({ clientX, clientY }) {
-    const { region } = this.#composer;
-    const page = /** @type {any} */ (document);
-    const place = page.caretPositionFromPoint?.(clientX, clientY);
-    const point = place && region.pointAt(place.offsetNode, place.offset);
-    if (point) {
-      region.select(point);
     }
   }
 
