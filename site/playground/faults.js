@@ -5,8 +5,8 @@
  * @type {Record<string, string>}
  */
 const OF_ACTS = {
-  "! 1": "The line isn't in the grammar of acts.",
-  "! 2": "The first word isn't an act.",
+  "! 1": "The line isn't in the grammar of session lines.",
+  "! 2": "No session line begins with this word.",
   "! 3": "The line has more than 8,192 bytes.",
   "! 4": "The document has no such place, or nothing can be selected there.",
   "! 5": "There are 16 marks already.",

@@ -137,7 +137,7 @@ function sayHowItWent({ status, transcript, milliseconds, replies: found }) {
     say(`${meaningOf(fault.reply)}${others}`, { line: fault.line, column: 1, length: 0 });
   } else {
     const count = found?.length;
-    const subject = count === undefined ? "The session ran" : `${count} ${count === 1 ? "act" : "acts"} ran`;
+    const subject = count === undefined ? "The session ran" : `${count} ${count === 1 ? "line" : "lines"} ran`;
     say(`${subject} in ${time}.`);
   }
 }

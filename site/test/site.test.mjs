@@ -100,7 +100,7 @@ describe("the site's files", () => {
   });
 
   test("allow no scripts and styles but their own", () => {
-    for (const [name, { text }] of pages) {
+    for (const [name, { text }] of [...pages].filter(([each]) => !each.startsWith("demo/"))) {
       const policy = /http-equiv="Content-Security-Policy" content="([^"]*)"/.exec(text)?.[1] ?? "";
       assert.ok(LIMITS.every((limit) => policy.includes(limit)), name);
       assert.doesNotMatch(text, /<style|<[^>]*\son\w+=|<script(?![^>]*\ssrc=)/, name);
@@ -132,7 +132,8 @@ for (const { Browser, name: browserName, skip } of BROWSERS) {
     before(async () => {
       server = await serve();
       root = `http://127.0.0.1:${server.address().port}/`;
-      browser = await Browser.launch();
+      // WebKit's driver runs a script that comes between a page's text and its load a minute later.
+      browser = await Browser.launch({ loading: "normal" });
     });
 
     after(async () => {
@@ -205,7 +206,7 @@ for (const { Browser, name: browserName, skip } of BROWSERS) {
       await page.type("page <<E\n<p contenteditable>ab</p>\nE\nselect 0/0:0 0/0:2\nexec italic\nhtml\n");
       await shows("#replies li:last-child .reply", '<p contenteditable=""><i>ab</i></p>');
       assert.equal(await textOf("#replies li:nth-child(2) .act"), "exec italic");
-      assert.match(await textOf("#said"), /^3 acts ran in /);
+      assert.match(await textOf("#said"), /^3 lines ran in /);
     });
 
     it("says in which line a fault is", async () => {

@@ -17,7 +17,7 @@ use Rattle.edit_model.proofs.Steps.{final_cap}
 use Rattle.inline_value.specs.EditDoc.Whole.{Whole}
 use Rattle.edit_engine.specs.Commands.{row_of, action_of, is_enabled_in}
 use Rattle.edit_engine.specs.Editing.{Editing, EditorValue}
-use Rattle.edit_engine.specs.Execution.{Outcome, Refused, Deep, Acted, host_at, run_at, ran, run_outcome, command_outcome, outcome_at, outcome, outcome_with, gated_outcome, misplaced, Tells, TellsOnRange}
+use Rattle.edit_engine.specs.Execution.{Outcome, Refused, Deep, Acted, host_at, run_at, ran, run_outcome, command_outcome, outcome_at, outcome_by, outcome_with, gated_outcome, misplaced, Tells, TellsOnRange}
 use Rattle.edit_engine.specs.Going.{going_after}
 use Rattle.edit_engine.specs.declared.going.Going.{Going}
 use Rattle.edit_engine.specs.declared.answers.Answer.{Answer}
@@ -102,8 +102,8 @@ pub denied_outcome : (denied : List (List ℕ)) (e : Editing) (name v : List ℕ
 unfolding gated_outcome
 denied_outcome denied e name v is = rw is refl
 
-pub allowed_outcome : (denied : List (List ℕ)) (e : Editing) (name v : List ℕ) → is_denied denied name ≡ false → gated_outcome denied e name v ≡ outcome e name v
-unfolding gated_outcome
+pub allowed_outcome : (denied : List (List ℕ)) (e : Editing) (name v : List ℕ) → is_denied denied name ≡ false → gated_outcome denied e name v ≡ outcome_at None false e (command_named name) v
+unfolding gated_outcome outcome_by
 allowed_outcome denied e name v is = rw is refl
 
 module _ (denied : List (List ℕ)) (at : Option Pair) (joined : Bool) (e : Editing) (name v : List ℕ) where

@@ -235,7 +235,8 @@ fn act_at(
 {
     match at {
         Some(range) => act_on(alloc, doc, range, command, value),
-        None => take_action(alloc, doc, command, value),
+        None if row_of(command).recording => recorded_act(alloc, doc, command, value),
+        None => act(alloc, doc, command, value),
     }
 }
 

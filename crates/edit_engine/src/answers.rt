@@ -5,25 +5,25 @@ use std::alloc::AllocError;
 use step_text::script::Path;
 use thiserror::Error;
 
-/// What executing a command answers (HTML Editing APIs, "execCommand()").
+/// The answer of a command (HTML Editing APIs, "execCommand()").
 #[derive(Clone, Copy, PartialEq, Eq, Debug)]
 pub enum Answer {
-    /// The action was taken.
+    /// The command was executed.
     Yes,
-    /// The command isn't supported or not enabled, or its action refuses the value.
+    /// The command isn't supported, isn't enabled, or refuses the value.
     No,
 }
 
-/// Why a command was not made. The editor is as before.
+/// Why a command failed. The editor is unchanged.
 #[derive(Clone, Copy, PartialEq, Eq, Debug, Error)]
 pub enum ExecFault {
-    /// It would have drawn a label that isn't below the cap.
+    /// A node that it makes would have a label that isn't below the cap.
     #[error("no label is left below the cap")]
     Full = 1,
-    /// The document is deeper than 250.
+    /// The document has more than 250 levels.
     #[error("the document is too deep")]
     Deep = 2,
-    /// There is no memory for it.
+    /// Memory ran out.
     #[error("out of memory")]
     Memory = 3,
 }
@@ -53,19 +53,19 @@ impl From<EditFault> for ExecFault {
     }
 }
 
-/// Why a command that may be told a range was not made. The editor is as before.
+/// Why a command on a range failed. The editor is unchanged.
 #[derive(Clone, Copy, PartialEq, Eq, Debug, Error)]
 pub enum RangeFault {
-    /// An end of the range stands in no node of the document, or is past its length.
+    /// An end of the range is in no node of the document, or past its length.
     #[error("the document has no such place")]
     BadPlace = 1,
-    /// It would have drawn a label that isn't below the cap.
+    /// A node that it makes would have a label that isn't below the cap.
     #[error("no label is left below the cap")]
     Full = 2,
-    /// The document is deeper than 250.
+    /// The document has more than 250 levels.
     #[error("the document is too deep")]
     Deep = 3,
-    /// There is no memory for it.
+    /// Memory ran out.
     #[error("out of memory")]
     Memory = 4,
 }
@@ -85,13 +85,13 @@ impl From<ExecFault> for RangeFault {
     }
 }
 
-/// Why the log of an editor was not printed.
+/// Why the log of an editor can't be printed.
 #[derive(Clone, Copy, PartialEq, Eq, Debug, Error)]
 pub enum LogFault {
-    /// An entry was dropped as the oldest since the editor was made.
+    /// An undo step was dropped as the oldest since the editor was made.
     #[error("the oldest entries of the log are gone")]
     LogCut = 1,
-    /// There is no memory for it.
+    /// Memory ran out.
     #[error("out of memory")]
     Memory = 2,
 }
@@ -107,16 +107,16 @@ impl From<AllocError> for LogFault {
     }
 }
 
-/// Why a pair of points was not selected or marked.
+/// Why a selection or a marker can't be set.
 #[derive(Clone, Copy, PartialEq, Eq, Debug, Error)]
 pub enum PlaceFault {
     /// A path names no node, or an offset is past its length.
     #[error("the document has no such place")]
     BadPlace = 1,
-    /// 16 marks of other names are there.
+    /// There are 16 markers of other names.
     #[error("16 marks of other names are there already")]
     TooManyMarks = 2,
-    /// There is no memory for the mark.
+    /// Memory ran out.
     #[error("out of memory")]
     Memory = 3,
 }
@@ -135,28 +135,28 @@ impl From<MarkFault> for PlaceFault {
     }
 }
 
-/// What of an editor is printed.
+/// The views of an editor.
 #[derive(Drop)]
 pub enum ViewKind {
     /// The HTML of the document.
     Html,
     /// A line for each node.
     Tree,
-    /// The selection and the marks.
+    /// The selection and the markers.
     Points,
-    /// The numbers of the document and of the history.
+    /// The counts of the document and of the history.
     Stat,
-    /// What the tests of nodes answer of the node at a path.
+    /// The answers of the tests of nodes for the node at a path.
     Probe { path: Path },
 }
 
-/// Why something of an editor was not printed.
+/// Why a view of an editor can't be printed.
 #[derive(Clone, Copy, PartialEq, Eq, Debug, Error)]
 pub enum ViewFault {
     /// The path names no node.
     #[error("the document has no such node")]
     BadPlace = 1,
-    /// There is no memory for the text.
+    /// Memory ran out.
     #[error("out of memory")]
     Memory = 2,
 }

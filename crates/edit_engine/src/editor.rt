@@ -51,10 +51,10 @@ const DEPTH_LIMIT: u32 = 250;
 /// How a command is executed.
 #[derive(Clone, Copy, PartialEq, Eq, Debug)]
 pub struct ExecOptions {
-    /// What the command works on in place of the selection, if it is told a range. It selects that
-    /// first.
+    /// The range that the command works on instead of the selection, if there is one. The command
+    /// selects it first.
     pub range: Option<Pair>,
-    /// Whether its edits join the last entry, as those of `Editor::exec_joined` do.
+    /// Whether its edits are added to the previous undo step, like those of `Editor::exec_joined`.
     pub joined: bool,
 }
 
@@ -81,7 +81,7 @@ impl Model for Editor {
 }
 
 impl Editor {
-    /// The editor of a page's nodes, which keeps at most `undo_depth` entries for undo.
+    /// Makes an editor of a page's nodes, which keeps at most `undo_depth` undo steps.
     #[tactic(auto, unfolding(crate::specs::Below::first_doc, crate::specs::Below::first_state))]
     pub fn new(alloc: Global, arena: Arena, undo_depth: usize) -> Result<Editor, AllocError>
         requires depth { 0 < undo_depth }
@@ -107,8 +107,8 @@ impl Editor {
         self.doc.kept_nodes();
     }
 
-    /// Executes the command that a name names, in any case. It is taken whole, or the editor is as
-    /// before. It is `exec_with` without a range, without denied names and not joined.
+    /// Executes a command by its name, in any case. If it fails, the editor is unchanged. It is
+    /// `exec_with` without a range, without denied names and not joined.
     #[tactic(auto, unfolding(crate::specs::Execution::outcome_by))]
     pub fn exec(&mut self, alloc: Global, name: &str, value: &[char]) -> Result<Answer, ExecFault>
         ensures tells { Tells result self.old.editing self.new.editing
@@ -119,11 +119,13 @@ impl Editor {
         self.exec_at(alloc, None, false, Command::named(name), value)
     }
 
-    /// Executes the command that a name names, as `exec` does, whose edits join the last entry, so
-    /// that one undo takes both back. They do so if a command made that entry, or made it longer,
-    /// and nothing has come between: no undo, no redo, no call that selects or marks, and no command
-    /// that is not joined and answered yes without an edit. Otherwise they have an entry of their
-    /// own. A command that isn't taken counts for nothing.
+    /// Executes a command like `exec`, but adds its edits to the previous undo step, so that one
+    /// undo reverts both.
+    ///
+    /// The command starts a new step instead if no command made or extended the previous one, or if
+    /// anything has intervened: an undo, a redo, a call that selects or sets or removes a marker,
+    /// or a command that isn't joined and answered yes without an edit. A command that fails
+    /// doesn't affect grouping.
     #[tactic(auto, unfolding(crate::specs::Execution::outcome_by))]
     pub fn exec_joined(
         &mut self,
@@ -139,10 +141,11 @@ impl Editor {
         self.exec_at(alloc, None, true, Command::named(name), value)
     }
 
-    /// Puts a text in place of what stands between two points, each the label of a node and an
-    /// offset in it: selects it and inserts the text, as one command. As `insertText` does by `exec`
-    /// it joins a run of typing, and typing goes on after it. It is taken whole, or the editor is as
-    /// before, the selection too.
+    /// Replaces the range between two points by a text: selects the range and inserts the text, as
+    /// one command. A point is the label of a node and an offset in it.
+    ///
+    /// Like `insertText` by `exec`, it continues a run of typing, and typing continues it. If it
+    /// fails, the editor is unchanged, the selection included.
     pub fn replace(
         &mut self,
         alloc: Global,
@@ -168,8 +171,8 @@ impl Editor {
         }
     }
 
-    /// Executes the command that a name names, in any case, unless a gate denies the name. Actions
-    /// that a command takes inside itself are not asked for.
+    /// Executes a command by its name, in any case, unless a command filter denies the name.
+    /// Commands that a command executes inside itself aren't checked.
     pub fn exec_gated<A: Asks>(
         &mut self,
         alloc: Global,
@@ -188,13 +191,14 @@ impl Editor {
             self.promises_as_is();
             return Ok(Answer::No);
         }
-        self.exec(alloc, name, value)
+        self.exec_at(alloc, None, false, Command::named(name), value)
     }
 
-    /// Executes the command that a name names, in any case, unless a gate denies the name: at the
-    /// selection, or on a range that the command selects first, and joined as by `exec_joined` or
-    /// not. It is taken whole, or the editor is as before, the selection too. The selection is left
-    /// where the command leaves it.
+    /// Executes a command by its name, in any case, unless a command filter denies the name.
+    ///
+    /// It works at the selection, or on a range that the command selects first, and is joined like
+    /// `exec_joined` or not. The selection is left where the command leaves it. If it fails, the
+    /// editor is unchanged, the selection included.
     pub fn exec_with<A: Asks>(
         &mut self,
         alloc: Global,
@@ -314,8 +318,8 @@ impl Editor {
         }
     }
 
-    /// What holds of a command that isn't taken and leaves the editor as it is, for proofs: all that
-    /// is promised of one. It does nothing.
+    /// States for proofs that all promises of a command hold of one that fails and leaves the
+    /// editor as it is. It does nothing.
     pub fn promises_as_is(&self)
         ensures { PromisesAsIs self.now }
     {
@@ -323,7 +327,7 @@ impl Editor {
         self.kept_nodes();
     }
 
-    /// The answer to a question about the command that a name names, in any case.
+    /// Answers a query about the command of a name, in any case.
     pub fn query(&self, alloc: Global, kind: QueryKind, name: &str) -> Result<Reply, AllocError>
         ensures { IfOk result (λ reply. reply ≡ reply_of self.now.editing.state kind name.now) }
     {
@@ -341,8 +345,9 @@ impl Editor {
         self.select_pair(pair)
     }
 
-    /// Selects from one point to another: each is the label of a node and an offset in it. It takes
-    /// no memory, and its cost grows with the depth of the nodes and, in an element, with the
+    /// Selects from one point to another. A point is the label of a node and an offset in it.
+    ///
+    /// It takes no memory. Its cost grows with the depth of the nodes, and in an element with the
     /// children before the offset.
     pub fn select_points(&mut self, anchor: Point, focus: Point) -> Result<(), PlaceFault>
         ensures selected { MatchOption (placed_pair self.old.editing.state.trees anchor focus)
@@ -372,7 +377,7 @@ impl Editor {
         }
     }
 
-    /// Gives up the selection.
+    /// Removes the selection.
     pub fn unselect(&mut self)
         ensures unselected { self.new.editing ≡ unselecting self.old.editing }
         ensures following { self.new.following ≡ self.old.following }
@@ -381,8 +386,8 @@ impl Editor {
         self.going = Going::Over;
     }
 
-    /// Gives a name to a pair of points. A mark of that name keeps its place, and a new one goes
-    /// last.
+    /// Sets the marker of a name from an anchor to a focus. A marker of that name keeps its index,
+    /// and a new one is last.
     pub fn mark(&mut self, name: &Name, anchor: &Place, focus: &Place) -> Result<(), PlaceFault>
         ensures bad_place { (result ≡ Err PlaceFault.BadPlace) ↔
             (pair_at self.old.editing.state.trees anchor.now focus.now ≡ None) }
@@ -400,8 +405,8 @@ impl Editor {
         self.mark_pair(name, pair)
     }
 
-    /// Gives a name to what is between two points, each the label of a node and an offset in it. A
-    /// mark of that name keeps its place, and a new one goes last.
+    /// Sets the marker of a name from one point to another. A point is the label of a node and an
+    /// offset in it. A marker of that name keeps its index, and a new one is last.
     pub fn mark_points(
         &mut self,
         name: &Name,
@@ -447,7 +452,7 @@ impl Editor {
         }
     }
 
-    /// Takes the name's mark out, and answers whether there was one.
+    /// Removes the marker of a name. Returns whether there was one.
     pub fn unmark(&mut self, name: &Name) -> bool
         ensures answer { result ≡ has_mark name.now self.old.editing.state.points }
         ensures unmarked { self.new.editing ≡ unmarking self.old.editing name.now }
@@ -457,7 +462,7 @@ impl Editor {
         self.doc.unset_mark(name.as_slice())
     }
 
-    /// Takes the entry before the cursor back. False where there is none. It takes no memory.
+    /// Undoes one step. Returns false if there is none. It takes no memory.
     pub fn undo<L: Ledger>(&mut self, steps: &mut Steps<L>) -> bool
         ensures answer { IsTrue result ↔ (0 < length self.old.editing.history.undo) }
         ensures undone { self.new.editing ≡ undone self.old.editing }
@@ -477,7 +482,7 @@ impl Editor {
         taken
     }
 
-    /// Takes the entry after the cursor forth again. False where there is none. It takes no memory.
+    /// Redoes one step. Returns false if there is none. It takes no memory.
     pub fn redo<L: Ledger>(&mut self, steps: &mut Steps<L>) -> bool
         ensures answer { IsTrue result ↔ (0 < length self.old.editing.history.redo) }
         ensures redone { self.new.editing ≡ redone self.old.editing }
@@ -497,18 +502,19 @@ impl Editor {
         taken
     }
 
-    /// How many calls changed something in the document. A host that follows the document
-    /// sees by it whether a call did, and whether it missed one.
+    /// Returns how many calls have changed the document. From it, an application learns whether a
+    /// call changed something, and whether it missed a change.
     pub fn revision(&self) -> u64
         ensures { result ≡ self.now.following.revision }
     {
         self.following.revision
     }
 
-    /// What the last call that changed something changed in the document: edits by the labels of
-    /// nodes, from the first to the last. A tree that was the document before that
-    /// call, and follows them, is the document after it. The steps of the call are taken back and
-    /// made again to be read; where memory runs out too.
+    /// Returns the changes of the last call that changed something, by the labels of nodes, from
+    /// the first to the last. A copy of the document before that call that applies them equals the
+    /// document.
+    ///
+    /// The steps of the call are reverted and made again, also if memory runs out.
     pub fn changes(&mut self, alloc: Global) -> Result<Vec<DocumentEdit>, AllocError>
         ensures told { IfOk result (λ edits. edits.items ≡ changes_of self.old) }
         ensures stays { self.new ≡ self.old }
@@ -519,7 +525,7 @@ impl Editor {
         }
     }
 
-    /// What is printed of the editor, in whole lines. A path that names no node is refused before
+    /// Returns a view of the editor, as complete lines. A path that names no node is refused before
     /// any memory is taken.
     #[tactic(auto, unfolding(crate::specs::Views::stat_line))]
     pub fn view(&self, alloc: Global, kind: &ViewKind) -> Result<Vec<u8>, ViewFault>
@@ -539,8 +545,9 @@ impl Editor {
         }
     }
 
-    /// The entries that undo would take, from the first to the last, each as the line `entry`, a
-    /// line for each node that its commands made and its edits name, and a line for each edit.
+    /// Returns the log: for each step that undo would take, from the first to the last, the line
+    /// `entry`, a line for each node that its commands made and its edits name, and a line for each
+    /// edit.
     #[tactic(auto, unfolding(crate::specs::Logs::log_steps))]
     pub fn log(&mut self, alloc: Global) -> Result<Vec<u8>, LogFault>
         ensures text { IfOk result (λ text. text.items ≡ log_text self.old.editing.history) }
@@ -554,20 +561,21 @@ impl Editor {
         Ok(entry_lines(alloc, entries)?)
     }
 
-    /// How the log replays, for proofs: on the page of before the first entry its lines are refused
-    /// nowhere and give the document, where the commands made elements and texts alone and changed
-    /// the characters of no comment, as every run does, and left the document at no step deeper
-    /// than 1,000. It does nothing.
+    /// States for proofs that the log replays on the page of before the first step: no line is
+    /// refused, and they give the document.
+    ///
+    /// The premise is that the commands made only elements and text nodes, changed the characters
+    /// of no comment, as every algorithm does, and never left the document deeper than 1,000. It
+    /// does nothing.
     pub fn log_replays(&self)
         ensures { LogReplays self.now.editing }
     {
         self.doc.led_onward();
     }
 
-    /// How undo and redo go together, for proofs: after some undos, each of which takes an entry,
-    /// and as many redos, or after redos and undos, the document and the history are as before, and
-    /// so are the selection and the marks where none was moved since the last command, undo or
-    /// redo. It does nothing.
+    /// States for proofs that some undos, each of which takes a step, and as many redos, or the
+    /// reverse, leave the document and the history as before. The selection and the markers are as
+    /// before too if none was moved since the last command, undo or redo. It does nothing.
     pub fn turns_come_back(&self)
         ensures undos { UndosComeBack self.now.editing }
         ensures redos { RedosComeBack self.now.editing }
@@ -575,16 +583,16 @@ impl Editor {
         self.kept_nodes();
     }
 
-    /// What a label tells, for proofs: it stands for nodes of one kind, and for elements of one
-    /// name, in all documents that undo and redo lead to. It does nothing.
+    /// States for proofs that a label denotes nodes of one kind, and elements of one name, in all
+    /// documents that undo and redo lead to. It does nothing.
     pub fn labels_last(&self)
         ensures { HaveOneKind self.now.editing }
     {
         self.kept_nodes();
     }
 
-    /// The label of the node at a path: the index of a child in each node on the way from the
-    /// document. It takes no memory.
+    /// Returns the label of the node at a path: the index of a child in each node, from the
+    /// document down. It takes no memory.
     pub fn label_at(&self, path: &Path) -> Option<u32>
         ensures { result ≡ label_at self.now.editing.state.trees path.now }
     {
@@ -594,9 +602,10 @@ impl Editor {
         }
     }
 
-    /// Whether the node of a label is in the document, or is kept beside it for undo and redo.
-    /// Where it isn't, no later call brings a node of that label, since commands draw each label
-    /// once; so a host may forget what it keeps of the node. It takes no memory and is one look-up.
+    /// Returns whether the node of a label is in the document, or is kept for undo and redo.
+    ///
+    /// If it isn't, no later call restores a node of that label, since commands allocate each label
+    /// once. So an application may forget it. It takes no memory and is one look-up.
     pub fn is_kept(&self, label: u32) -> bool
         ensures kept { IsTrue result ↔ IsKept (document self.now) label }
         ensures gone { result ≡ false → IsGone label self.now.editing }
@@ -609,8 +618,8 @@ impl Editor {
         nodes.find(label).is_some()
     }
 
-    /// The document. Between the calls of an editor each node that is held is in the document, or
-    /// in a loose tree with a node that a change of a kept entry names.
+    /// Returns the document. Between the calls of an editor, each live node is in the document, or
+    /// in a detached tree with a node that a change of a kept undo step names.
     pub fn document(&self) -> &Doc
         ensures closed { IsClosed result.now }
         ensures state { result.now.state ≡ self.now.editing.state }

@@ -5,16 +5,16 @@ ghost use Rattle.edit_engine.specs.Following.{first_following, changed_by, after
 
 use inline_value::doc::Committed;
 
-/// Which edits the last call made that changed something.
+/// The edits of the last call that changed something.
 #[derive(Clone, Copy)]
 pub enum LastChange {
-    /// Those of the entry that undo would take, past the first so many.
+    /// The edits of the step that undo would take, except the first `kept`.
     Made { kept: usize },
-    /// Those that undo made: it took the entry back that redo would take.
+    /// The edits of an undo, which reverted the step that redo would take.
     Undone,
 }
 
-/// How many calls changed something, and what the last of them was.
+/// The number of calls that changed something, and the last of them.
 #[derive(Clone, Copy)]
 pub struct Following {
     pub last: LastChange,

@@ -8,14 +8,14 @@ use crate::commands::types_text;
 use edit_model::element_names::Command;
 use inline_value::doc::Committed;
 
-/// What the next command may go on with.
+/// The undo step that the next command may extend.
 #[derive(Clone, Copy, PartialEq, Eq, Debug)]
 pub enum Going {
-    /// Nothing: no command made an entry, or something has come between.
+    /// None: no command made a step, or something has intervened.
     Over,
-    /// The last entry.
+    /// The last step.
     Step,
-    /// The last entry, where text is being typed.
+    /// The last step, while text is being typed.
     Typing,
 }
 

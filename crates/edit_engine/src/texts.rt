@@ -19,7 +19,7 @@ use std::alloc::{AllocError, Global};
 use step_text::script::Path;
 
 impl Editor {
-    /// The path of the node of a label.
+    /// Returns the path of the node of a label.
     pub fn path_of(&self, alloc: Global, label: u32) -> Result<Path, ViewFault>
         ensures path { IfOk result (λ path. label_at self.now.editing.state.trees path
             ≡ Some label) }
@@ -34,8 +34,8 @@ impl Editor {
         }
     }
 
-    /// The HTML of the node of a label, with all that stands below it; that of the document is the
-    /// HTML of its children.
+    /// Returns the HTML of the node of a label with its descendants; for the document, that of its
+    /// children.
     pub fn node_html(&self, alloc: Global, label: u32) -> Result<Vec<u8>, ViewFault>
         ensures text { IfOk result (λ text. text.items
             ≡ node_html self.now.editing.state.trees label) }
@@ -49,9 +49,9 @@ impl Editor {
         }
     }
 
-    /// The plain text of the node of a label, with all that stands below it: the characters of its
-    /// texts and a line feed for each br, in tree order. Where a block begins or ends between two of
-    /// these characters, a line feed comes between them, unless the first one is a line feed.
+    /// Returns the plain text of the node of a label with its descendants: the characters of text
+    /// nodes and a line feed for each `br`, in tree order. If a block begins or ends between two of
+    /// these characters, a line feed is inserted, unless the first one is a line feed.
     pub fn node_text(&self, alloc: Global, label: u32) -> Result<Vec<char>, ViewFault>
         ensures text { IfOk result (λ text. text.items
             ≡ plain_text self.now.editing.state.trees label) }
@@ -65,9 +65,9 @@ impl Editor {
         }
     }
 
-    /// The points at which characters occur in the texts of the node of a label and of all that
-    /// stands below it, in tree order, none overlapping. Each occurrence stands in one text, and no
-    /// characters occur nowhere.
+    /// Returns the points at which characters occur in the node of a label and its descendants, in
+    /// tree order, without overlap. Each occurrence is in one text node. An empty text doesn't
+    /// occur.
     pub fn find(&self, alloc: Global, top: u32, wanted: &[char]) -> Result<Vec<Point>, ViewFault>
         ensures found { IfOk result (λ points. points.items
             ≡ found_in self.now.editing.state.trees top wanted.now) }
@@ -81,9 +81,9 @@ impl Editor {
         }
     }
 
-    /// The HTML of what is selected (DOM Standard, "clone the contents" of a range), if anything
-    /// is: of the children of the innermost node that holds both points, from the earlier point to
-    /// the later one.
+    /// Returns the HTML of the selection, if something is selected (DOM Standard, "clone the
+    /// contents" of a range): of the children of the innermost node that contains both points, from
+    /// the earlier point to the later one.
     #[tactic(auto, using(crate::proofs::Below::placed_here), unfolding(crate::specs::SelectedTexts::selected_html))]
     pub fn selection_html(&self, alloc: Global) -> Result<Option<Vec<u8>>, AllocError>
         ensures { IfOk result (λ html. option_map (λ text. text.items) html
@@ -97,7 +97,7 @@ impl Editor {
         }
     }
 
-    /// The plain text of what is selected, if anything is, as `node_text` has it of a node.
+    /// Returns the plain text of the selection, if something is selected, like `node_text`.
     #[tactic(auto, using(crate::proofs::Below::placed_here), unfolding(crate::specs::SelectedTexts::selected_text))]
     pub fn selection_text(&self, alloc: Global) -> Result<Option<Vec<char>>, AllocError>
         ensures { IfOk result (λ text. option_map (λ chars. chars.items) text

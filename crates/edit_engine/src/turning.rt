@@ -12,12 +12,12 @@ use edit_model::stepping::Steps;
 use std::marker::Brand;
 use std::sync::ledger::{Blank, Ledger};
 
-/// A way through the history.
+/// A direction in the history.
 #[derive(Clone, Copy, PartialEq, Eq, Debug)]
 pub enum Turn {
-    /// Back before the entry before the cursor.
+    /// Reverts the last step.
     Undo,
-    /// Forth again past the entry after the cursor.
+    /// Makes the step again that undo reverted last.
     Redo,
 }
 
@@ -40,8 +40,8 @@ impl Editor {
         }
     }
 
-    /// Undoes or redoes an entry, as `undo` and `redo` do. Nothing is counted as it runs. False
-    /// where there is none.
+    /// Undoes or redoes one step, like `undo` and `redo`, without counting. Returns false if there
+    /// is none.
     pub fn turn(&mut self, turn: Turn) -> bool
         ensures answer { IsTrue result ↔ (0 < length (entries_of turn self.old.editing.history)) }
         ensures turned { self.new.editing ≡ turned_by turn self.old.editing }

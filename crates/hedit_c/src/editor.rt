@@ -43,10 +43,10 @@ use status::Status;
 use std::alloc::Global;
 use subtrees::{selection_html, selection_text};
 
-/// Opens a page, and closes what the handle held before.
+/// Opens a page, and closes the editor that the handle had before.
 ///
-/// No node gets a label from `label_cap` on, and `undo_depth` commands can be undone; neither may
-/// be 0. Where the page is refused, `refusal` tells the place and the kind.
+/// No node gets a label from `label_cap` on, and `undo_depth` commands can be undone. Neither may
+/// be 0. If the page is refused, `refusal` has the position and the kind of the error.
 #[unsafe(no_mangle)]
 pub extern "C" fn hedit_open(
     alloc: Global,
@@ -70,7 +70,7 @@ pub extern "C" fn hedit_open(
     }
 }
 
-/// Closes the editor, and gives its memory back. A closed handle stays closed.
+/// Closes the editor and frees its memory. A closed handle stays closed.
 #[unsafe(no_mangle)]
 pub extern "C" fn hedit_close(alloc: Global, editor: &mut Handle)
     ensures { editor.new.value ≡ None }
@@ -78,7 +78,7 @@ pub extern "C" fn hedit_close(alloc: Global, editor: &mut Handle)
     *editor = Handle::closed(alloc);
 }
 
-/// Executes the command that a name names, in any case, with a value in UTF-8.
+/// Executes a command by its name, in any case, with a value in UTF-8.
 #[unsafe(no_mangle)]
 pub extern "C" fn hedit_exec(alloc: Global, editor: &mut Handle, name: &[u8], value: &[u8]) -> u32
     ensures told { Leaves result (editing_of editor.old.value) (editing_of editor.new.value)
@@ -95,9 +95,8 @@ pub extern "C" fn hedit_exec(alloc: Global, editor: &mut Handle, name: &[u8], va
     status.number()
 }
 
-/// Executes a command as `hedit_exec` does, whose edits join the last entry of the history, so that
-/// one undo takes both back: where a command made that entry, or made it longer, and nothing has
-/// come between.
+/// Executes a command like `hedit_exec`, but adds its edits to the previous undo step, if a command
+/// made or extended that step and nothing has intervened.
 #[unsafe(no_mangle)]
 pub extern "C" fn hedit_exec_joined(
     alloc: Global,
@@ -119,8 +118,8 @@ pub extern "C" fn hedit_exec_joined(
     status.number()
 }
 
-/// Puts a text in UTF-8 in place of what stands between two points, each the label of a node and an
-/// offset in it, as one command: it is selected and insertText is executed, and typing goes on.
+/// Replaces the range between two points by a text in UTF-8, as one command, which continues a run
+/// of typing. A point is the label of a node and an offset in it.
 #[unsafe(no_mangle)]
 pub extern "C" fn hedit_replace(
     alloc: Global,
@@ -153,9 +152,9 @@ pub extern "C" fn hedit_replace(
     status.number()
 }
 
-/// Executes a command as `hedit_exec` does, unless its name is among those that are denied: 1 to 16
-/// different names with a comma between, in any case, or none. Actions that a command takes inside
-/// itself are not asked for.
+/// Executes a command like `hedit_exec`, unless its name is denied. The denied names are 1 to 16
+/// different names, separated by commas, in any case, or none. Commands that a command executes
+/// inside itself aren't checked.
 #[unsafe(no_mangle)]
 pub extern "C" fn hedit_exec_gated(
     alloc: Global,
@@ -178,9 +177,9 @@ pub extern "C" fn hedit_exec_gated(
     status.number()
 }
 
-/// Executes a command as `hedit_exec_gated` does, with options: on what is between two points, which
-/// the command selects first, in place of the selection, and as `hedit_exec_joined` does or not. The
-/// calls above are cases of it. The selection is left where the command leaves it.
+/// Executes a command like `hedit_exec_gated`, with options: on a range between two points, which
+/// the command selects first, instead of the selection, and joined like `hedit_exec_joined` or not.
+/// The calls above are cases of it. The selection is left where the command leaves it.
 #[unsafe(no_mangle)]
 pub extern "C" fn hedit_exec_with(
     alloc: Global,
@@ -205,7 +204,7 @@ pub extern "C" fn hedit_exec_with(
     status.number()
 }
 
-/// Takes the entry before the cursor of the history back.
+/// Undoes one step.
 #[unsafe(no_mangle)]
 pub extern "C" fn hedit_undo(alloc: Global, editor: &mut Handle) -> u32
     ensures status { result
@@ -224,7 +223,7 @@ pub extern "C" fn hedit_undo(alloc: Global, editor: &mut Handle) -> u32
     Status::answer(taken).number()
 }
 
-/// Takes the entry after the cursor of the history forth again.
+/// Redoes one step.
 #[unsafe(no_mangle)]
 pub extern "C" fn hedit_redo(alloc: Global, editor: &mut Handle) -> u32
     ensures status { result
@@ -243,8 +242,8 @@ pub extern "C" fn hedit_redo(alloc: Global, editor: &mut Handle) -> u32
     Status::answer(taken).number()
 }
 
-/// Selects from an anchor to a focus: each of them a path, the index of a child in each node on the
-/// way from the document, and an offset, in characters of a text or children of an element.
+/// Selects from an anchor to a focus. Each is a path, the index of a child in each node from the
+/// document down, and an offset, in characters of a text node or children of an element.
 #[unsafe(no_mangle)]
 pub extern "C" fn hedit_select(
     alloc: Global,
@@ -272,8 +271,8 @@ pub extern "C" fn hedit_select(
     status.number()
 }
 
-/// Selects from one point to another: each is the label of a node and an offset in it. It takes no
-/// memory.
+/// Selects from one point to another. A point is the label of a node and an offset in it. It takes
+/// no memory.
 #[unsafe(no_mangle)]
 pub extern "C" fn hedit_select_points(
     alloc: Global,
@@ -300,7 +299,7 @@ pub extern "C" fn hedit_select_points(
     status.number()
 }
 
-/// Gives up the selection.
+/// Removes the selection.
 #[unsafe(no_mangle)]
 pub extern "C" fn hedit_unselect(alloc: Global, editor: &mut Handle) -> u32
     ensures status { result ≡ number_of (unselect_status (editing_of editor.old.value)) }
@@ -316,7 +315,7 @@ pub extern "C" fn hedit_unselect(alloc: Global, editor: &mut Handle) -> u32
     Status::Done.number()
 }
 
-/// Gives a name to what is between two points. A mark of that name is set anew.
+/// Sets the marker of a name from an anchor to a focus.
 #[unsafe(no_mangle)]
 pub extern "C" fn hedit_mark(
     alloc: Global,
@@ -346,8 +345,8 @@ pub extern "C" fn hedit_mark(
     status.number()
 }
 
-/// Gives a name to what is between two points, each the label of a node and an offset in it. A mark
-/// of that name is set anew.
+/// Sets the marker of a name from one point to another. A point is the label of a node and an
+/// offset in it.
 #[unsafe(no_mangle)]
 pub extern "C" fn hedit_mark_points(
     alloc: Global,
@@ -377,7 +376,7 @@ pub extern "C" fn hedit_mark_points(
     status.number()
 }
 
-/// Takes the mark of a name out.
+/// Removes the marker of a name.
 #[unsafe(no_mangle)]
 pub extern "C" fn hedit_unmark(alloc: Global, editor: &mut Handle, name: &[u8]) -> u32
     ensures told { Leaves result (editing_of editor.old.value) (editing_of editor.new.value)
@@ -392,8 +391,8 @@ pub extern "C" fn hedit_unmark(alloc: Global, editor: &mut Handle, name: &[u8]) 
     status.number()
 }
 
-/// Asks a question about the command that a name names, in any case: 0 to 4 stand for supported,
-/// enabled, indeterm, state and value. The answer is a flag, or a text in the buffer.
+/// Answers a query about the command of a name, in any case: 0 to 4 mean supported, enabled,
+/// indeterm, state and value. The answer is a flag, or a text in the buffer.
 #[unsafe(no_mangle)]
 pub extern "C" fn hedit_query(
     alloc: Global,
@@ -416,8 +415,8 @@ pub extern "C" fn hedit_query(
     status.number()
 }
 
-/// Puts what is printed of the editor into the buffer: 0 to 3 stand for its HTML, a line for each
-/// node, the selection and the marks, and its numbers.
+/// Writes a view of the editor into the buffer: 0 to 3 mean its HTML, a line for each node, the
+/// selection and the markers, and its counts.
 #[unsafe(no_mangle)]
 pub extern "C" fn hedit_view(
     alloc: Global,
@@ -438,7 +437,7 @@ pub extern "C" fn hedit_view(
     status.number()
 }
 
-/// How many calls of `hedit_exec`, `hedit_undo` and their kind changed something.
+/// Returns how many calls, like `hedit_exec` and `hedit_undo`, have changed the document.
 #[unsafe(no_mangle)]
 pub extern "C" fn hedit_revision(alloc: Global, editor: &mut Handle, number: &mut u64) -> u32
     ensures stays { editor.new.value ≡ editor.old.value }
@@ -453,8 +452,8 @@ pub extern "C" fn hedit_revision(alloc: Global, editor: &mut Handle, number: &mu
     status.number()
 }
 
-/// Puts what the last call that changed something changed in the document into the buffer, packed:
-/// edits by the labels of nodes.
+/// Writes the changes of the last call that changed something into the buffer, packed, by the
+/// labels of nodes.
 #[unsafe(no_mangle)]
 pub extern "C" fn hedit_changes(
     alloc: Global,
@@ -474,8 +473,8 @@ pub extern "C" fn hedit_changes(
     status.number()
 }
 
-/// Whether the node of a label is in the document, or is kept for undo and redo. Where the answer is
-/// false, no later call brings a node of that label.
+/// Answers whether the node of a label is in the document, or is kept for undo and redo. If the
+/// answer is false, no later call restores a node of that label.
 #[unsafe(no_mangle)]
 pub extern "C" fn hedit_is_kept(alloc: Global, editor: &mut Handle, label: u32) -> u32
     ensures stays { editor.new.value ≡ editor.old.value }
@@ -489,7 +488,7 @@ pub extern "C" fn hedit_is_kept(alloc: Global, editor: &mut Handle, label: u32) 
     status.number()
 }
 
-/// The points of the selection. The answer is false where nothing is selected.
+/// Returns the points of the selection. The answer is false if nothing is selected.
 #[unsafe(no_mangle)]
 pub extern "C" fn hedit_selection(
     alloc: Global,
@@ -508,8 +507,8 @@ pub extern "C" fn hedit_selection(
     status.number()
 }
 
-/// Puts the name of a mark into the buffer, the one at a place of the list of marks. The answer is
-/// false where there are no more.
+/// Writes the name of a marker into the buffer, by its index in the list of markers. The answer is
+/// false if there are no more.
 #[unsafe(no_mangle)]
 pub extern "C" fn hedit_mark_name(
     alloc: Global,
@@ -530,8 +529,8 @@ pub extern "C" fn hedit_mark_name(
     status.number()
 }
 
-/// The points of a mark, the one at a place of the list of marks. The answer is false where there are
-/// no more.
+/// Returns the points of a marker, by its index in the list of markers. The answer is false if
+/// there are no more.
 #[unsafe(no_mangle)]
 pub extern "C" fn hedit_mark_range(
     alloc: Global,
@@ -551,7 +550,7 @@ pub extern "C" fn hedit_mark_range(
     status.number()
 }
 
-/// Puts the HTML of what is selected into the buffer. The answer is false where nothing is.
+/// Writes the selection as HTML into the buffer. The answer is false if nothing is selected.
 #[unsafe(no_mangle)]
 pub extern "C" fn hedit_selection_html(
     alloc: Global,
@@ -571,7 +570,7 @@ pub extern "C" fn hedit_selection_html(
     status.number()
 }
 
-/// Puts the plain text of what is selected into the buffer. The answer is false where nothing is.
+/// Writes the selection as plain text into the buffer. The answer is false if nothing is selected.
 #[unsafe(no_mangle)]
 pub extern "C" fn hedit_selection_text(
     alloc: Global,
@@ -591,7 +590,7 @@ pub extern "C" fn hedit_selection_text(
     status.number()
 }
 
-/// The numbers of the document and of its history.
+/// Returns the counts of the document and of its history.
 #[unsafe(no_mangle)]
 pub extern "C" fn hedit_numbers(alloc: Global, editor: &mut Handle, facts: &mut NumberFacts) -> u32
     ensures stays { editor.new.value ≡ editor.old.value }
@@ -612,7 +611,7 @@ fn point(label: u32, offset: u32) -> Point
     Point { label, offset }
 }
 
-/// The version of the library: a byte each for the major, the minor and the patch number.
+/// Returns the version of the library: a byte each for the major, the minor and the patch number.
 #[unsafe(no_mangle)]
 pub extern "C" fn hedit_version() -> u32
     ensures { result ≡ 2304 }

@@ -14,7 +14,7 @@ use crate::editor::status::Status;
 use crate::editor::subtrees::{PointFacts, find, node_html, node_text};
 use std::alloc::Global;
 
-/// What the node of a label is, and the labels of the nodes beside it.
+/// Returns the node of a label: its kind, its length, and the labels of the nodes next to it.
 #[unsafe(no_mangle)]
 pub extern "C" fn hedit_node(
     alloc: Global,
@@ -34,7 +34,7 @@ pub extern "C" fn hedit_node(
     status.number()
 }
 
-/// The label of the node at a path.
+/// Returns the label of the node at a path.
 #[unsafe(no_mangle)]
 pub extern "C" fn hedit_label_at(
     alloc: Global,
@@ -54,7 +54,7 @@ pub extern "C" fn hedit_label_at(
     status.number()
 }
 
-/// Puts the path of the node of a label into the buffer.
+/// Writes the path of the node of a label into the buffer.
 #[unsafe(no_mangle)]
 pub extern "C" fn hedit_path_of(
     alloc: Global,
@@ -75,7 +75,7 @@ pub extern "C" fn hedit_path_of(
     status.number()
 }
 
-/// Puts the name of an element into the buffer; another node has an empty one.
+/// Writes the name of an element into the buffer. Another node has an empty one.
 #[unsafe(no_mangle)]
 pub extern "C" fn hedit_node_name(
     alloc: Global,
@@ -96,7 +96,7 @@ pub extern "C" fn hedit_node_name(
     status.number()
 }
 
-/// Puts the characters of a text or a comment into the buffer; another node has none.
+/// Writes the characters of a text node or a comment into the buffer. Another node has none.
 #[unsafe(no_mangle)]
 pub extern "C" fn hedit_node_value(
     alloc: Global,
@@ -117,8 +117,8 @@ pub extern "C" fn hedit_node_value(
     status.number()
 }
 
-/// Puts the name of an attribute into the buffer, the one at a place of the list of a node. The
-/// answer is false where there are no more.
+/// Writes the name of an attribute into the buffer, by its index in the list of a node. The answer
+/// is false if there are no more.
 #[unsafe(no_mangle)]
 pub extern "C" fn hedit_attribute_name(
     alloc: Global,
@@ -141,8 +141,8 @@ pub extern "C" fn hedit_attribute_name(
     status.number()
 }
 
-/// Puts the value of an attribute into the buffer, the one at a place of the list of a node. The
-/// answer is false where there are no more.
+/// Writes the value of an attribute into the buffer, by its index in the list of a node. The answer
+/// is false if there are no more.
 #[unsafe(no_mangle)]
 pub extern "C" fn hedit_attribute_value(
     alloc: Global,
@@ -165,8 +165,8 @@ pub extern "C" fn hedit_attribute_value(
     status.number()
 }
 
-/// Puts the HTML of a node with all that stands below it into the buffer; that of the document is
-/// the HTML of its children.
+/// Writes the HTML of a node with its descendants into the buffer; for the document, that of its
+/// children.
 #[unsafe(no_mangle)]
 pub extern "C" fn hedit_node_html(
     alloc: Global,
@@ -187,8 +187,8 @@ pub extern "C" fn hedit_node_html(
     status.number()
 }
 
-/// Puts the plain text of a node with all that stands below it into the buffer: the characters of
-/// its texts, a line feed for each br, and a line feed where a block begins or ends between two of
+/// Writes the plain text of a node with its descendants into the buffer: the characters of its text
+/// nodes, a line feed for each `br`, and a line feed if a block begins or ends between two of
 /// these, unless the first one is a line feed.
 #[unsafe(no_mangle)]
 pub extern "C" fn hedit_node_text(
@@ -210,8 +210,8 @@ pub extern "C" fn hedit_node_text(
     status.number()
 }
 
-/// Puts the points at which the characters of a text in UTF-8 occur in the texts of a node and of all
-/// that stands below it into the buffer, in tree order, none overlapping.
+/// Writes the points at which a text in UTF-8 occurs in a node and its descendants into the buffer,
+/// in tree order, without overlap.
 #[unsafe(no_mangle)]
 pub extern "C" fn hedit_find(
     alloc: Global,

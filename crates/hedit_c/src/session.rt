@@ -114,9 +114,8 @@ fn read_words(alloc: Global, text: &[u8]) -> Result<Vec<String>, AllocError>
 
 /// Runs a session without options over its text, as `hedit run` does over standard input.
 ///
-/// The status is the number that the program exits with. It is that of `TooSmall`, 9, where the
-/// transcript is longer than the buffer: then nothing is lost, and `written` is the length that is
-/// needed.
+/// The status is the exit status of the program, or `TooSmall`, 9, if the transcript is longer than
+/// the buffer. Then nothing is lost, and `written` is the length that is needed.
 #[unsafe(no_mangle)]
 #[tactic(auto, using(edit_session::proofs::Grammars::rests))]
 pub extern "C" fn hedit_session(
@@ -139,10 +138,10 @@ pub extern "C" fn hedit_session(
     }
 }
 
-/// Runs the program over words, each a line of a text, and over the bytes of its input, as `hedit`
-/// does with the words of its command line and standard input.
+/// Runs the program over arguments, each a line of a text, and over the bytes of its input, as
+/// `hedit` does with its command line and standard input.
 ///
-/// The status is as that of `hedit_session`.
+/// The status is like that of `hedit_session`.
 #[unsafe(no_mangle)]
 #[tactic(auto, using(edit_session::proofs::Grammars::rests))]
 pub extern "C" fn hedit_session_with_words(

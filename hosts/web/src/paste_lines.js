@@ -116,6 +116,13 @@ function alignOf(align, around) {
   return side === "left" ? "" : side || around;
 }
 
+/**
+ * Whether a piece shows nothing at the end of a row.
+ * @param {Piece | undefined} piece
+ */
+const isGap = (piece) =>
+  piece?.type === "break" || (piece?.type === "text" && piece.text === CELL_GAP);
+
 /** @param {Line} line */
 const isHeading = ({ block }) => /^h[1-6]$/.test(block);
 
@@ -430,6 +437,9 @@ class LineReader {
       this.read(cell.children, inner);
       this.#cell = around;
       this.#line = line;
+    }
+    while (isGap(this.#line?.pieces.at(-1))) {
+      this.#line?.pieces.pop();
     }
     this.#line = null;
   }

@@ -1,6 +1,6 @@
 /**
- * An editor behind a region of a web page: the browser shows the text and says what the user does,
- * and the engine does it.
+ * An editor behind a region of a web page. The browser displays the text and reports what the user
+ * does, and the engine edits.
  *
  *     import { load } from "./hedit.js";
  *     import { Region } from "./region.js";
@@ -11,17 +11,16 @@
  *       bold.ariaPressed = String(region.state("bold"));
  *     });
  *
- * The element is the editing host where it has `contenteditable`: its children are those of the
- * engine's host, its attributes stay the page's, and `html` is the markup in it. An element without
- * `contenteditable` holds a whole page of the engine, with the editing hosts and what stands around
- * them.
+ * If the element has `contenteditable`, it is the editing host: its children are those of the engine's
+ * host, its attributes belong to the page, and `html` is its content. An element without
+ * `contenteditable` displays a document of the engine, with its editing hosts and their surroundings.
  *
- * What the page gets of the engine's nodes is a view: what the tables of shown.js have, and
- * placeholders for the rest. So nothing in it acts, and `html` still has all.
+ * The region displays a view of the engine's nodes: those that the tables of shown.js have, and
+ * placeholders for the rest. So nothing in it acts, and `html` still returns everything.
  *
  * A region is an EventTarget, with the events of `RegionEvents`.
  *
- * These of what differs from browsers stay as the engine has them: `formatBlock` drops classes and other
+ * In these, a region doesn't behave like browsers: `formatBlock` drops classes and other
  * attributes of the block, `unlink` at a caret takes the link around it away, `outdent` takes quoted
  * blocks with formats apart where a list or another quotation is among them or around, and the elements
  * for a style are the engine's.
@@ -49,43 +48,42 @@ export { HABITS, KEYMAP };
 /** @typedef {import("./region_shown.js").ViewOptions} ViewOptions */
 
 /**
- * What a region is made with, beside the habits and the limits.
+ * The choices of a region, besides the habits and the limits.
  * @typedef {object} RegionChoices
- * @property {string} [html] What the engine opens: by default the element's own markup.
- * @property {boolean | CleanOptions} [clean] Whether the page is cleaned before the engine reads it, and
- *   how. By default it is in an editing host, and an element without `contenteditable` has it as it is:
- *   then what isn't a page as docs/FORMATS.md says throws PageRefused.
- * @property {"p" | "div"} [separator] The element that Enter makes where no block is around the caret:
- *   by default `p`.
- * @property {Iterable<string>} [denied] Names of commands that do nothing. They are asked for what is
- *   meant, by whatever way, and not for what a command or a habit does inside itself.
- * @property {PasteOptions | "plain"} [paste] How rich text is pasted and dropped: `plain` takes its text
- *   alone.
- * @property {ViewOptions} [view] What is shown of the page.
- * @property {boolean} [readOnly] Whether nothing can be edited: by default it can.
- * @property {string} [placeholder] What is shown while there is nothing else.
- * @property {number} [typingPause] After so many milliseconds without typing, what is typed is a step of its
- *   own: by default 1,000. Infinity for none.
- * @property {Keymap} [keymap] What keys do beside those of `KEYMAP`, or in their place.
- * @property {() => Promise<Engine>} [reload] Gives another engine where this one has stopped.
- * @property {boolean} [debug] After each event the region checks itself, and throws what differs.
+ * @property {string} [html] The HTML to open, by default that of the element.
+ * @property {boolean | CleanOptions} [clean] Whether the HTML is cleaned first, or the options for that.
+ *   By default it is if the element is an editing host. HTML that isn't cleaned must be a page
+ *   (docs/FORMATS.md); otherwise the constructor throws PageRefused.
+ * @property {"p" | "div"} [separator] The element that Enter makes if no block is around the caret: by
+ *   default `p`.
+ * @property {Iterable<string>} [denied] Names of commands that do nothing, in whatever way the user means
+ *   them. Steps inside a command or a habit aren't checked.
+ * @property {PasteOptions | "plain"} [paste] How rich text is pasted and dropped: `plain` for its text.
+ * @property {ViewOptions} [view] What is displayed of the HTML.
+ * @property {boolean} [readOnly] Whether editing is off. False by default.
+ * @property {string} [placeholder] A text that is displayed while the region is empty.
+ * @property {number} [typingPause] After so many milliseconds without typing, by default 1,000, typing
+ *   starts another undo step. Infinity for never.
+ * @property {Keymap} [keymap] Keys, besides those of `KEYMAP` or in their place.
+ * @property {() => Promise<Engine>} [reload] Returns another engine after this one stopped.
+ * @property {boolean} [debug] Whether the region checks itself after each event, and throws the difference.
  */
 
 /** @typedef {RegionChoices & Partial<Habits> & Limits} Choices */
 
 /**
- * What a toolbar shows of a command.
+ * The state of a command, for a toolbar.
  * @typedef {object} ToolbarState
- * @property {boolean} enabled Whether there is something for it to work in.
+ * @property {boolean} enabled Whether it has an editing host to work in.
  * @property {boolean} state Whether the selection has it.
- * @property {boolean} mixed Whether a part of the selection has it.
+ * @property {boolean} mixed Whether only a part of the selection has it.
  * @property {string} value Its value: a font, a colour, the name of a block.
  */
 
 /**
- * What the user did, and what isn't done. A console is told, unless it is prevented. `command` is the
- * one that it comes to, or the kind of the input; `reason` is `impossible` where the selection is, and
- * `lossy` where something would be lost; and `text` isn't inserted.
+ * An input or key that has no effect. The console reports it, unless it is prevented. `command` is its
+ * command, or the type of the input. `reason` is `impossible` if the command does nothing at the
+ * selection, and `lossy` if something would be lost. `text` isn't inserted.
  * @typedef {Event & {
  *   readonly command: string,
  *   readonly reason: "denied" | "impossible" | "lossy" | "unknown",
@@ -94,7 +92,7 @@ export { HABITS, KEYMAP };
  */
 
 /**
- * Files that the user pastes or drops, and where. They are refused, unless it is prevented.
+ * Files that the user pastes or drops, and where. They are refused, unless a listener prevents it.
  * @typedef {Event & {
  *   readonly files: readonly File[],
  *   readonly at: Point | null,
@@ -105,19 +103,19 @@ export { HABITS, KEYMAP };
 /**
  * The events of a region.
  * @typedef {object} RegionEvents
- * @property {Event} change The page has other nodes, attributes or texts now.
- * @property {Event} input An input method composes, and `html` has other texts now. `change` comes when
- *   it ends.
- * @property {Event} selectionchange The selection is another one.
+ * @property {Event} change Nodes, attributes or texts have changed.
+ * @property {Event} input An input method composes, and `html` has changed. `change` follows when it
+ *   ends.
+ * @property {Event} selectionchange The selection has changed.
  * @property {Event} statechange States, values and `status` may have changed: after each command, and
- *   after `change` and `selectionchange`. It is for toolbars.
- * @property {ErrorEvent} error The engine refused what the user did, or stopped, and `error` says why.
- *   What the methods do throws it. A console is told, unless it is prevented.
+ *   after `change` and `selectionchange`. Update the toolbar.
+ * @property {ErrorEvent} error The engine refused an input, or stopped, and `error` says why. Methods
+ *   throw it instead. The console reports it, unless it is prevented.
  * @property {FilesEvent} files The user pastes or drops files.
- * @property {RefusedEvent} refused What the user did isn't done.
+ * @property {RefusedEvent} refused An input or key has no effect.
  * @property {Event} reset Another page is shown, by `setHtml` or `recover`, or by undo or redo of `setHtml`:
  *   `editor` and all labels are others, and the marks are those of that page. `change` comes after it.
- * @property {Event} recovered The region goes on after the engine stopped.
+ * @property {Event} recovered The region continues after the engine stopped.
  */
 
 /**
@@ -130,7 +128,7 @@ export { HABITS, KEYMAP };
  * } & EventTarget} RegionTarget
  */
 
-/** An editor behind an element of a page: its editing host, or what holds one. */
+/** An editor behind an element of a page, which is an editing host or contains some. */
 export class Region extends /** @type {new () => RegionTarget} */ (EventTarget) {
   /** @type {Controller} */
   #controller;
@@ -145,27 +143,27 @@ export class Region extends /** @type {new () => RegionTarget} */ (EventTarget) 
     this.#controller = new Controller(this, engine, element, choices);
   }
 
-  /** Whether a region can work in this browser, and what is missing. */
+  /** Returns whether a region works in this browser, and what is missing. */
   static isSupported() {
     const names = missing();
     return { ok: names.length === 0, missing: names };
   }
 
   /**
-   * The region of an element; null where it has none.
+   * Returns the region of an element, or null.
    * @param {Element} element
    */
   static of(element) {
     return regionOf(element);
   }
 
-  /** The element that was given. */
+  /** The element of the region. */
   get element() {
     return this.#controller.element;
   }
 
   /**
-   * The editor, to read from. What is changed in it otherwise than through the region isn't shown.
+   * The editor, to read from. Changes that aren't made by the region aren't displayed.
    * @returns {import("./hedit.js").Editor}
    */
   get editor() {
@@ -173,16 +171,15 @@ export class Region extends /** @type {new () => RegionTarget} */ (EventTarget) 
   }
 
   /**
-   * `busy` where a long paste isn't done yet, and what the user does waits for it; `contested` where a
-   * script of the page undoes what the region shows, until the user acts; `stopped` where the engine has
-   * stopped, until `recover`.
+   * `busy` during a long paste, after which input is handled; `contested` if a script of the page undoes
+   * what the region displays, until the user acts; `stopped` if the engine has stopped, until `recover`.
    * @returns {"ready" | "busy" | "contested" | "stopped" | "closed"}
    */
   get status() {
     return this.#controller.status;
   }
 
-  /** Whether nothing can be edited. What is there can be selected and copied. */
+  /** Whether editing is off. The text can still be selected and copied. */
   get readOnly() {
     return this.#controller.isReadOnly;
   }
@@ -192,8 +189,8 @@ export class Region extends /** @type {new () => RegionTarget} */ (EventTarget) 
   }
 
   /**
-   * What is shown while there is nothing else: while the region has at most one empty line, outside lists
-   * and quotations. An empty text shows nothing.
+   * The text that is displayed while the region is empty: while it has at most one empty line, outside
+   * lists and quotations. If the text is empty, nothing is displayed.
    */
   get placeholder() {
     return this.#controller.placeholder;
@@ -211,16 +208,16 @@ export class Region extends /** @type {new () => RegionTarget} */ (EventTarget) 
   }
 
   /**
-   * Goes on after the engine stopped, with the one that the choice `reload` gives. The page stays, and
-   * its history is lost. Where a script of the page undoes what the region shows, it is shown again.
+   * Continues after the engine stopped, with the engine of the choice `reload`. The document stays, and
+   * its history is lost. If the status is `contested`, it displays the document again.
    */
   recover() {
     return this.#controller.recover();
   }
 
   /**
-   * Executes a command, `undo`, `redo` or `forwardDelete`, with the habits and as one step of undo.
-   * False where it isn't possible.
+   * Executes a command, `undo`, `redo` or `forwardDelete`, with the habits and as one undo step. Returns
+   * false if it isn't possible.
    * @param {string} command
    * @param {string} value
    */
@@ -229,7 +226,7 @@ export class Region extends /** @type {new () => RegionTarget} */ (EventTarget) 
   }
 
   /**
-   * Pastes HTML at the selection, or else a text, as its user would. False where it isn't possible.
+   * Pastes HTML at the selection, or else a text, as its user would. Returns false if it isn't possible.
    * @param {string} html
    * @param {string} text
    */
@@ -238,7 +235,7 @@ export class Region extends /** @type {new () => RegionTarget} */ (EventTarget) 
   }
 
   /**
-   * Selects from a point of the engine to another, or puts the caret at one.
+   * Selects from one point of the engine to another, or sets the caret.
    * @param {Point} anchor
    * @param {Point} focus
    */
@@ -246,7 +243,7 @@ export class Region extends /** @type {new () => RegionTarget} */ (EventTarget) 
     this.#controller.select({ anchor, focus });
   }
 
-  /** Selects all in the editing host that is selected in, or else in the first one. */
+  /** Selects the content of the editing host of the selection, or else of the first one. */
   selectAll() {
     const all = this.#controller.session.selections.all();
     if (all) {
@@ -255,7 +252,7 @@ export class Region extends /** @type {new () => RegionTarget} */ (EventTarget) 
   }
 
   /**
-   * What is selected; null where nothing is.
+   * Returns the selection, or null.
    * @returns {Selection | null}
    */
   selection() {
@@ -263,8 +260,8 @@ export class Region extends /** @type {new () => RegionTarget} */ (EventTarget) 
   }
 
   /**
-   * The point of a place in the DOM; null where that isn't in the region. Offsets in texts are UTF-16
-   * units there, and characters here.
+   * Returns the point of a place in the DOM, or null if that isn't in the region. The DOM counts UTF-16
+   * units, and a point counts characters.
    * @param {globalThis.Node} node
    * @param {number} offset
    * @returns {Point | null}
@@ -274,7 +271,7 @@ export class Region extends /** @type {new () => RegionTarget} */ (EventTarget) 
   }
 
   /**
-   * The place in the DOM of a point. Throws BadPlace where the document has no such node.
+   * Returns the place in the DOM of a point. Throws BadPlace if the document has no such node.
    * @param {Point} point
    * @returns {{ node: globalThis.Node, offset: number }}
    */
@@ -283,7 +280,7 @@ export class Region extends /** @type {new () => RegionTarget} */ (EventTarget) 
   }
 
   /**
-   * Where a selection is in the window: rectangles, one at least, as `Range.getClientRects` gives them.
+   * Returns the rectangles of a selection in the window, at least one, like `Range.getClientRects`.
    * @param {Selection} selection
    * @returns {DOMRect[]}
    */
@@ -294,8 +291,8 @@ export class Region extends /** @type {new () => RegionTarget} */ (EventTarget) 
   }
 
   /**
-   * Gives a name to a part of the page, by default what is selected. The mark goes along with the text,
-   * and another one of its name gives way. There are up to 16.
+   * Sets the marker of a name, by default at the selection. It follows the edits, and replaces a marker of
+   * that name. There are up to 16.
    * @param {string} name
    * @param {Selection | null} selection
    */
@@ -304,7 +301,7 @@ export class Region extends /** @type {new () => RegionTarget} */ (EventTarget) 
   }
 
   /**
-   * Takes the mark of a name out. False where there is none.
+   * Removes the marker of a name. Returns false if there is none.
    * @param {string} name
    */
   unmark(name) {
@@ -312,7 +309,7 @@ export class Region extends /** @type {new () => RegionTarget} */ (EventTarget) 
   }
 
   /**
-   * The marks, in the order in which they were made.
+   * Returns the markers, in the order in which they were made.
    * @returns {Mark[]}
    */
   marks() {
@@ -320,7 +317,7 @@ export class Region extends /** @type {new () => RegionTarget} */ (EventTarget) 
   }
 
   /**
-   * Where a text occurs, in the order of the page. The places don't overlap, and each is in one line.
+   * Returns the ranges of a text, in tree order. They don't overlap, and each is in one line.
    * @param {string} text
    * @param {FindOptions} options
    * @returns {Selection[]}
@@ -330,7 +327,7 @@ export class Region extends /** @type {new () => RegionTarget} */ (EventTarget) 
   }
 
   /**
-   * Puts a text in place of a part of the page, as one step of undo. False where that isn't possible.
+   * Replaces a range by a text, as one undo step. Returns false if it isn't possible.
    * @param {Selection} selection
    * @param {string} text
    */
@@ -339,7 +336,7 @@ export class Region extends /** @type {new () => RegionTarget} */ (EventTarget) 
   }
 
   /**
-   * Puts a text in place of another wherever that occurs, as one step of undo, and says how often.
+   * Replaces each occurrence of a text by another, as one undo step. Returns how many there were.
    * @param {string} old
    * @param {string} text
    * @param {FindOptions} options
@@ -349,8 +346,8 @@ export class Region extends /** @type {new () => RegionTarget} */ (EventTarget) 
   }
 
   /**
-   * Adds a command, which `exec`, keys and queries know by its name. What is given takes it out again.
-   * Throws BadArgument where there is a command of that name.
+   * Adds a command for `exec`, keys and queries. Returns a function that removes it. Throws BadArgument if
+   * there is a command of that name.
    * @param {string} name
    * @param {RegionCommand} command
    * @returns {() => void}
@@ -360,7 +357,7 @@ export class Region extends /** @type {new () => RegionTarget} */ (EventTarget) 
   }
 
   /**
-   * Makes one step of undo of all that a function does by the region.
+   * Makes one undo step of all commands that a function executes by the region.
    * @template T
    * @param {() => T} call
    * @returns {T}
@@ -369,28 +366,28 @@ export class Region extends /** @type {new () => RegionTarget} */ (EventTarget) 
     return this.#controller.step(call);
   }
 
-  /** Takes a step back. False where there is none. */
+  /** Undoes one step. Returns false if there is none. */
   undo() {
     return this.#controller.exec("undo");
   }
 
-  /** Takes a step forth again. False where there is none. */
+  /** Redoes one step. Returns false if there is none. */
   redo() {
     return this.#controller.exec("redo");
   }
 
-  /** Whether there is a step to take back. */
+  /** Whether there is a step to undo. */
   get canUndo() {
     return this.enabled("undo");
   }
 
-  /** Whether there is a step to take forth again. */
+  /** Whether there is a step to redo. */
   get canRedo() {
     return this.enabled("redo");
   }
 
   /**
-   * Whether there is something for the command to work in.
+   * Returns whether the command has an editing host to work in.
    * @param {string} command
    */
   enabled(command) {
@@ -398,7 +395,7 @@ export class Region extends /** @type {new () => RegionTarget} */ (EventTarget) 
   }
 
   /**
-   * Whether the selection has it, as a toolbar's button shows it.
+   * Returns whether the selection has it, for a button of a toolbar.
    * @param {string} command
    */
   state(command) {
@@ -409,7 +406,7 @@ export class Region extends /** @type {new () => RegionTarget} */ (EventTarget) 
   }
 
   /**
-   * Whether the command's state is so for a part of the selection only.
+   * Returns whether only a part of the selection has it.
    * @param {string} command
    */
   indeterm(command) {
@@ -417,7 +414,7 @@ export class Region extends /** @type {new () => RegionTarget} */ (EventTarget) 
   }
 
   /**
-   * The command's value: a font, a colour, the name of a block.
+   * Returns the command's value: a font, a colour, the name of a block.
    * @param {string} command
    */
   value(command) {
@@ -428,7 +425,7 @@ export class Region extends /** @type {new () => RegionTarget} */ (EventTarget) 
   }
 
   /**
-   * What a toolbar shows of several commands, by their names.
+   * Returns the states of several commands, by their names, for a toolbar.
    * @template {string} Name
    * @param {readonly Name[]} names
    * @returns {Record<Name, ToolbarState>}
@@ -447,8 +444,8 @@ export class Region extends /** @type {new () => RegionTarget} */ (EventTarget) 
   }
 
   /**
-   * The markup: what is in the element, where that is the editing host, and else the engine's page. It
-   * has what an input method composes, or with `composing: "without"` what was there before.
+   * Returns the HTML: the content of the element if that is the editing host, and otherwise the engine's
+   * document. It has what an input method composes, or the text before with `composing: "without"`.
    * @param {{ composing?: "with" | "without" }} options
    */
   html(options = {}) {
@@ -456,9 +453,9 @@ export class Region extends /** @type {new () => RegionTarget} */ (EventTarget) 
   }
 
   /**
-   * Shows another page, cleaned as the first one was. As a step, the page before stays with its history, and
-   * undo goes back to it: up to eight of these are kept. After a reset there is no history. Labels and marks
-   * are new. What the engine refuses throws, and nothing has changed.
+   * Displays another page, cleaned like the first one. As a step, the previous page stays with its history,
+   * and undo returns to it: up to eight of these are kept. After a reset there is no history. Labels and
+   * markers are new. If the engine refuses the page, this throws, and nothing has changed.
    * @param {string} html
    * @param {{ history?: "step" | "reset" }} options `step` by default
    */
@@ -466,18 +463,18 @@ export class Region extends /** @type {new () => RegionTarget} */ (EventTarget) 
     this.#controller.setHtml(html, options);
   }
 
-  /** Whether there is nothing to see but empty lines and blanks. */
+  /** Returns whether only empty lines and whitespace are visible. */
   isEmpty() {
     return this.#controller.isEmpty();
   }
 
-  /** Puts the focus into the region, where the engine's selection is. */
+  /** Focuses the region, at the engine's selection. */
   focus() {
     this.#controller.focus();
   }
 
   /**
-   * The first difference between the page and the engine; null where there is none.
+   * Returns the first difference between the page and the engine, or null.
    */
   check() {
     return this.#controller.check();

@@ -13,33 +13,32 @@ import { leaveLocked } from "./region_typing.js";
 /** @typedef {import("./region_view.js").View} View */
 
 /**
- * What a region does beside what the engine's commands do. Each is on but `autoformat`, and `false`
+ * What a region does besides the engine's commands. Each habit but `autoformat` is on, and `false`
  * switches it off.
  * docs/SURPRISES.md, "Differences from browsers", has a session for most of them.
  * @typedef {object} Habits
- * @property {boolean} keepStyle Enter goes on in the style of the text before it, within blocks of
- *   one kind, and a space keeps the style that is set.
+ * @property {boolean} keepStyle Enter keeps the formatting of the text before it, within blocks of
+ *   one kind, and a space keeps the formatting that is set.
  * @property {boolean} keepSpaces A space that Enter leaves at the end or at the start of a line
- *   becomes U+00A0, so that it shows, and is still there when the lines are joined.
+ *   becomes U+00A0, so that it is visible, and is kept when the lines are joined.
  * @property {boolean} keepAlignment `formatBlock` keeps the alignment.
  * @property {boolean} quoteByIndent `formatBlock` with `blockquote` indents.
- * @property {boolean} hiliteAtCaret `backColor` at a caret colours what is typed, as `hiliteColor`
- *   does.
- * @property {boolean} indentSublists `indent` takes the lists in an item along.
- * @property {boolean} outdentWhole `outdent` and Backspace take quoted blocks with formats in them out
- *   of their only quotation as they are.
- * @property {boolean} deleteIntoLinks Backspace behind a link takes its last character, and not the
- *   link.
- * @property {boolean} joinItems Backspace at the start of an item joins it with the one before at
- *   once.
- * @property {boolean} leaveLinks What is typed at the end of a link stands behind it.
- * @property {boolean} plainAcrossBlocks What is typed over blocks of two kinds has no style of theirs.
- * @property {boolean} wholeClusters Backspace and Delete take what a user sees as one character: a
+ * @property {boolean} hiliteAtCaret `backColor` at a caret colours typed text, like `hiliteColor`.
+ * @property {boolean} indentSublists `indent` of an item moves the lists in it too.
+ * @property {boolean} outdentWhole `outdent` and Backspace take quoted blocks with inline elements out
+ *   of their only quotation without splitting them.
+ * @property {boolean} deleteIntoLinks Backspace after a link removes its last character, not the link.
+ * @property {boolean} joinItems Backspace at the start of a list item joins it with the previous one
+ *   at once.
+ * @property {boolean} leaveLinks Text typed at the end of a link goes after it.
+ * @property {boolean} plainAcrossBlocks Text typed over blocks of two kinds has none of their
+ *   formatting.
+ * @property {boolean} wholeClusters Backspace and Delete remove what a user sees as one character: a
  *   flag, an emoji of several, a letter with its accents.
- * @property {boolean} leaveLocked A caret that a command leaves in a locked part goes back to where
- *   it was.
- * @property {boolean} autoformat `- `, `* `, `1. ` and `> ` that are typed at the start of a paragraph
- *   make a list or a quotation.
+ * @property {boolean} leaveLocked A caret that a command leaves in an island returns to its former
+ *   position.
+ * @property {boolean} autoformat `- `, `* `, `1. ` and `> `, typed at the start of a paragraph, make a
+ *   list or a quotation.
  */
 
 /**

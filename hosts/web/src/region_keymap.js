@@ -5,21 +5,21 @@ import { changeLevel } from "./region_levels.js";
 /** @typedef {import("./region.js").Region} Region */
 
 /**
- * What a key does: the command of a name, or what a function of the host does. A function that returns
- * false leaves the key to the browser. Null turns the key off.
+ * The action of a key: the name of a command, or a function. If the function returns false, the browser
+ * handles the key. Null turns the key off.
  * @typedef {string | null | ((region: Region) => boolean)} KeyAction
  */
 
 /**
- * What keys do, by their names, such as `Mod+Shift+7`: modifiers in any order, and last the character
- * of the key or its name in KeyboardEvent. The modifiers are Mod (Command on Apple's machines, Control
+ * The actions of keys, by their names, such as `Mod+Shift+7`: modifiers in any order, and last the
+ * character of the key or its name in KeyboardEvent. The modifiers are Mod (Command on Apple's machines, Control
  * on others), Control, Alt, Shift and Meta.
  * @typedef {Readonly<Record<string, KeyAction>>} Keymap
  */
 
 /**
- * The keys that a region has by itself. A browser says nothing of undo and redo where it has nothing to
- * undo itself, and Firefox has no input for the styles. Tab changes the level of list items.
+ * The keys that a region has by default. Browsers send no input for undo and redo if they have nothing
+ * to undo themselves, and Firefox sends none for formats. Tab changes the level of list items.
  * @type {Keymap}
  */
 export const KEYMAP = Object.freeze({

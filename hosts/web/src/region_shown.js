@@ -18,19 +18,20 @@ import {
 /**
  * @typedef {object} Answers
  * @property {(src: string) => string | null | undefined | Promise<string | null | undefined>} [image]
- *   The address to show an image from, null for none, or a promise of these. It is asked once for each.
+ *   Returns the address to display an image from, null for none, or a promise. It is called once for
+ *   each address.
  * @property {(name: string, attributes: ReadonlyMap<string, string>) => boolean | undefined} [element]
- *   Whether an element is shown. Others have a placeholder, a `div` or a `span`.
+ *   Returns whether an element is displayed. Others have a placeholder, a `div` or a `span`.
  * @property {(
  *   name: string, attribute: string, value: string,
- * ) => boolean | string | null | undefined} [attribute] Whether an attribute of an element is shown, or
- *   the value that is.
+ * ) => boolean | string | null | undefined} [attribute] Returns whether an attribute of an element is
+ *   displayed, or the value to display.
  */
 
 /**
- * What is shown of the page's HTML. Where a call answers undefined, the tables of shown.js decide. No
- * call can show what acts: scripts, addresses that run them, forms, frames, custom elements, styles
- * that the tables leave out.
+ * What is displayed of the HTML. If a call returns undefined, the tables of shown.js decide. No call can
+ * display what acts: scripts, addresses that run them, forms, frames, custom elements, and styles that
+ * the tables leave out.
  * @typedef {import("./shown.js").Allowed & Answers} ViewOptions
  */
 

@@ -27,6 +27,10 @@ interface ParentNode {
   querySelectorAll(selectors: string): NodeListOf<any>;
 }
 
+declare namespace CSS {
+  const highlights: any;
+}
+
 interface Array<T> {
   toReversed(): T[];
 }

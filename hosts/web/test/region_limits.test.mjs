@@ -104,7 +104,8 @@ for (const { Browser, name, skip } of BROWSERS) {
       for (const undoDepth of [1, 2, 5]) {
         const what = `is undone as a whole or not at all, with ${undoDepth} entries`;
         it(what, { timeout: 120_000 }, async () => {
-          for (const [count, isMarked] of [[20, false], ...[1, 2, 3, 5, 6, 20].map((each) => [each, true])]) {
+          const marked = [1, 2, 3, 5, 6, 20].map((count) => ({ count, isMarked: true }));
+          for (const { count, isMarked } of [{ count: 20, isMarked: false }, ...marked]) {
             await region.open("<p>ab</p>", { undoDepth });
             await region.click([0, 0], 1);
             await types(1, 1, isMarked);

@@ -63,9 +63,9 @@ class Session {
   #id = "";
 
   /** @param {Record<string, string | undefined>} environment */
-  static async start(environment) {
+  static async start(environment, loading) {
     const session = new Session(environment, await freePort());
-    await session.#begin();
+    await session.#begin(loading);
     return session;
   }
 
@@ -75,8 +75,8 @@ class Session {
     this.#exit = once(this.#child, "exit");
   }
 
-  async #begin() {
-    const wanted = { pageLoadStrategy: "normal", "webkitgtk:browserOptions": OPTIONS };
+  async #begin(loading) {
+    const wanted = { pageLoadStrategy: loading, "webkitgtk:browserOptions": OPTIONS };
     const capabilities = { alwaysMatch: wanted };
     const end = Date.now() + PATIENCE;
     for (;;) {
@@ -157,6 +157,8 @@ export class WebKit {
 
   #screen;
 
+  #loading;
+
   /** @type {Set<WebKitPage>} */
   #pages = new Set();
 
@@ -164,12 +166,13 @@ export class WebKit {
   complaints = [];
 
   /** Makes its screen. Each page is a browser of its own there. */
-  static async launch() {
-    return new WebKit(await startScreen());
+  static async launch({ loading = "eager" } = {}) {
+    return new WebKit(await startScreen(), loading);
   }
 
-  constructor(screen) {
+  constructor(screen, loading) {
     this.#screen = screen;
+    this.#loading = loading;
   }
 
   /**
@@ -187,7 +190,7 @@ export class WebKit {
     }
     const theme = scheme === "dark" ? "Adwaita:dark" : "Adwaita";
     const environment = { ...ENVIRONMENT, DISPLAY: this.#screen.display, GTK_THEME: theme };
-    const page = new WebKitPage(await Session.start(environment), this);
+    const page = new WebKitPage(await Session.start(environment, this.#loading), this);
     this.#pages.add(page);
     await page.resize(width, height);
     await page.go(address);

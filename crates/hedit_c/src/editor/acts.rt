@@ -23,13 +23,13 @@ use inline_value::doc::{Pair, Point};
 use script_read::Place;
 use std::alloc::Global;
 
-/// How C tells a command to run: each of the first two is no where it is 0.
+/// How a command is executed, as C passes it. Each of the first two is no if it is 0.
 #[repr(C)]
 #[derive(Clone, Copy)]
 pub struct CommandOptions {
-    /// Whether the edits join the last entry of the history.
+    /// Whether the edits are added to the previous undo step.
     pub joined: u32,
-    /// Whether the command works on what is between the two points, in place of the selection.
+    /// Whether the command works on the range between the two points, instead of the selection.
     pub ranged: u32,
     pub anchor: u32,
     pub anchor_offset: u32,

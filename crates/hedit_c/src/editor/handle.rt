@@ -14,8 +14,8 @@ use std::marker::Model;
 use std::mem::replace;
 use std::ptr::null_mut;
 
-/// A handle: a pointer to an editor on the heap, or null where it is closed. C sees one pointer,
-/// since the allocator takes no bytes.
+/// A handle: a pointer to an editor on the heap, or null if it is closed. C sees one pointer, since
+/// the allocator takes no bytes.
 #[repr(C)]
 pub struct Handle {
     // C may not see the type of an editor.

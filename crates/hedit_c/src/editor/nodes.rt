@@ -14,8 +14,8 @@ use inline_value::doc::{Doc, NodeRef, Pair};
 use script_read::Path;
 use std::alloc::Global;
 
-/// What a node is, as DOM numbers the types of nodes (1 an element, 3 a text, 8 a comment, 9 the
-/// document), its length, and the labels of the nodes beside it: 0xFFFFFFFF where there is none.
+/// A node: its kind, as DOM numbers it (1 an element, 3 a text node, 8 a comment, 9 the document),
+/// its length, and the labels of the nodes next to it, or 0xFFFFFFFF.
 #[repr(C)]
 #[derive(Clone, Copy)]
 pub struct NodeFacts {
@@ -28,7 +28,7 @@ pub struct NodeFacts {
     pub next: u32,
 }
 
-/// The two points of a selection or a mark.
+/// The two points of a selection or a marker.
 #[repr(C)]
 #[derive(Clone, Copy)]
 pub struct SelectionFacts {
@@ -38,7 +38,7 @@ pub struct SelectionFacts {
     pub focus_offset: u32,
 }
 
-/// The numbers of a document and of its history.
+/// The counts of a document and of its history.
 #[repr(C)]
 #[derive(Clone, Copy)]
 pub struct NumberFacts {

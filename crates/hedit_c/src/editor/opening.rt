@@ -13,7 +13,7 @@ use edit_model::arena::Arena;
 use page_read::{PageFault, PageKind, read_page};
 use std::alloc::Global;
 
-/// Where a page is refused, and why.
+/// The position and the kind of the error in a refused page.
 #[repr(C)]
 #[derive(Drop)]
 pub struct Refusal {

@@ -3,29 +3,29 @@
 ghost use Rattle.std.specs.Prelude.{◌≡◌, Bool};
 ghost use Rattle.hedit_c.specs.Statuses.{number_of, answer_status};
 
-/// How a call ended. C sees the number; where the program has a status of the same meaning, it is
-/// that one's.
+/// The status of a call. C sees the number, which is that of the program's status of the same
+/// meaning, if there is one.
 #[derive(Clone, Copy, PartialEq, Eq, Debug)]
 pub enum Status {
-    /// It was done. Where the call answers, the answer is true.
+    /// The call was done. Its answer, if it has one, is true.
     Done = 0,
     /// The answer is false.
     No = 1,
-    /// There was no memory. The editor is as before.
+    /// Memory ran out. The editor is unchanged.
     Memory = 5,
-    /// The bytes are no page.
+    /// The bytes aren't a page.
     PageRefused = 6,
     /// The buffer is too small for the text. The call gives the length that it needs.
     TooSmall = 9,
-    /// The command would have drawn a label that isn't below the cap.
+    /// A node that the command makes would have a label that isn't below the cap.
     Full = 10,
-    /// The document is deeper than 250.
+    /// The document has more than 250 levels.
     Deep = 11,
     /// A path names no node, or an offset is past its length.
     BadPlace = 12,
-    /// 16 marks of other names are there.
+    /// There are 16 markers of other names.
     TooManyMarks = 13,
-    /// A number names nothing, a text isn't UTF-8, or a limit is 0.
+    /// A number is invalid, a text isn't UTF-8, or a limit is 0.
     BadArgument = 14,
     /// The handle has no editor.
     Closed = 15,

@@ -25,6 +25,6 @@ returns g c =
     let is : is_denied denied name ≡ false = ap (is_denied denied) (sym c.as_bytes.ensures.value) ∙ (sym c.denies.ensures ∙ c.if-denies.false) in
     record {
       denied = λ yes. absurd (true≢false (sym yes ∙ is));
-      tells = rw (allowed_outcome denied old name c.args.value.now is) c.exec.ensures.tells;
-      promises = c.exec.ensures.promises;
+      tells = rw (allowed_outcome denied old name c.args.value.now is) (rw c.named.ensures.value at c.exec_at.ensures.tells);
+      promises = rw c.named.ensures.value at c.exec_at.ensures.promises;
     }
