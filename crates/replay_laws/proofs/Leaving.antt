@@ -28,6 +28,7 @@ use Rattle.step_text.specs.Applying.{is_text}
 use Rattle.edit_engine.specs.PlainRuns.{ChangeTextsOn}
 use Rattle.edit_engine.specs.Replaying.{can_be_made, ChangesText}
 use Rattle.edit_engine.proofs.PlainRuns.{runs_are_plain}
+use Rattle.replay_laws.proofs.RunsFit.{LeadTo, run_led}
 
 abbrev pub CanBeMade : ℕ × Content → Type 0
 CanBeMade n = can_be_made n.1 ≡ true
@@ -120,6 +121,7 @@ pub record Leaves (s t : State) : Type 0 where
   pub texts : Each (NamesTexts s.trees s.next) t.edits
   pub same : SameKinds s.trees (document_of t.trees)
   pub new : DrawsKinds s.next t.next s.trees (document_of t.trees)
+  pub lead : LeadTo s.trees s.next t.trees t.edits t.made t.next
 
 pub run_leaves : (s t : State) (host : Option ℕ) (keeping : Bool) → IsValid s → Reaches (begun host keeping s) t → Leaves s t
 unfolding begun rested
@@ -138,4 +140,5 @@ run_leaves s t host keeping is r =
       texts = subst (λ (w : List Change). Each (NamesTexts s.trees s.next) w) (sym lists.0) (names_along r begins plain.1);
       same = kinds.0;
       new = kinds.1;
+      lead = run_led s t host keeping is r;
     }

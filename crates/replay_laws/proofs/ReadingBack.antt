@@ -2,7 +2,7 @@
 use Rattle.std.proofs.Common.{◌≡◌, ℕ, suc, ◌+◌, ◌≤◌, List, [], ◌∷◌, subst, sym, arith}
 use Rattle.edit_model.specs.DomModel.declared.Content.{Content}
 use Rattle.edit_model.specs.DomModel.declared.Content.TheVariants.{Document, Element, Words, Remark}
-use Rattle.edit_model.specs.DomModel.ArenaState.{ArenaState as Arena, IsValid as IsArena}
+use Rattle.edit_model.specs.DomModel.ArenaState.{ArenaState as Arena}
 use Rattle.edit_model.specs.DomModel.Forest.{Forest, total}
 use Rattle.edit_model.specs.DomModel.Forest.Forest.{Nil, Tree}
 use Rattle.edit_model.specs.DomModel.Places.{kids_in}
@@ -12,9 +12,9 @@ use Rattle.edit_model.proofs.Documents.{document_shape}
 use Rattle.edit_engine.specs.Editing.{Editing}
 use Rattle.page_laws.specs.Tidy.{label_after, words_before, with_words, tidied}
 use Rattle.page_laws.proofs.ReadBack.{document_reading_back}
-use Rattle.replay_laws.specs.ReadBack.{SessionReadsBack, LabelsSuffice}
-use Rattle.replay_laws.proofs.Acts.{session_tracked}
-use Rattle.replay_laws.proofs.ProperSessions.{session_proper}
+use Rattle.replay_laws.specs.ReadBack.{CallsReadBack, LabelsSuffice}
+use Rattle.replay_laws.proofs.Calls.{IsPage, calls_tracked}
+use Rattle.replay_laws.proofs.ProperCalls.{calls_proper}
 use Rattle.replay_laws.proofs.Texts.{page_nodes}
 use Rattle.replay_laws.proofs.WrittenNodes.{kids_written}
 
@@ -55,19 +55,19 @@ labels_few f next is =
     let less = tidied_few ks in
     subst (λ (g : Forest Content). label_after 1 (tidied (kids_in g)) ≤ next) (sym shape.3) (omega (arith, few, all, less))
 
-pub labels_suffice : (page : Arena) (e : Editing) → IsArena page → e.state.next ≤ e.state.cap → LabelsSuffice page e
-labels_suffice page e law low s =
-    let tr = session_tracked page e law s in
+pub labels_suffice : (page : Arena) (e : Editing) → IsPage page → LabelsSuffice page e
+labels_suffice page e is s =
+    let tr = calls_tracked page e is s in
     let few = labels_few e.state.trees e.state.next tr.valid.forest in
-    let same = tr.capped in
-    omega (arith, few, low, same)
+    let within = tr.within in
+    omega (arith, few, within)
 
 -- ---- the document
 
-pub session_reads_back : (page : Arena) (e : Editing) → IsArena page → SessionReadsBack page e
-session_reads_back page e law bytes r s voids d c deep labels fits =
-    let tr = session_tracked page e law s in
-    let proper = session_proper page e law (page_nodes bytes page r) s in
+pub calls_read_back : (page : Arena) (e : Editing) → IsPage page → CallsReadBack page e
+calls_read_back page e is bytes r s voids d c deep labels fits =
+    let tr = calls_tracked page e is s in
+    let proper = calls_proper page e is (page_nodes bytes page r) s in
     let f = e.state.trees in
     let back = document_reading_back d c f (kids_written d e.state.next f tr.valid.forest proper.state.nodes voids deep) labels fits in
     record { children = back.0; nodes = back.1; reading = back.2 }

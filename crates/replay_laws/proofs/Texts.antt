@@ -5,7 +5,7 @@ use Rattle.std.specs.Bool.{MatchBool}
 use Rattle.std.specs.Option.{option_map_or}
 use Rattle.std.proofs.lemmas.Bool.Decides.{nat_tests}
 use Rattle.edit_model.specs.DomModel.declared.Content.TheVariants.{Document}
-use Rattle.edit_model.specs.DomModel.ArenaState.{ArenaState as Arena, IsValid as IsArena}
+use Rattle.edit_model.specs.DomModel.ArenaState.{ArenaState as Arena}
 use Rattle.edit_model.specs.DomModel.Forest.{Forest}
 use Rattle.edit_model.specs.DomModel.Forest.Forest.{Nil as NoTrees}
 use Rattle.inline_value.specs.ForestChanges.Named.{Each}
@@ -25,15 +25,15 @@ use Rattle.edit_session.specs.declared.session.Status.TheVariants.{Done, Usage}
 use Rattle.edit_session.proofs.Grammars.{rests}
 use Rattle.grammar_laws.specs.Proper.{AllNodes, IsProper}
 use Rattle.replay_laws.specs.Lines.{tallied_all}
-use Rattle.replay_laws.specs.Steps.{on_page, StepsReplay, SessionReplays}
-use Rattle.replay_laws.specs.Texts.{IsReadAs, TextReplays, SessionTextReplays}
+use Rattle.replay_laws.specs.Steps.{on_page, StepsReplay}
+use Rattle.replay_laws.specs.Texts.{IsReadAs, TextReplays, CallsTextReplays}
 use Rattle.replay_laws.proofs.Firsts.{HasFirst, first_stays, text_same}
-use Rattle.replay_laws.proofs.Acts.{session_tracked}
+use Rattle.replay_laws.proofs.Calls.{IsPage, calls_tracked}
 use Rattle.replay_laws.proofs.Labels.{IsInGrammar, HasLabels, lines_are}
 use Rattle.replay_laws.proofs.LogLines.{steps_are_lines, lines_replay}
 use Rattle.replay_laws.proofs.PageNodes.{page_proper}
-use Rattle.replay_laws.proofs.ProperSessions.{session_proper, log_proper}
-use Rattle.replay_laws.proofs.Replaying.{HasLed}
+use Rattle.replay_laws.proofs.ProperCalls.{calls_proper, log_proper}
+use Rattle.replay_laws.proofs.Replaying.{lead_from_page, calls_replay}
 
 -- ---- a page within a greater cap
 
@@ -60,7 +60,7 @@ wider_content d c a n (ElementNode l w ts k f) s r le (b, e, m, label, low, room
   wider_content d c a (suc n + size k) f m r le rest,
 )
 
-wider_reading : (c : ℕ) (bytes : List ℕ) (children : Siblings) → c ≤ greatest_cap → page_reading depth_limit c bytes ≡ Children children → page_reading depth_limit greatest_cap bytes ≡ Children children
+pub wider_reading : (c : ℕ) (bytes : List ℕ) (children : Siblings) → c ≤ greatest_cap → page_reading depth_limit c bytes ≡ Children children → page_reading depth_limit greatest_cap bytes ≡ Children children
 wider_reading c bytes children le e =
     let is = (rests.pages c bytes (Children children)).0 e in
     let page = is.0 in
@@ -85,7 +85,7 @@ before_more : (b : ℕ) (lines more : List (List ℕ)) → 0 < length lines → 
 before_more b [] more some = absurd (omega (arith, some))
 before_more b (line ∷ lines) more some = refl
 
-lines_more : (front more : List ℕ) → lines_of (front ++ 10 ∷ more) ≡ lines_of (front ++ 10 ∷ []) ++ lines_of more
+pub lines_more : (front more : List ℕ) → lines_of (front ++ 10 ∷ more) ≡ lines_of (front ++ 10 ∷ []) ++ lines_of more
 lines_more [] more = refl
 lines_more (b ∷ front) more =
     let tail = lines_more front more in
@@ -95,11 +95,11 @@ lines_more (b ∷ front) more =
       | false ↦ ap (before_line b) tail ∙ before_more b (lines_of (front ++ 10 ∷ [])) (lines_of more) some
     ]
 
-block_more : (lines more : List (List ℕ)) (page : List ℕ) → block_in lines ≡ Whole page [] → block_in (lines ++ more) ≡ Whole page more
-block_more lines more page e =
-    let k = (rests.blocks lines (Whole page [])).0 e in
-    let longer : lines ++ more ≡ k.0 ∷ (k.2 ++ k.1 ∷ more) = ap (λ (ls : List (List ℕ)). ls ++ more) k.3 ∙ ap (λ (ls : List (List ℕ)). k.0 ∷ ls) (append_assoc k.2 (k.1 ∷ []) more) in
-    (rests.blocks (lines ++ more) (Whole page more)).1 (k.0, k.1, k.2, longer, k.4, k.5, k.6)
+pub block_more : (lines acts more : List (List ℕ)) (page : List ℕ) → block_in lines ≡ Whole page acts → block_in (lines ++ more) ≡ Whole page (acts ++ more)
+block_more lines acts more page e =
+    let k = (rests.blocks lines (Whole page acts)).0 e in
+    let longer : lines ++ more ≡ k.0 ∷ (k.2 ++ k.1 ∷ (acts ++ more)) = ap (λ (ls : List (List ℕ)). ls ++ more) k.3 ∙ ap (λ (ls : List (List ℕ)). k.0 ∷ ls) (append_assoc k.2 (k.1 ∷ acts) more) in
+    (rests.blocks (lines ++ more) (Whole page (acts ++ more))).1 (k.0, k.1, k.2, longer, k.4, k.5, k.6)
 
 -- ---- the whole
 
@@ -110,7 +110,7 @@ page_is : (bytes : List ℕ) (page : Arena) (r : IsReadAs bytes page) → on_pag
 page_is bytes page r = λ i. record { trees = r.trees i; next = r.next i; cap = greatest_cap }
 
 module _ (front bytes : List ℕ) (page : Arena) (e : Editing) (block : block_of (front ++ 10 ∷ []) ≡ Whole bytes []) (r : IsReadAs bytes page)
-    (law : IsArena page) (spelled : Each IsInGrammar (log_steps e.history)) (fits : length (front ++ 10 ∷ log_text e.history) ≤ input_limit) (steps : StepsReplay page greatest_cap e) where
+    (is : IsPage page) (spelled : Each IsInGrammar (log_steps e.history)) (fits : length (front ++ 10 ∷ log_text e.history) ≤ input_limit) (steps : StepsReplay page greatest_cap e) where
   abbrev text : List ℕ
   text = front ++ 10 ∷ log_text e.history
 
@@ -119,7 +119,7 @@ module _ (front bytes : List ℕ) (page : Arena) (e : Editing) (block : block_of
 
   low : HasLabels (on_page page greatest_cap)
   low = record {
-    each = λ l here. (let lt = law.below l here in let next = law.capped in let cap = r.capped in omega (arith, lt, next, cap));
+    each = λ l here. (let lt = is.forest.below l here in let next = is.capped in let cap = r.capped in omega (arith, lt, next, cap));
     capped = omega arith;
   }
 
@@ -129,7 +129,7 @@ module _ (front bytes : List ℕ) (page : Arena) (e : Editing) (block : block_of
   whole : block_of text ≡ Whole bytes lines
   whole =
       ap block_in (lines_more front (log_text e.history) ∙ ap (λ (ls : List (List ℕ)). lines_of (front ++ 10 ∷ []) ++ ls) (steps_are_lines (log_steps e.history) are))
-      ∙ block_more (lines_of (front ++ 10 ∷ [])) lines bytes block
+      ∙ block_more (lines_of (front ++ 10 ∷ [])) [] lines bytes block
 
   replays : replay lines (page_document r.children) ≡ Ok (replayed (tallied_all (log_steps e.history) none_yet) steps.result)
   unfolding replay
@@ -150,6 +150,7 @@ module _ (front bytes : List ℕ) (page : Arena) (e : Editing) (block : block_of
       let first = first_stays 1 (log_steps e.history) (on_page page greatest_cap) d steps.ok (read_first bytes page r) in
       record {
         next = d.next;
+        bounded = steps.bounded;
         answer = ap (λ (o : Option Order). option_map_or (order_transcript text) o (transcript_of Usage [])) named
             ∙ (answered
             ∙ (ap (replay_block (length text)) whole
@@ -162,9 +163,10 @@ pub page_nodes : (bytes : List ℕ) (page : Arena) → IsReadAs bytes page → A
 page_nodes bytes page r =
     (let is = (rests.pages page.cap bytes (Children r.children)).0 r.reading in subst (λ (f : Forest _). AllNodes IsProper f) (sym r.trees) (page_proper depth_limit page.cap bytes r.children is.0))
 
-pub session_text_replays : (page : Arena) (e : Editing) → IsArena page → HasLed e.state e.history → SessionReplays page e → SessionTextReplays page e
-session_text_replays page e law led replays front bytes block r s off shallow fits =
-    let tr = session_tracked page e law s in
-    let proper = session_proper page e law (page_nodes bytes page r) s in
-    let spelled = log_proper page.trees page.next page.cap e led.0 led.1 tr led.2 proper in
-    text_replays front bytes page e block r law spelled fits (replays greatest_cap r.capped s off shallow)
+pub calls_text_replays : (page : Arena) (e : Editing) → IsPage page → CallsTextReplays page e
+calls_text_replays page e is front bytes block r s off shallow fits =
+    let tr = calls_tracked page e is s in
+    let proper = calls_proper page e is (page_nodes bytes page r) s in
+    let lead = lead_from_page page e is s off in
+    let spelled = log_proper page.trees page.next page.cap e page.trees page.next tr lead proper in
+    text_replays front bytes page e block r is spelled fits (calls_replay page e is greatest_cap r.capped s off shallow)

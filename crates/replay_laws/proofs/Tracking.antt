@@ -18,6 +18,8 @@ use Rattle.edit_engine.specs.Execution.{after_run}
 use Rattle.edit_engine.specs.Going.{goes_on}
 use Rattle.edit_engine.proofs.GoingOn.{recorded_joinable}
 use Rattle.grammar_laws.proofs.Texts.{each_take}
+use Rattle.replay_laws.proofs.Chains.{ChainBack, ChainOn, on_low, back_higher, on_higher, back_cut, own_link, longer_link}
+use Rattle.replay_laws.proofs.EditsFit.{plain_forest}
 use Rattle.replay_laws.proofs.Entries.{IsKnown, known_later, entry_known, longer_known}
 use Rattle.replay_laws.proofs.Leaving.{Leaves}
 
@@ -42,6 +44,10 @@ pub record IsTracked (page : Forest Content) (start cap : ℕ) (e : Editing) : T
   pub redo : Each (IsKnown start e.state.next) e.history.redo
   pub past : LedFrom e.history.dropped page e.history.undo e.state.trees
   pub future : LeadOn e.history.redo e.state.trees
+  pub within : e.state.next ≤ cap
+  pub middle : ℕ
+  pub back : ChainBack start middle e.history.undo
+  pub on : ChainOn middle e.state.next e.history.redo
 
 -- without the oldest
 led_cut : (dropped : Bool) (page : Forest Content) (n : ℕ) (xs : List Entry) (f : Forest Content) → LedFrom dropped page xs f → LedFrom true page (take n xs) f
@@ -71,18 +77,22 @@ module _ (page : Forest Content) (start cap : ℕ) where
     redo = subst (λ (n : ℕ). Each (IsKnown start n) e.history.redo) (sym next) tr.redo;
     past = subst (λ (f : Forest Content). LedFrom e.history.dropped page e.history.undo f) (sym trees) tr.past;
     future = subst (λ (f : Forest Content). LeadOn e.history.redo f) (sym trees) tr.future;
+    within = subst (λ (n : ℕ). n ≤ cap) (sym next) tr.within;
+    middle = tr.middle;
+    back = tr.back;
+    on = subst (λ (n : ℕ). ChainOn tr.middle n e.history.redo) (sym next) tr.on;
   }
 
   -- ---- through the history
 
   pub tracked_undone : (e : Editing) → Tracked e → Tracked (undone e)
   unfolding undone_state undone_history at_view
-  tracked_undone e tr = by_entries e.history.undo tr.undo tr.past
+  tracked_undone e tr = by_entries e.history.undo tr.undo tr.past tr.back
     where
-      by_entries : (es : List Entry) → Each (IsKnown start e.state.next) es → LedFrom e.history.dropped page es e.state.trees
+      by_entries : (es : List Entry) → Each (IsKnown start e.state.next) es → LedFrom e.history.dropped page es e.state.trees → ChainBack start tr.middle es
           → Tracked (record { state = undone_state_by es e.state; history = undone_history_by es e.history; going = going_past es e.going })
-      by_entries [] known past = tr
-      by_entries (x ∷ xs) known past = record {
+      by_entries [] known past back = tr
+      by_entries (x ∷ xs) known past back = record {
         valid = valid_at_view x.before e.state known.0.before tr.valid.started;
         alone = known.0.alone_before;
         low = tr.low;
@@ -93,16 +103,20 @@ module _ (page : Forest Content) (start cap : ℕ) where
         redo = (known.0, tr.redo);
         past = past.1;
         future = (refl, subst (λ (f : Forest Content). LeadOn e.history.redo f) (sym past.0) tr.future);
+        within = tr.within;
+        middle = back.0;
+        back = back.2;
+        on = (tr.middle, back.1, tr.on);
       }
 
   pub tracked_redone : (e : Editing) → Tracked e → Tracked (redone e)
   unfolding redone_state redone_history at_view
-  tracked_redone e tr = by_entries e.history.redo tr.redo tr.future
+  tracked_redone e tr = by_entries e.history.redo tr.redo tr.future tr.on
     where
-      by_entries : (es : List Entry) → Each (IsKnown start e.state.next) es → LeadOn es e.state.trees
+      by_entries : (es : List Entry) → Each (IsKnown start e.state.next) es → LeadOn es e.state.trees → ChainOn tr.middle e.state.next es
           → Tracked (record { state = redone_state_by es e.state; history = redone_history_by es e.history; going = going_past es e.going })
-      by_entries [] known future = tr
-      by_entries (x ∷ xs) known future = record {
+      by_entries [] known future on = tr
+      by_entries (x ∷ xs) known future on = record {
         valid = valid_at_view x.after e.state known.0.after tr.valid.started;
         alone = known.0.alone_after;
         low = tr.low;
@@ -113,12 +127,16 @@ module _ (page : Forest Content) (start cap : ℕ) where
         redo = known.1;
         past = (refl, subst (λ (f : Forest Content). LedFrom e.history.dropped page e.history.undo f) (sym future.0) tr.past);
         future = future.1;
+        within = tr.within;
+        middle = on.0;
+        back = (tr.middle, on.1, tr.back);
+        on = on.2;
       }
 
   -- ---- a command
 
   module _ (e : Editing) (joining : Bool) (c : Command) (t : State) (joins : joining ≡ true → goes_on e.going ≡ true) (tr : IsTracked page start cap e) (l : Leaves e.state t)
-      (same : length t.edits ≡ 0 → document_of t.trees ≡ document_of e.state.trees) where
+      (same : length t.edits ≡ 0 → document_of t.trees ≡ document_of e.state.trees) (within : t.next ≤ cap) where
     abbrev s : State
     s = e.state
 
@@ -132,6 +150,9 @@ module _ (page : Forest Content) (start cap : ℕ) where
       past : LedFrom k.dropped page k.undo (document_of t.trees)
       future : LeadOn k.redo (document_of t.trees)
       depth : 0 < k.depth
+      middle : ℕ
+      back : ChainBack start middle k.undo
+      on : ChainOn middle t.next k.redo
 
     later : (xs : List Entry) → Each (IsKnown start s.next) xs → Each (IsKnown start t.next) xs
     later xs known = each_of (IsKnown start s.next) (IsKnown start t.next) xs (known_later start s.next t.next l.next) known
@@ -146,6 +167,9 @@ module _ (page : Forest Content) (start cap : ℕ) where
           past = subst (λ (f : Forest Content). LedFrom h.dropped page h.undo f) (sym doc) tr.past;
           future = subst (λ (f : Forest Content). LeadOn h.redo f) (sym doc) tr.future;
           depth = tr.depth;
+          middle = tr.middle;
+          back = tr.back;
+          on = on_higher tr.middle s.next t.next h.redo l.next tr.on;
         }
 
     -- with an entry of its own
@@ -160,6 +184,9 @@ module _ (page : Forest Content) (start cap : ℕ) where
               (refl, subst (λ (f : Forest Content). LedFrom h.dropped page h.undo f) (sym tr.alone) tr.past);
           future = tt;
           depth = tr.depth;
+          middle = t.next;
+          back = back_cut start t.next h.depth (entry_of s t ∷ h.undo) (s.next, own_link s t tr.valid tr.alone l.lead, back_higher start tr.middle s.next h.undo (on_low tr.middle s.next h.redo tr.on) tr.back);
+          on = omega arith;
         }
       where
         by_drop : (b : Bool) → (h.dropped || nat_le h.depth (length h.undo)) ≡ b → LedFrom h.dropped page (entry_of s t ∷ h.undo) (document_of t.trees) → LedFrom b page (take h.depth (entry_of s t ∷ h.undo)) (document_of t.trees)
@@ -174,19 +201,25 @@ module _ (page : Forest Content) (start cap : ℕ) where
     -- with the last entry longer
     with_last : IsJoinable h → Records (joined t h)
     unfolding joined view_of
-    with_last j = by_entries h.undo j.some tr.undo tr.past
+    with_last j = by_entries h.undo j.some tr.undo tr.past (back_higher start tr.middle s.next h.undo (on_low tr.middle s.next h.redo tr.on) tr.back)
       where
         ahead : h.redo ≡ [] → (f : Forest Content) → LeadOn h.redo f
         ahead none f = subst (λ (w : List Entry). LeadOn w f) (sym none) tt
 
-        by_entries : (es : List Entry) → 0 < length es → Each (IsKnown start s.next) es → LedFrom h.dropped page es s.trees → Records (record h { undo = joined_in t es })
-        by_entries [] some known past = absurd (omega (arith, some))
-        by_entries (x ∷ xs) some known past = record {
+        last_on : h.redo ≡ [] → ChainOn t.next t.next h.redo
+        last_on none = subst (λ (w : List Entry). ChainOn t.next t.next w) (sym none) (omega arith)
+
+        by_entries : (es : List Entry) → 0 < length es → Each (IsKnown start s.next) es → LedFrom h.dropped page es s.trees → ChainBack start s.next es → Records (record h { undo = joined_in t es })
+        by_entries [] some known past back = absurd (omega (arith, some))
+        by_entries (x ∷ xs) some known past back = record {
           undo = (longer_known start s t tr.valid tr.alone tr.low l x known.0 past.0, later xs known.1);
           redo = later h.redo tr.redo;
           past = (refl, past.1);
           future = ahead j.last (document_of t.trees);
           depth = tr.depth;
+          middle = t.next;
+          back = (back.0, longer_link s t tr.valid tr.alone l.lead back.0 x (plain_forest x.before.document s.next known.0.before.forest) past.0 back.1, back.2);
+          on = last_on j.last;
         }
 
     kept : Records (recorded joining s t h)
@@ -213,4 +246,8 @@ module _ (page : Forest Content) (start cap : ℕ) where
           redo = r.redo;
           past = r.past;
           future = r.future;
+          within = within;
+          middle = r.middle;
+          back = r.back;
+          on = r.on;
         }

@@ -1,6 +1,9 @@
+pub mod Calls
+pub mod Clauses
 pub mod Sessions
 pub mod Beginnings
 pub mod Steps
 pub mod Lines
 pub mod Texts
 pub mod ReadBack
+pub mod Bytes

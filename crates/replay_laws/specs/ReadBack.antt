@@ -1,4 +1,4 @@
--- The document that a session leaves, printed as HTML and read again.
+-- The document that calls leave, printed as HTML and read again.
 use Rattle.std.specs.Prelude.{◌≡◌, ℕ, ◌≤◌, Bool, true, false, List, length}
 use Rattle.edit_model.specs.DomModel.declared.Content.{Content}
 use Rattle.edit_model.specs.DomModel.declared.Content.TheVariants.{Element}
@@ -15,7 +15,7 @@ use Rattle.step_text.specs.PageGrammar.Reading.{Children, page_reading}
 use Rattle.page_laws.specs.Tidy.{label_after, tidied, numbered}
 use Rattle.page_write.specs.Html.{document_html}
 use Rattle.edit_engine.specs.Editing.{Editing}
-use Rattle.replay_laws.specs.Sessions.{IsOfSession}
+use Rattle.replay_laws.specs.Calls.{IsOfCalls}
 use Rattle.replay_laws.specs.Texts.{IsReadAs}
 
 -- an element for which HTML has no end tag
@@ -36,15 +36,15 @@ pub record IsReadBack (d c : ℕ) (f : Forest Content) : Type 0 where
   pub nodes : nodes_of children ≡ numbered 1 (tidied (kids_in f))
   pub reading : page_reading d c (document_html f) ≡ Children children
 
--- So it is at the end of every session from a page that was read, where no void element has children,
+-- So it is after all calls, from a page that was read, where no void element has children,
 -- no node is deeper than the reader allows, labels below its cap suffice, and the HTML isn't longer
 -- than a page may be.
-abbrev pub SessionReadsBack : Arena → Editing → Type 0
-SessionReadsBack page e =
-    (bytes : List ℕ) → IsReadAs bytes page → IsOfSession page e → VoidsAreEmpty e.state.trees
+abbrev pub CallsReadBack : Arena → Editing → Type 0
+CallsReadBack page e =
+    (bytes : List ℕ) → IsReadAs bytes page → IsOfCalls page e → VoidsAreEmpty e.state.trees
     → (d c : ℕ) → page_depth e.state.trees ≤ d → label_after 1 (tidied (kids_in e.state.trees)) ≤ c
     → length (document_html e.state.trees) ≤ page_limit → IsReadBack d c e.state.trees
 
--- labels below the cap of the session always suffice
+-- labels below the cap of the page always suffice
 abbrev pub LabelsSuffice : Arena → Editing → Type 0
-LabelsSuffice page e = IsOfSession page e → label_after 1 (tidied (kids_in e.state.trees)) ≤ page.cap
+LabelsSuffice page e = IsOfCalls page e → label_after 1 (tidied (kids_in e.state.trees)) ≤ page.cap

@@ -1,4 +1,4 @@
--- The text of the log of a session after its page block, as `replay` answers it.
+-- The text of a log after a page block, as `replay` answers it.
 use Rattle.std.specs.Prelude.{◌≡◌, ℕ, suc, ◌≤◌, false, List, [], ◌∷◌, ◌++◌, length, codes}
 use Rattle.edit_model.specs.DomModel.ArenaState.{ArenaState as Arena}
 use Rattle.step_text.specs.PageGrammar.Nodes.{document_of}
@@ -12,7 +12,7 @@ use Rattle.edit_session.specs.Transcript.{input_limit, depth_limit, transcript_o
 use Rattle.edit_session.specs.Words.{greatest_cap}
 use Rattle.edit_session.specs.declared.session.Status.TheVariants.{Done}
 use Rattle.replay_laws.specs.Lines.{tallied_all}
-use Rattle.replay_laws.specs.Sessions.{IsOfSession}
+use Rattle.replay_laws.specs.Calls.{IsOfCalls}
 use Rattle.replay_laws.specs.Steps.{StaysShallow}
 
 -- the bytes are a page, and it is read as these nodes
@@ -24,17 +24,18 @@ pub record IsReadAs (bytes : List ℕ) (page : Arena) : Type 0 where
   pub capped : page.cap ≤ greatest_cap
 
 -- `replay` refuses no line of the log, and prints the HTML and the numbers of the document of the
--- editor; the next label that it prints may be another one
+-- editor; the next label that it prints may be a lower one
 pub record TextReplays (front : List ℕ) (e : Editing) : Type 0 where
   pub next : ℕ
+  pub bounded : next ≤ e.state.next
   pub answer : transcript (codes "replay" ∷ []) (front ++ 10 ∷ log_text e.history)
       ≡ transcript_of Done
       (replayed_text (tallied_all (log_steps e.history) none_yet) e.state.trees next)
 
--- So it is at the end of a session as `SessionReplays` has it, which began with a text that is a page
--- block and a line feed, where with the log after that it isn't too long.
-abbrev pub SessionTextReplays : Arena → Editing → Type 0
-SessionTextReplays page e =
+-- So it is after calls as `CallsReplay` has them, from the page of a text that is a page block and a
+-- line feed, where with the log after that it isn't too long.
+abbrev pub CallsTextReplays : Arena → Editing → Type 0
+CallsTextReplays page e =
     (front bytes : List ℕ) → block_of (front ++ 10 ∷ []) ≡ Whole bytes [] → IsReadAs bytes page
-    → IsOfSession page e → e.history.dropped ≡ false → StaysShallow e
+    → IsOfCalls page e → e.history.dropped ≡ false → StaysShallow e
     → length (front ++ 10 ∷ log_text e.history) ≤ input_limit → TextReplays front e

@@ -1,11 +1,9 @@
-use Rattle.replay_laws.proofs.Replaying.{state_capped}
-use Rattle.replay_laws.proofs.ReadingBack.{labels_suffice, session_reads_back}
+use Rattle.replay_laws.proofs.Calls.{arena_page}
+use Rattle.replay_laws.proofs.ReadingBack.{calls_read_back, labels_suffice}
 use Rattle.replay_laws.proofs.laws.documents_read_back.Goals as goal
 
 pub returns-clause-same : goal.returns-clause-same
-returns-clause-same c = session_reads_back c.args.page.now c.args.editor.now.editing c.valid.ensures
+returns-clause-same c = λ e. calls_read_back c.args.page.now e (arena_page c.args.page.now c.valid.ensures)
 
 pub returns-clause-labels : goal.returns-clause-labels
-returns-clause-labels c =
-    let e = c.args.editor.now.editing in
-    labels_suffice c.args.page.now e c.valid.ensures (state_capped c.document.result.now e c.document.ensures.state c.valid-2.ensures)
+returns-clause-labels c = λ e. labels_suffice c.args.page.now e (arena_page c.args.page.now c.valid.ensures)

@@ -1,15 +1,16 @@
--- Each act of a session keeps what is tracked.
-use Rattle.std.proofs.Common.{◌≡◌, ℕ, zero, suc, ◌<◌, ◌≤◌, Bool, true, false, true≢false, codes, cond, not, List, [], ◌∷◌, length, Option, Some, None, refl, sym, ap, subst, arith}
-use Rattle.std.specs.Prelude.{nat_le, nat_lt, min, ◌&&◌, if◌then◌else◌}
+-- Each call of an editor keeps what is tracked.
+use Rattle.std.proofs.Common.{◌≡◌, ℕ, ◌<◌, ◌≤◌, Bool, true, false, true≢false, cond, not, List, [], ◌∷◌, length, Option, Some, None, refl, sym, ap, subst, arith}
+use Rattle.std.specs.Prelude.{nat_le, nat_lt, ◌&&◌, if◌then◌else◌}
 use Rattle.std.specs.List.{All}
 use Rattle.std.specs.Map.{remove_entry}
-use Rattle.std.specs.Option.{option_map_or, option_and_then}
+use Rattle.std.specs.Option.{option_and_then}
 use Rattle.std.specs.Str.{bytes_eq}
 use Rattle.std.proofs.lemmas.Bool.Decides.{nat_tests}
 use Rattle.std.proofs.lemmas.List.Elements.{All-nil, All-cons}
 use Rattle.command_gate.specs.Denied.{is_denied}
 use Rattle.edit_model.specs.HtmlNames.Commands.{command_named}
 use Rattle.edit_model.specs.HtmlNames.declared.commands.Command.{Command}
+use Rattle.edit_model.specs.HtmlNames.declared.commands.Command.TheVariants.{InsertText}
 use Rattle.edit_model.specs.DomModel.declared.Content.{Content}
 use Rattle.edit_model.specs.DomModel.ArenaState.{ArenaState as Arena, IsValid as IsArena}
 use Rattle.edit_model.specs.DomModel.Contents.{length_of}
@@ -22,10 +23,7 @@ use Rattle.edit_model.specs.LiveRange.LivePoints.{with_mark, without_mark}
 use Rattle.edit_model.proofs.LiveRange.Apart.{All-head, All-tail}
 use Rattle.inline_value.specs.NodePaths.Paths.{label_at}
 use Rattle.edit_model.specs.PointOrder.PointOrder.{is_placed}
-use Rattle.step_text.specs.ScriptRead.declared.act.Act.{Act}
-use Rattle.step_text.specs.ScriptRead.declared.act.Act.TheVariants.{Select, Unselect, Mark, Unmark, Exec, Query, Undo, Redo, Probe, Html, Tree as Listing, Points, Stat, Log}
 use Rattle.step_text.specs.ScriptRead.declared.act.Place.{Place}
-use Rattle.step_text.specs.ScriptRead.Reading.{Line, Long, Unknown, Known, line_of}
 use Rattle.edit_model.specs.State.{State}
 use Rattle.edit_model.specs.Confined.{may_select}
 use Rattle.edit_model.specs.Edit.{changed}
@@ -43,14 +41,14 @@ use Rattle.inline_value.specs.EditDoc.Whole.{HasNoLoose, first_state}
 use Rattle.inline_value.proofs.EditDoc.Rests.{arena_forest}
 use Rattle.inline_value.proofs.EditDoc.Turnings.{unset_length}
 use Rattle.edit_engine.specs.Commands.{row_of, action_of, is_enabled_in}
-use Rattle.edit_engine.specs.Editing.{Editing, new_editing, undone, redone, turned_times}
-use Rattle.edit_engine.specs.Execution.{Outcome, Refused, Deep, Full, Acted, depth_limit, host_at, run_at, ran, answered, after_run, run_outcome, command_outcome, outcome_by, gated_outcome}
+use Rattle.edit_engine.specs.Editing.{Editing, new_editing}
+use Rattle.edit_engine.specs.Execution.{Outcome, Refused, Deep, Full, Acted, depth_limit, host_at, run_at, ran, answered, after_run, run_outcome, command_outcome, outcome_at, outcome_by, outcome, joined_outcome, gated_outcome, replaced_outcome, outcome_with}
 use Rattle.edit_engine.specs.Going.{goes_on, joins_by}
-use Rattle.edit_engine.specs.Places.{point_in, point_at, pair_of, pair_at, pair_from, selecting, unselecting, marking, unmarking}
+use Rattle.edit_engine.specs.Places.{point_in, point_at, pair_of, pair_at, pair_from, placed_pair, range_in, selecting, unselecting, marking, unmarking}
 use Rattle.edit_engine.proofs.GoingOn.{joins_on}
 use Rattle.edit_engine.proofs.Seeing.{path_inside, in_document, placed_by}
-use Rattle.edit_session.specs.Replies.{replied, select_reply, is_crowded, mark_reply, exec_reply, undo_reply, redo_reply, act_reply, read_reply, line_reply}
-use Rattle.replay_laws.specs.Sessions.{after_lines, IsOfSession}
+use Rattle.edit_session.specs.Replies.{is_crowded}
+use Rattle.replay_laws.specs.Calls.{Call, Exec, ExecJoined, ExecGated, ExecWith, Replace, Select, SelectPoints, Unselect, Mark, MarkPoints, Unmark, Undo, Redo, after_outcome, after_replacing, after_options, after_selecting, after_marking, called, after_calls, IsOfCalls}
 use Rattle.replay_laws.proofs.Leaving.{run_leaves}
 use Rattle.edit_engine.proofs.Still.{stays_alone}
 use Rattle.replay_laws.proofs.Tracking.{IsTracked, tracked_stopped, tracked_undone, tracked_redone, tracked_run}
@@ -85,6 +83,17 @@ pair_placed f next is anchor focus pair e = by_points (point_at f anchor) (point
     by_points (Some p) (Some q) a b e =
         let same : pair_from p q ≡ pair = (let t : Some (pair_from p q) ≡ Some pair = e in cc) in
         subst (λ (w : Pair). IsPlacedPair f w) same (record { anchor = point_placed f next is anchor p a; focus = point_placed f next is focus q b })
+
+points_placed : (f : Forest Content) (anchor focus : Point) (pair : Pair) → placed_pair f anchor focus ≡ Some pair → IsPlacedPair f pair
+unfolding placed_pair
+points_placed f anchor focus pair e = by_tests (is_placed f anchor) (is_placed f focus) refl refl e
+  where
+    by_tests : (a b : Bool) → is_placed f anchor ≡ a → is_placed f focus ≡ b → cond (a && b) (Some (pair_from anchor focus)) None ≡ Some pair → IsPlacedPair f pair
+    by_tests true true first last e =
+        let same : pair_from anchor focus ≡ pair = (let t : Some (pair_from anchor focus) ≡ Some pair = e in cc) in
+        subst (λ (w : Pair). IsPlacedPair f w) same (record { anchor = first; focus = last })
+    by_tests true false first last e = absurd (let t : None ≡ Some pair = e in cc)
+    by_tests false b first last e = absurd (let t : None ≡ Some pair = e in cc)
 
 -- ---- marks
 
@@ -156,13 +165,6 @@ module _ (page : Forest Content) (start cap : ℕ) where
         settings = is.settings;
       }) refl refl refl
 
-  -- ---- through the history
-
-  keeps_times : (n : ℕ) (turn : Editing → Editing) → ((e : Editing) → Keeps e → Keeps (turn e)) → (e : Editing) → Keeps e → Keeps (turned_times n turn e)
-  unfolding turned_times
-  keeps_times zero turn each e keeps = keeps
-  keeps_times (suc n) turn each e keeps = keeps_times n turn each (turn e) (each e keeps)
-
   -- ---- commands
 
   -- what holds of the editor after an outcome
@@ -170,11 +172,11 @@ module _ (page : Forest Content) (start cap : ℕ) where
   After (Acted answer after) = Keeps after
   After _ = Unit {0}
 
-  after_by : (refused deep full answer : Bool) (x y : Editing) → Keeps x → Keeps y → After (cond refused Refused (cond deep Deep (cond full Full (cond answer (Acted true x) (Acted false y)))))
+  after_by : (refused deep full answer : Bool) (x y : Editing) → (full ≡ false → Keeps x) → Keeps y → After (cond refused Refused (cond deep Deep (cond full Full (cond answer (Acted true x) (Acted false y)))))
   after_by true deep full answer x y first second = tt
   after_by false true full answer x y first second = tt
   after_by false false true answer x y first second = tt
-  after_by false false false true x y first second = first
+  after_by false false false true x y first second = first refl
   after_by false false false false x y first second = second
 
   reached : (m : Run Bool) (s : State) → Reaches s (final m s)
@@ -184,98 +186,108 @@ module _ (page : Forest Content) (start cap : ℕ) where
   some_label : (e : Editing) → IsTracked page start cap e → 0 < e.state.next
   some_label e tr = tr.valid.forest.below 0 tr.valid.forest.document
 
-  keeps_run : (e : Editing) (host : Option ℕ) (keeping joining : Bool) (c : Command) (m : Run Bool) → (joining ≡ true → goes_on e.going ≡ true) → Keeps e → Keeps (after_run e joining c (ran host e.state keeping m))
-  keeps_run e host keeping joining c m joins tr =
+  not_past : (a b c : ℕ) → nat_lt a b ≡ false → a ≡ c → b ≤ c
+  not_past a b c low same = (let le : b ≤ a = grind (arith, nat_tests) in omega (arith, le, same))
+
+  keeps_run : (e : Editing) (host : Option ℕ) (keeping joining : Bool) (c : Command) (m : Run Bool) → (joining ≡ true → goes_on e.going ≡ true) → nat_lt e.state.cap (ran host e.state keeping m).next ≡ false → Keeps e → Keeps (after_run e joining c (ran host e.state keeping m))
+  keeps_run e host keeping joining c m joins low tr =
       let s = e.state in
       let t = ran host s keeping m in
       let r = reached m (begun host keeping s) in
       let l = run_leaves s t host keeping tr.valid r in
-      tracked_run page start cap e joining c t joins tr l (stays_alone s t host keeping (some_label e tr) r)
+      tracked_run page start cap e joining c t joins tr l (stays_alone s t host keeping (some_label e tr) r) (not_past s.cap t.next cap low tr.capped)
 
-  after_command : (e : Editing) (joining : Bool) (v : List ℕ) (c : Command) → (joining ≡ true → goes_on e.going ≡ true) → Keeps e → After (command_outcome e None joining v c)
+  after_command : (e : Editing) (at : Option Pair) (joining : Bool) (v : List ℕ) (c : Command) → (joining ≡ true → goes_on e.going ≡ true) → Keeps e → After (command_outcome e at joining v c)
   unfolding command_outcome run_outcome
-  after_command e joining v c joins keeps =
+  after_command e at joining v c joins keeps =
       let s = e.state in
-      let host = host_at None s in
+      let host = host_at at s in
       let k = (row_of c).keeping in
-      let m = run_at None (action_of c v) in
+      let m = run_at at (action_of c v) in
       let x = after_run e joining c (ran host s k m) in
       after_by (not (is_enabled_in host c)) (nat_lt depth_limit (page_depth s.trees)) (nat_lt s.cap (ran host s k m).next) (answered host s k m) x e
-      (keeps_run e host k joining c m joins keeps) keeps
+      (λ low. keeps_run e host k joining c m joins low keeps) keeps
 
-  after_named : (e : Editing) (v : List ℕ) (o : Option Command) → Keeps e → After (option_map_or (λ c. command_outcome e None (joins_by false e.going c) v c) o Refused)
-  after_named e v None keeps = tt
-  after_named e v (Some c) keeps = after_command e (joins_by false e.going c) v c (joins_on false e.going c) keeps
+  after_named : (at : Option Pair) (joined : Bool) (e : Editing) (v : List ℕ) (o : Option Command) → Keeps e → After (outcome_at at joined e o v)
+  after_named at joined e v None keeps = tt
+  after_named at joined e v (Some c) keeps = after_command e at (joins_by joined e.going c) v c (joins_on joined e.going c) keeps
+
+  after_outcome_by : (joined : Bool) (e : Editing) (name v : List ℕ) → Keeps e → After (outcome_by joined e name v)
+  unfolding outcome_by
+  after_outcome_by joined e name v keeps = after_named None joined e v (command_named name) keeps
 
   after_gated : (denied : List (List ℕ)) (e : Editing) (name v : List ℕ) → Keeps e → After (gated_outcome denied e name v)
-  unfolding gated_outcome outcome_by
+  unfolding gated_outcome
   after_gated denied e name v keeps = by_test (is_denied denied name)
     where
-      by_test : (b : Bool) → After (cond b Refused (option_map_or (λ c. command_outcome e None (joins_by false e.going c) v c) (command_named name) Refused))
+      by_test : (b : Bool) → After (cond b Refused (outcome_by false e name v))
       by_test true = tt
-      by_test false = after_named e v (command_named name) keeps
+      by_test false = after_outcome_by false e name v keeps
 
-  keeps_exec : (e : Editing) (o : Outcome) → Keeps e → After o → Keeps (exec_reply e o).after
-  keeps_exec e Refused keeps h = keeps
-  keeps_exec e Deep keeps h = keeps
-  keeps_exec e Full keeps h = keeps
-  keeps_exec e (Acted answer after) keeps h = h
+  after_with : (denied : List (List ℕ)) (at : Option Pair) (joined : Bool) (e : Editing) (name v : List ℕ) → Keeps e → After (outcome_with denied at joined e name v)
+  unfolding outcome_with
+  after_with denied at joined e name v keeps = by_test (is_denied denied name)
+    where
+      by_test : (b : Bool) → After (cond b Refused (outcome_at at joined e (command_named name) v))
+      by_test true = tt
+      by_test false = after_named at joined e v (command_named name) keeps
 
-  -- ---- acts
+  keeps_outcome : (e : Editing) (o : Outcome) → Keeps e → After o → Keeps (after_outcome e o)
+  keeps_outcome e Refused keeps h = keeps
+  keeps_outcome e Deep keeps h = keeps
+  keeps_outcome e Full keeps h = keeps
+  keeps_outcome e (Acted answer after) keeps h = h
 
-  keeps_select : (e : Editing) (o : Option Pair) → Keeps e → Keeps (select_reply e o).after
+  -- ---- calls
+
+  keeps_replacing : (e : Editing) (text : List ℕ) (o : Option Pair) → Keeps e → Keeps (after_replacing e text o)
+  keeps_replacing e text None keeps = keeps
+  keeps_replacing e text (Some range) keeps =
+      keeps_outcome e (replaced_outcome e range text) keeps (after_command e (Some range) (joins_by false e.going InsertText) text InsertText (joins_on false e.going InsertText) keeps)
+
+  keeps_options : (denied : List (List ℕ)) (joined : Bool) (e : Editing) (name value : List ℕ) (o : Option (Option Pair)) → Keeps e → Keeps (after_options denied joined e name value o)
+  keeps_options denied joined e name value None keeps = keeps
+  keeps_options denied joined e name value (Some at) keeps = keeps_outcome e (outcome_with denied at joined e name value) keeps (after_with denied at joined e name value keeps)
+
+  keeps_select : (e : Editing) (o : Option Pair) → Keeps e → Keeps (after_selecting e o)
   keeps_select e None keeps = keeps
   keeps_select e (Some pair) keeps = keeps_selecting e pair keeps
 
-  keeps_mark : (e : Editing) (name : List ℕ) (o : Option Pair) → ((pair : Pair) → o ≡ Some pair → IsValid e.state → IsPlacedPair e.state.trees pair) → Keeps e → Keeps (mark_reply e name o).after
+  keeps_mark : (e : Editing) (name : List ℕ) (o : Option Pair) → ((pair : Pair) → o ≡ Some pair → IsValid e.state → IsPlacedPair e.state.trees pair) → Keeps e → Keeps (after_marking e name o)
   keeps_mark e name None placed keeps = keeps
   keeps_mark e name (Some pair) placed keeps = by_test (is_crowded e name)
     where
-      by_test : (b : Bool) → Keeps (if b then replied (codes "! 5 too many marks\n") e else replied (codes "ok\n") (marking e name pair)).after
+      by_test : (b : Bool) → Keeps (if b then e else marking e name pair)
       by_test true = keeps
       by_test false = keeps_marking e name pair (placed pair refl) keeps
 
-  keeps_act : (denied : List (List ℕ)) (e : Editing) (act : Act) → Keeps e → Keeps (act_reply denied e act).after
-  unfolding undo_reply redo_reply
-  keeps_act denied e (Select anchor focus) keeps = keeps_select e (pair_at e.state.trees anchor focus) keeps
-  keeps_act denied e Unselect keeps = keeps_unselecting e keeps
-  keeps_act denied e (Mark name anchor focus) keeps =
+  pub keeps_call : (call : Call) (e : Editing) → Keeps e → Keeps (called call e)
+  unfolding called
+  keeps_call (Exec name value) e keeps = keeps_outcome e (outcome e name value) keeps (after_outcome_by false e name value keeps)
+  keeps_call (ExecJoined name value) e keeps = keeps_outcome e (joined_outcome e name value) keeps (after_outcome_by true e name value keeps)
+  keeps_call (ExecGated denied name value) e keeps = keeps_outcome e (gated_outcome denied e name value) keeps (after_gated denied e name value keeps)
+  keeps_call (ExecWith denied range joined name value) e keeps = keeps_options denied joined e name value (range_in e.state.trees range) keeps
+  keeps_call (Replace anchor focus text) e keeps = keeps_replacing e text (placed_pair e.state.trees anchor focus) keeps
+  keeps_call (Select anchor focus) e keeps = keeps_select e (pair_at e.state.trees anchor focus) keeps
+  keeps_call (SelectPoints anchor focus) e keeps = keeps_select e (placed_pair e.state.trees anchor focus) keeps
+  keeps_call Unselect e keeps = keeps_unselecting e keeps
+  keeps_call (Mark name anchor focus) e keeps =
       keeps_mark e name (pair_at e.state.trees anchor focus) (λ pair at is. pair_placed e.state.trees e.state.next is.forest anchor focus pair at) keeps
-  keeps_act denied e (Unmark name) keeps = keeps_unmarking e name keeps
-  keeps_act denied e (Exec name value) keeps = keeps_exec e (gated_outcome denied e name value) keeps (after_gated denied e name value keeps)
-  keeps_act denied e (Query kind name) keeps = keeps
-  keeps_act denied e (Undo count) keeps = keeps_times (min count (length e.history.undo)) undone (tracked_undone page start cap) e keeps
-  keeps_act denied e (Redo count) keeps = keeps_times (min count (length e.history.redo)) redone (tracked_redone page start cap) e keeps
-  keeps_act denied e (Probe path) keeps = keeps
-  keeps_act denied e Html keeps = keeps
-  keeps_act denied e Listing keeps = keeps
-  keeps_act denied e Points keeps = keeps
-  keeps_act denied e Stat keeps = keeps
-  keeps_act denied e Log keeps = keeps
+  keeps_call (MarkPoints name anchor focus) e keeps =
+      keeps_mark e name (placed_pair e.state.trees anchor focus) (λ pair at is. points_placed e.state.trees anchor focus pair at) keeps
+  keeps_call (Unmark name) e keeps = keeps_unmarking e name keeps
+  keeps_call Undo e keeps = tracked_undone page start cap e keeps
+  keeps_call Redo e keeps = tracked_redone page start cap e keeps
 
-  keeps_read : (denied : List (List ℕ)) (e : Editing) (line : Line) → Keeps e → Keeps (read_reply denied e line).after
-  keeps_read denied e Long keeps = keeps
-  keeps_read denied e Unknown keeps = keeps
-  keeps_read denied e (Known None) keeps = keeps
-  keeps_read denied e (Known (Some act)) keeps = keeps_act denied e act keeps
+  keeps_calls : (calls : List Call) (e : Editing) → Keeps e → Keeps (after_calls calls e)
+  unfolding after_calls
+  keeps_calls [] e keeps = keeps
+  keeps_calls (call ∷ calls) e keeps = keeps_calls calls (called call e) (keeps_call call e keeps)
 
-  pub keeps_line : (denied : List (List ℕ)) (e : Editing) (line : List ℕ) → Keeps e → Keeps (line_reply denied e line).after
-  unfolding line_reply
-  keeps_line denied e line keeps = by_test (bytes_eq line [])
-    where
-      by_test : (b : Bool) → Keeps (if b then replied [] e else read_reply denied e (line_of line)).after
-      by_test true = keeps
-      by_test false = keeps_read denied e (line_of line) keeps
-
-  keeps_lines : (denied : List (List ℕ)) (e : Editing) (lines : List (List ℕ)) → Keeps e → Keeps (after_lines denied e lines)
-  unfolding after_lines
-  keeps_lines denied e [] keeps = keeps
-  keeps_lines denied e (line ∷ lines) keeps = keeps_lines denied (line_reply denied e line).after lines (keeps_line denied e line keeps)
-
--- ---- a session
+-- ---- from a page on
 
 -- a document without loose trees stands alone
-alone_first : (f : Forest Content) (next : ℕ) → IsForest f next → tops f ≡ 0 ∷ [] → document_of f ≡ f
+pub alone_first : (f : Forest Content) (next : ℕ) → IsForest f next → tops f ≡ 0 ∷ [] → document_of f ≡ f
 alone_first f next is h =
     let d = document_shape f next is in
     let e : tops (Tree 0 d.0 d.1 d.2) ≡ 0 ∷ [] = subst (λ (g : Forest Content). tops g ≡ 0 ∷ []) d.3 h in
@@ -285,29 +297,39 @@ alone_first f next is h =
     none Nil e = refl
     none (Tree m c ks rest) e = absurd (omega (arith, e))
 
-pub tracked_first : (page : Arena) → IsArena page → HasNoLoose page → (depth : ℕ) → 0 < depth → IsTracked page.trees page.next page.cap (new_editing page depth)
-unfolding first_state
-tracked_first page law loose depth some =
-    let is = arena_forest page law in
-    record {
-      valid = record {
-        forest = is;
-        placed = record { selection = tt; scratch = tt; marks = All-nil (λ m. IsPlacedPair page.trees m.1) };
-        started = omega arith;
-        settings = unset_length;
-      };
-      alone = alone_first page.trees page.next is loose;
-      low = omega arith;
-      capped = refl;
-      depth = some;
-      joinable = λ on. absurd (true≢false (sym on));
-      undo = tt;
-      redo = tt;
-      past = λ _. refl;
-      future = tt;
-    }
+-- the nodes of a page, from which an editor can begin
+pub record IsPage (page : Arena) : Type 0 where
+  pub forest : IsForest page.trees page.next
+  pub capped : page.next ≤ page.cap
 
-pub session_tracked : (page : Arena) (e : Editing) → IsArena page → IsOfSession page e → IsTracked page.trees page.next page.cap e
-session_tracked page e law s =
+pub arena_page : (page : Arena) → IsArena page → IsPage page
+arena_page page law = record { forest = arena_forest page law; capped = law.capped }
+
+pub tracked_first : (page : Arena) → IsPage page → HasNoLoose page → (depth : ℕ) → 0 < depth → IsTracked page.trees page.next page.cap (new_editing page depth)
+unfolding first_state
+tracked_first page is loose depth some = record {
+  valid = record {
+    forest = is.forest;
+    placed = record { selection = tt; scratch = tt; marks = All-nil (λ m. IsPlacedPair page.trees m.1) };
+    started = omega arith;
+    settings = unset_length;
+  };
+  alone = alone_first page.trees page.next is.forest loose;
+  low = omega arith;
+  capped = refl;
+  depth = some;
+  joinable = λ on. absurd (true≢false (sym on));
+  undo = tt;
+  redo = tt;
+  past = λ _. refl;
+  future = tt;
+  within = is.capped;
+  middle = page.next;
+  back = omega arith;
+  on = omega arith;
+}
+
+pub calls_tracked : (page : Arena) (e : Editing) → IsPage page → IsOfCalls page e → IsTracked page.trees page.next page.cap e
+calls_tracked page e is s =
     subst (λ (w : Editing). IsTracked page.trees page.next page.cap w) s.is
-    (keeps_lines page.trees page.next page.cap s.denied (new_editing page s.depth) s.lines (tracked_first page law s.loose s.depth s.some_depth))
+    (keeps_calls page.trees page.next page.cap s.calls (new_editing page s.depth) (tracked_first page is s.loose s.depth s.some_depth))
