@@ -55,7 +55,6 @@ export class Composer {
 
   fields = new Fields(() => this.#keeper.keepSoon(), () => this.region.focus());
 
-  /** @type {Region} */
   #region;
 
   #formatting = new Formatting(this);
@@ -80,7 +79,9 @@ export class Composer {
   constructor(engine, drafts, draft) {
     this.engine = engine;
     this.#keeper = new Keeper(this, drafts);
-    this.#region = this.#start(draft ?? NEW_DRAFT);
+    this.#region = new Region(engine, part("message"), { ...this.choices, html: NEW_MESSAGE });
+    this.#listen();
+    this.#show(draft ?? NEW_DRAFT);
     startLinks(this);
     this.panel = new PicturePanel(this);
     startPreview(this);
@@ -102,46 +103,44 @@ export class Composer {
    * @param {Draft | null} draft
    */
   open(draft) {
-    this.#region.close();
-    this.#region = this.#start(draft ?? NEW_DRAFT);
+    this.#show(draft ?? NEW_DRAFT);
     (draft ? this.region : part("to")).focus();
   }
 
   /**
-   * The region with a draft in it, or with a new one if that can't be opened.
+   * Shows a draft, or a new one if it can't be opened.
    * @param {Draft} draft
-   * @returns {Region}
    */
-  #start(draft) {
-    const { html } = draft;
+  #show(draft) {
+    const region = this.#region;
     try {
-      this.#region = new Region(this.engine, part("message"), { ...this.choices, html });
+      region.setHtml(draft.html, { history: "reset" });
     } catch (error) {
-      if (!(error instanceof HeditError) || html === NEW_MESSAGE) {
+      if (!(error instanceof HeditError) || draft === NEW_DRAFT) {
         throw error;
       }
       this.#keeper.setAside();
-      return this.#start(NEW_DRAFT);
+      this.#show(NEW_DRAFT);
+      return;
     }
-    this.#listen(this.#region);
+    region.select({ label: region.editor.labelAt([0, 0]), offset: 0 });
     this.fields.head = draft;
     this.#keeper.begin();
     this.#count.show();
     this.#findBar.refresh();
     this.#formatting.refresh();
     this.#source.show();
-    return this.#region;
   }
 
-  /** @param {Region} region */
-  #listen(region) {
+  #listen() {
+    const region = this.#region;
     region.addEventListener("statechange", () => this.#formatting.refreshSoon());
     region.addEventListener("change", () => this.#changed());
     region.addEventListener("input", () => this.#keeper.keepSoon());
     region.addEventListener("error", (event) => {
       event.preventDefault();
       if (region.status === "stopped") {
-        this.#offerToGoOn(region);
+        this.#offerToGoOn();
       } else {
         this.say(`That wasn’t done: ${event.message}`);
       }
@@ -150,7 +149,6 @@ export class Composer {
       event.preventDefault();
       this.say("That isn’t possible here");
     });
-    region.select({ label: region.editor.labelAt([0, 0]), offset: 0 });
   }
 
   #changed() {
@@ -161,10 +159,9 @@ export class Composer {
     this.#findBar.refreshSoon();
   }
 
-  /** @param {Region} region */
-  #offerToGoOn(region) {
+  #offerToGoOn() {
     const words = "The engine has stopped. What you wrote is safe; what was done can’t be undone any more.";
-    this.notices.show("stopped", words, { "Go on": () => region.recover() });
+    this.notices.show("stopped", words, { "Go on": () => this.#region.recover() });
   }
 
   /**
@@ -209,6 +206,24 @@ export class Composer {
     }
   }
 
+  /**
+   * Shows a sheet. Once it closes, what was selected in the message is selected again: Firefox puts the
+   * caret to its start where the focus comes back.
+   * @param {HTMLDialogElement} sheet
+   */
+  showSheet(sheet) {
+    const region = this.#region;
+    const { editor } = region;
+    const selection = region.selection();
+    const close = () => {
+      if (selection && editor === region.editor && document.activeElement === region.element) {
+        region.select(selection.anchor, selection.focus);
+      }
+    };
+    sheet.showModal();
+    sheet.addEventListener("close", close, { once: true });
+  }
+
   /** @param {string} words */
   say(words) {
     part("said").textContent = words;
@@ -221,7 +236,7 @@ export class Composer {
         control.closest(".bar") !== null || target.closest("#message, #toolbar, #find") !== null,
     );
     const sheet = part("shortcuts");
-    part("help").addEventListener("click", () => sheet.showModal());
+    part("help").addEventListener("click", () => this.showSheet(sheet));
     shortcuts.fill(part("shortcut-list"));
   }
 

@@ -10,7 +10,7 @@ const [KEY, ASIDE] = ["hedit-draft", "hedit-unreadable"];
 const OWN = "hedit-own-draft";
 
 /** How long a window that is loaded again waits until it has left its draft, in milliseconds. */
-const PATIENCE = 1000;
+const PATIENCE = 3000;
 
 /**
  * What is kept: `html` is the message's, as the engine prints it, and `time` when that was.
@@ -78,6 +78,16 @@ export class Drafts {
 
   /** Lets another window write the draft. */
   #release = () => {};
+
+  constructor() {
+    // At once, and not when the page is gone: it may be loaded again.
+    window.addEventListener("pagehide", () => this.#release());
+    window.addEventListener("pageshow", ({ persisted }) => {
+      if (persisted) {
+        this.#holdAgain();
+      }
+    });
+  }
 
   /**
    * Takes the draft that this window wrote before it was loaded again, or else the newest one that no
@@ -182,6 +192,13 @@ export class Drafts {
       if (!store(`${ASIDE}:${id}`, text)) {
         store(`${KEY}:${id}`, text);
       }
+    }
+  }
+
+  /** Goes on with the draft as the page is shown again, or with a copy if another window has it. */
+  async #holdAgain() {
+    if (!(await this.#hold(this.#id))) {
+      await this.begin();
     }
   }
 

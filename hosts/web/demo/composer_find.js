@@ -1,21 +1,20 @@
 /** The composer's bar to find and replace texts of the message. */
-import { matchesOf } from "./composer_matches.js";
 import { gathered, highlight, part } from "./composer_page.js";
 import { setEnabled, setPressed } from "./composer_toolbar.js";
 
 /** @typedef {import("./composer.js").Composer} Composer */
+/** @typedef {import("../src/hedit.js").Selection} Selection */
+
+/**
+ * A place of the message where the text is, and its range in the page.
+ * @typedef {{ selection: Selection, range: Range }} Match
+ */
 
 /** How long after a change the matches are found anew, in milliseconds. */
 const PAUSE = 100;
 
 /** How far a match stays from the edges of what is shown, in pixels. */
 const MARGIN = 60;
-
-/** @param {Range} range */
-function select({ startContainer, startOffset, endContainer, endOffset }) {
-  const selection = /** @type {Selection} */ (document.getSelection());
-  selection.setBaseAndExtent(startContainer, startOffset, endContainer, endOffset);
-}
 
 /** @param {Range} range */
 function reveal(range) {
@@ -26,15 +25,17 @@ function reveal(range) {
   }
 }
 
+/** @param {Range} range */
+function isLocked({ startContainer }) {
+  return startContainer.parentElement?.closest('[contenteditable="false"]') !== null;
+}
+
 /** The bar. Its matches follow what is written. */
 export class FindBar {
   #composer;
 
-  /** @type {Range[]} */
+  /** @type {Match[]} */
   #matches = [];
-
-  /** What was selected in the message. */
-  #caret = new Range();
 
   /** Which match is the one that is shown, and replaced. */
   #at = 0;
@@ -64,10 +65,17 @@ export class FindBar {
     }
   }
 
+  get #text() {
+    return part("find-text").value;
+  }
+
+  get #options() {
+    return { matchCase: part("find-case").getAttribute("aria-pressed") === "true" };
+  }
+
   #open() {
     const field = part("find-text");
-    this.#takeCaret();
-    const selected = String(this.#caret);
+    const selected = this.#composer.region.editor.selectionText();
     part("find").hidden = false;
     if (selected && !selected.includes("\n")) {
       field.value = selected;
@@ -79,40 +87,52 @@ export class FindBar {
 
   /** Goes back to the message, where the match is selected that was shown. */
   #close() {
-    const match = this.#matches[this.#at];
+    const match = this.#matches.at(this.#at);
+    const { region } = this.#composer;
     part("find").hidden = true;
     this.#matches = [];
     this.#show();
-    this.#composer.region.focus();
+    region.focus();
     if (match) {
-      select(match);
+      region.select(match.selection.anchor, match.selection.focus);
     }
   }
 
-  /** Finds what stands in the field: the first match is one behind the caret. */
+  /** Finds what stands in the field: the match that is shown is the first one behind the caret. */
   #search() {
     this.#find();
-    const { startContainer, startOffset } = this.#caret;
-    const isBehind = (/** @type {Range} */ match) => match.comparePoint(startContainer, startOffset) <= 0;
+    const caret = this.#caret();
+    const isBehind = (/** @type {Match} */ { range }) =>
+      caret === null || range.compareBoundaryPoints(Range.START_TO_START, caret) >= 0;
     this.#at = Math.max(0, this.#matches.findIndex(isBehind));
     this.#show();
   }
 
   #find() {
-    const isCaseMatched = part("find-case").getAttribute("aria-pressed") === "true";
-    this.#matches = matchesOf(part("message"), part("find-text").value, isCaseMatched);
+    const found = this.#composer.region.find(this.#text, this.#options);
+    const matches = found.map((selection) => ({ selection, range: this.#rangeOf(selection) }));
+    this.#matches = matches.filter(({ range }) => !isLocked(range));
     this.#at = Math.min(this.#at, Math.max(0, this.#matches.length - 1));
   }
 
-  /** Remembers what is selected in the message, before a field has the focus. */
-  #takeCaret() {
-    const selection = document.getSelection();
-    if (selection?.rangeCount && part("message").contains(selection.anchorNode)) {
-      this.#caret = selection.getRangeAt(0).cloneRange();
-    } else {
-      this.#caret.selectNodeContents(part("message"));
-      this.#caret.collapse(true);
+  /** @param {Selection} selection */
+  #rangeOf({ anchor, focus }) {
+    const [from, to] = [anchor, focus].map((point) => this.#composer.region.placeOf(point));
+    const range = new Range();
+    range.setStart(from.node, from.offset);
+    range.setEnd(to.node, to.offset);
+    return range;
+  }
+
+  /** Where the region's caret is, or begins what it has selected, in the order of the page. */
+  #caret() {
+    const selection = this.#composer.region.selection();
+    if (!selection) {
+      return null;
     }
+    const { anchor, focus } = selection;
+    const [first, other] = [anchor, focus].map((point) => this.#rangeOf({ anchor: point, focus: point }));
+    return first.compareBoundaryPoints(Range.START_TO_START, other) <= 0 ? first : other;
   }
 
   /** @param {number} step */
@@ -123,60 +143,43 @@ export class FindBar {
   }
 
   #turnCase() {
-    const toggle = part("find-case");
-    setPressed(toggle, toggle.getAttribute("aria-pressed") !== "true");
+    setPressed(part("find-case"), !this.#options.matchCase);
     this.#search();
   }
 
   #show() {
-    const match = this.#matches[this.#at];
-    const { length } = this.#matches;
-    const isAsked = part("find-text").value !== "" && !part("find").hidden;
-    highlight("found", this.#matches.filter((each) => each !== match));
-    highlight("found-now", match ? [match] : []);
-    part("find-count").value = !isAsked ? "" : match ? `${this.#at + 1} of ${length}` : "Not found";
+    const match = this.#matches.at(this.#at);
+    const others = this.#matches.filter((each) => each !== match);
+    const isAsked = this.#text !== "" && !part("find").hidden;
+    const words = match ? `${this.#at + 1} of ${this.#matches.length}` : "Not found";
+    highlight("found", others.map(({ range }) => range));
+    highlight("found-now", match ? [match.range] : []);
+    part("find-count").value = isAsked ? words : "";
     for (const id of ["find-next", "find-previous", "replace", "replace-all"]) {
       setEnabled(part(id), match !== undefined);
     }
     if (match) {
-      reveal(match);
+      reveal(match.range);
     }
   }
 
   /** Replaces the match that is shown, and goes on to the next one behind it. */
   #replace() {
-    const match = this.#matches[this.#at];
+    const match = this.#matches.at(this.#at);
     if (match) {
-      this.#exchange([match]);
+      this.#composer.try((region) => region.replace(match.selection, part("replace-text").value));
       this.#search();
     }
   }
 
   /** Replaces all matches, as one step of undo. */
   #replaceAll() {
-    const { length } = this.#matches;
-    if (length > 0) {
-      this.#exchange([...this.#matches].reverse());
-      this.#composer.say(length === 1 ? "Replaced one" : `Replaced ${length}`);
-      this.refresh();
-    }
-  }
-
-  /** @param {Range[]} matches those to be replaced, from the last one on */
-  #exchange(matches) {
-    const text = part("replace-text").value;
-    const focused = /** @type {HTMLElement} */ (document.activeElement);
-    this.#composer.region.focus();
-    this.#composer.try((region) =>
-      region.step(() =>
-        matches.every((match) => {
-          select(match);
-          return text === "" ? region.exec("delete") : region.exec("insertText", text);
-        }),
-      ),
-    );
-    this.#takeCaret();
-    focused.focus();
+    this.#composer.try((region) => {
+      const count = region.replaceAll(this.#text, part("replace-text").value, this.#options);
+      this.#composer.say(count === 1 ? "Replaced one" : `Replaced ${count}`);
+      return count > 0;
+    });
+    this.refresh();
   }
 
   /** @param {KeyboardEvent} event */

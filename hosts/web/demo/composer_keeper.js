@@ -84,7 +84,7 @@ export class Keeper {
       }
     });
     const question = part("discard-question");
-    part("discard").addEventListener("click", () => question.showModal());
+    part("discard").addEventListener("click", () => composer.showSheet(question));
     question.addEventListener("close", () => {
       if (question.returnValue === "discard") {
         this.#drafts.drop();

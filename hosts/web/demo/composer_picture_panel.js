@@ -6,6 +6,11 @@ import { onPopup } from "./composer_toolbar.js";
 
 /** @typedef {import("./composer.js").Composer} Composer */
 
+/** The mark of where the pictures are to be. */
+const PLACE = "pictures";
+
+const NOT_KEPT = "This browser doesn’t keep the picture with the draft: save the draft";
+
 const REFUSED_ADDRESS =
   "A picture has an address that begins with https://, or one of data with a PNG, JPEG, GIF or WebP in it.";
 
@@ -34,9 +39,19 @@ export class PicturePanel {
       panel.hidePopover();
       this.insert([...file.files]);
     });
-    const message = part("message");
-    message.addEventListener("paste", (/** @type {ClipboardEvent} */ event) => this.#paste(event));
-    message.addEventListener("drop", (/** @type {DragEvent} */ event) => this.#drop(event));
+    // Before the region is asked.
+    part("paper").addEventListener(
+      "paste",
+      (/** @type {ClipboardEvent} */ event) => this.#paste(event),
+      true,
+    );
+    composer.region.addEventListener("files", (event) => {
+      event.preventDefault();
+      if (event.at) {
+        composer.region.select(event.at);
+      }
+      this.insert(event.files);
+    });
     this.#startDrops();
   }
 
@@ -46,11 +61,20 @@ export class PicturePanel {
    */
   async insert(files) {
     const composer = this.#composer;
+    const { region } = composer;
+    const { editor } = region;
+    region.mark(PLACE);
     composer.say(files.length === 1 ? "Reading the picture" : `Reading ${files.length} files`);
     const refused = [];
     for (const file of files) {
       try {
-        await this.#insertFile(file);
+        const picture = await this.#read(file);
+        if (editor === region.editor) {
+          this.#insertPicture(picture.address);
+        }
+        if (!picture.isKept) {
+          throw new PictureRefused(NOT_KEPT);
+        }
       } catch (error) {
         if (!(error instanceof PictureRefused)) {
           throw error;
@@ -58,21 +82,34 @@ export class PicturePanel {
         refused.push(error.message);
       }
     }
+    region.unmark(PLACE);
     composer.say(refused.join(". "));
   }
 
   /** @param {File} file */
-  async #insertFile(file) {
+  async #read(file) {
     const { pictures, region } = this.#composer;
     const picture = await pictureOf(file);
     if (pictures.size(region.html()) + picture.size > MOST_BYTES) {
       throw new PictureRefused(`“${file.name}” isn’t inserted: the mail would be too large to be sent`);
     }
-    const { address, isKept } = await pictures.add(picture);
-    this.#composer.act((to) => to.exec("insertImage", address));
-    if (!isKept) {
-      throw new PictureRefused("This browser doesn’t keep the picture with the draft: save the draft");
-    }
+    return pictures.add(picture);
+  }
+
+  /**
+   * Inserts a picture where the caret was when its file came, whatever was written since.
+   * @param {string} address
+   */
+  #insertPicture(address) {
+    this.#composer.act((region) => {
+      const place = region.marks().find(({ name }) => name === PLACE);
+      if (place) {
+        region.select(place.anchor, place.focus);
+      }
+      const isDone = region.exec("insertImage", address);
+      region.mark(PLACE);
+      return isDone;
+    });
   }
 
   /** @param {string} address */
@@ -87,8 +124,8 @@ export class PicturePanel {
   }
 
   /**
-   * Takes the files of a clipboard that has nothing else to paste. A picture that was copied from a web
-   * page has its HTML too.
+   * Takes the files of a clipboard that has no text. A picture that was copied from a web page has its
+   * HTML too, from which the region would take an address of another server.
    * @param {ClipboardEvent} event
    */
   #paste(event) {
@@ -96,20 +133,7 @@ export class PicturePanel {
     const html = event.clipboardData?.getData("text/html") ?? "";
     if (files.length > 0 && plainText(html) === "") {
       event.preventDefault();
-      this.insert(files);
-    }
-  }
-
-  /** @param {DragEvent} event */
-  #drop(event) {
-    const files = [...(event.dataTransfer?.files ?? [])];
-    if (files.length > 0) {
-      event.preventDefault();
-      const page = /** @type {any} */ (document);
-      const at = page.caretPositionFromPoint?.(event.clientX, event.clientY);
-      if (at) {
-        document.getSelection()?.collapse(at.offsetNode, at.offset);
-      }
+      event.stopPropagation();
       this.insert(files);
     }
   }

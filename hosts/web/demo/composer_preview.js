@@ -31,7 +31,7 @@ export function startPreview(composer) {
     part("preview-head").replaceChildren(...headRows(head));
     const html = withoutLocks(composer.region.html());
     region = new Region(composer.engine, message, { ...composer.choices, html, readOnly: true });
-    sheet.showModal();
+    composer.showSheet(sheet);
   });
   sheet.addEventListener("close", () => {
     region?.close();

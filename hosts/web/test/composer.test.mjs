@@ -191,6 +191,27 @@ for (const { Browser, name: browserName, skip } of TRIED) {
       await composer.writes("<p>Plan</p>");
     });
 
+    it("pastes formats, links and lists, as one step", async () => {
+      const page = await composer.compose("See ");
+      await page.allowClipboard();
+      await page.evaluate(async () => {
+        const html = '<p>the <a href="https://example.org/">plan</a></p><ul><li><b>one</b></li></ul><script>x()</script>';
+        const texts = { "text/html": html, "text/plain": "the plan" };
+        const blobs = Object.entries(texts).map(([type, text]) => [type, new Blob([text], { type })]);
+        await navigator.clipboard.write([new ClipboardItem(Object.fromEntries(blobs))]);
+      });
+      await page.press("Control+V");
+      await composer.writes(
+        '<p>See the <a href="https://example.org/">plan</a></p><ul><li><b>one</b></li></ul>',
+      );
+      await page.press("Control+Z");
+      await composer.writes("<p>See&nbsp;</p>");
+      await page.press("Control+Y");
+      await page.press("Control+Z");
+      await page.press("Control+Shift+V");
+      await page.until(() => document.querySelector("#message > p").textContent === "See the plan");
+    });
+
     it("takes steps back and forth", async () => {
       const page = await composer.compose();
       assert.equal(await composer.disabled("Undo"), "true");

@@ -4,7 +4,7 @@ import { describe } from "node:test";
 import { it } from "./browsers.mjs";
 import { ComposerPage, TRIED } from "./composer_page.mjs";
 
-/** The text that Chromium keeps of a draft, and that isn't one any more. */
+/** A text that was kept of a draft, and that isn't one any more. */
 const BROKEN = '{"to":"","subject":"Plan","html":"<p>Dear Ann,</p><p>call &amp; co';
 
 for (const { Browser, name: browserName, skip } of TRIED) {
@@ -34,7 +34,7 @@ for (const { Browser, name: browserName, skip } of TRIED) {
       await page.click("#subject");
       await page.type("Plan");
       await composer.keeps('"Plan"');
-      await page.reload();
+      await composer.reload();
       await composer.begins("Call Ann");
       assert.equal(await value("#subject"), "Plan");
       await page.click("#discard");
@@ -48,7 +48,7 @@ for (const { Browser, name: browserName, skip } of TRIED) {
       const page = await composer.compose("Call");
       await composer.keeps("Call");
       await page.type(" Ann");
-      await page.reload();
+      await composer.reload();
       await composer.begins("Call Ann");
     });
 
@@ -56,7 +56,7 @@ for (const { Browser, name: browserName, skip } of TRIED) {
       const page = await composer.compose("Call Ann");
       await composer.keeps("Call Ann");
       await page.evaluate(() => sessionStorage.clear());
-      await page.reload();
+      await composer.reload();
       await composer.begins("Call Ann");
     });
 
@@ -104,7 +104,7 @@ for (const { Browser, name: browserName, skip } of TRIED) {
     it("keeps what can't be read as a draft, and offers its text", async () => {
       const page = await composer.compose();
       await page.evaluate((text) => localStorage.setItem("hedit-draft:x", text), BROKEN);
-      await page.reload();
+      await composer.reload();
       await page.until(() => !document.querySelector("#notice").hidden);
       assert.equal(await composer.text("#notice-words"), "A draft couldn’t be opened. Its text is kept.");
       assert.equal(await page.evaluate(() => localStorage.getItem("hedit-unreadable:x")), BROKEN);
@@ -125,7 +125,7 @@ for (const { Browser, name: browserName, skip } of TRIED) {
         localStorage.setItem("hedit-draft:x", JSON.stringify(draft));
         sessionStorage.clear();
       });
-      await page.reload();
+      await composer.reload();
       await page.until(() => !document.querySelector("#notice").hidden);
       await composer.begins("");
       await page.click("#message > p");
@@ -150,7 +150,8 @@ for (const { Browser, name: browserName, skip } of TRIED) {
           }
         }
       });
-      await page.type(" Ann");
+      // What is left has no room for this.
+      await page.type(` Ann${" and Bob".repeat(8)}`);
       await page.until(() => !document.querySelector("#notice").hidden);
       assert.match(await composer.text("#notice-words"), /no room for the draft/);
       assert.equal(await composer.text("#saved"), "Not kept");
@@ -160,7 +161,7 @@ for (const { Browser, name: browserName, skip } of TRIED) {
       });
       await page.type("!");
       await page.until(() => document.querySelector("#notice").hidden);
-      await composer.keeps("Call Ann!");
+      await composer.keeps("and Bob!");
     });
   });
 }

@@ -70,6 +70,15 @@ export class DemoPage {
     return this.#browser.open(this.#address, { beside: this.#page });
   }
 
+  /** Loads the page again, and waits until it is another one. */
+  async reload() {
+    await this.#page.evaluate(() => {
+      window.isLeft = true;
+    });
+    await this.#page.reload();
+    await this.#page.until(() => !window.isLeft && document.readyState === "complete");
+  }
+
   takeComplaints() {
     return this.#browser.complaints.splice(0);
   }

@@ -77,14 +77,16 @@ for (const { Browser, name: browserName, skip } of TRIED) {
       assert.deepEqual(await sizes(), ["40x20", "1600x50"], "the larger one is made smaller");
       assert.equal(await composer.focused(), "Message");
       await composer.keeps("cid:");
-      await page.reload();
+      await composer.reload();
       await page.until(() => document.querySelectorAll("#message img[src^='blob:']").length === 2);
       assert.deepEqual(await sizes(), ["40x20", "1600x50"]);
       await page.click("#preview-open");
       assert.deepEqual(await sizes("#preview-message"), ["40x20", "1600x50"]);
     });
 
-    it("are pasted, and taken back in a step", async () => {
+    const noPictures = browserName === "Firefox" && "Firefox without a screen copies no pictures";
+
+    it("are pasted, and taken back in a step", { skip: noPictures }, async () => {
       const page = await composer.compose("See");
       await copyPicture(await png(30, 10));
       await page.click("#message > p");

@@ -39,7 +39,7 @@ for (const { Browser, name: browserName, skip } of TRIED) {
       await writeAnother("Shopping\nbread");
       await saves("<p>Shopping</p><p>bread</p>");
       assert.deepEqual(await names(), ["Shopping", "Welcome"]);
-      await page.reload();
+      await notes.reload();
       await page.until(() => document.querySelector("#note")?.textContent === "Shoppingbread");
       await page.click("#list li:last-child button");
       await page.until(() => document.querySelector("#note h2")?.textContent === "Welcome");
@@ -51,7 +51,7 @@ for (const { Browser, name: browserName, skip } of TRIED) {
       await writeAnother("Shopping");
       await saves("<p>Shopping</p>");
       await page.type(" today");
-      await page.reload();
+      await notes.reload();
       await page.until(() => document.querySelector("#note")?.textContent === "Shopping today");
     });
 
