@@ -82,6 +82,11 @@ export class RegionPage {
     assert.equal(await this.agrees(), html);
   }
 
+  /** Waits until a paste that takes long is whole. */
+  async idle() {
+    await this.#page.until(() => window.region.status !== "busy");
+  }
+
   /** Opens a region, with the focus at the start. */
   async open(html, choices = {}) {
     // WebKit stays where it was scrolled to, also below the end of a shorter page.
