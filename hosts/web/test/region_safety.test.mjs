@@ -221,7 +221,7 @@ for (const { Browser, name, skip } of BROWSERS) {
       assert.equal(color, "rgb(255, 0, 0)");
       // Chromium says so of the styles in a document that is parsed and shows nothing.
       assert.deepEqual(ran.filter((each) => each !== "style-src-attr"), []);
-      const others = region.takeComplaints().filter((each) => !/inline style.*clean\.js/s.test(each));
+      const others = region.takeComplaints().filter((each) => !/inline style.*clean_nodes\.js/s.test(each));
       assert.deepEqual(others, []);
     });
   });
