@@ -84,11 +84,11 @@ export function makes(engine: Engine, element: HTMLElement): Region {
   });
   region.addEventListener("refused", (event) => {
     same<typeof event, RefusedEvent>(true);
-    same<typeof event.reason, "denied" | "impossible" | "unknown">(true);
+    same<typeof event.reason, "denied" | "impossible" | "lossy" | "unknown">(true);
   });
   region.addEventListener("error", ({ message }) => console.log(message), { once: true });
   region.addEventListener("other", (event: Event) => console.log(event));
-  same<typeof region.status, "ready" | "contested" | "stopped" | "closed">(true);
+  same<typeof region.status, "ready" | "busy" | "contested" | "stopped" | "closed">(true);
   same<keyof Habits, keyof typeof HABITS>(true);
   const sum: number = region.step(() => 1);
   region.readOnly = Region.of(element) === region && Region.isSupported().ok && sum > 0;
