@@ -1,5 +1,5 @@
 /** Scrolls to where a region is edited, for region.js. */
-import { isElement, windowOf } from "./region_nodes.js";
+import { isCharacters, isElement, windowOf } from "./region_nodes.js";
 
 /**
  * Scrolls an element so that what stands between two heights shows, if it can be scrolled, and says
@@ -26,13 +26,14 @@ function scrollTo(element, top, bottom) {
 
 /**
  * Where a place is in the window. One that has no rectangle of its own has that of the node behind it,
- * or else of its own node.
+ * or else of its own node. One past the end of its node is at the end: WebKit's selection can be there.
  * @param {Node} node
  * @param {number} offset
  */
 export function rectAt(node, offset) {
   const range = /** @type {Document} */ (node.ownerDocument).createRange();
-  range.setStart(node, offset);
+  const length = isCharacters(node) ? node.data.length : node.childNodes.length;
+  range.setStart(node, Math.min(offset, length));
   const child = node.childNodes[offset] ?? node;
   const element = isElement(child) ? child : /** @type {Element} */ (child.parentElement);
   return range.getClientRects()[0] ?? element.getBoundingClientRect();
