@@ -65,7 +65,7 @@ class Documents(unittest.TestCase):
     def test_each_other_block_has_a_test(self) -> None:
         parts = [code for page in PAGES for code in blocks(page, "python")]
         parts = [code for code in parts if not code.startswith("from hedit import")]
-        self.assertEqual(len(parts), 7)
+        self.assertEqual(len(parts), 8)
 
     def test_the_example_prints_what_it_says(self) -> None:
         (code,) = blocks("README.md", "python")
@@ -111,6 +111,12 @@ class Sync(unittest.TestCase):
         self.assertIn("<i>", self.editor.html())
         self.editor.undo()
         self.assertEqual(self.editor.html(), before)
+
+    def test_ranges_are_formatted_within_a_step(self) -> None:
+        with Editor("<p contenteditable>Call Ann</p>") as editor:
+            run(one_with(self.page, '"foreColor"'), editor=editor)
+            self.assertIn('color="#cc0000"', editor.html())
+            self.assertEqual(editor.counts().undo, 1)
 
     def test_a_replacement_continues_typing(self) -> None:
         with Editor("<p contenteditable>Call Ann</p>") as editor:
